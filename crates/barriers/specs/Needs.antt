@@ -1,0 +1,37 @@
+-- How much of a list is enough.
+use Rattle.std.specs.Prelude.{◌≡◌, ◌<◌, ◌≤◌, ◌⊎◌, ℕ, Bool, true, false, List, [], ◌++◌, Option, Some, None, count_by}
+use Rattle.barriers.specs.declared.demand.Need.{Need}
+use Rattle.barriers.specs.declared.demand.Need.TheVariants.{Never, Reach}
+
+abbrev pub need_of : Need → Option ℕ
+need_of Never = None
+need_of (Reach r) = Some r
+
+-- a need of nothing, or of a number below the bound
+abbrev pub IsBelow : Option ℕ → ℕ → Type 0
+IsBelow None bound = Unit {0}
+IsBelow (Some r) bound = r < bound
+
+-- where nothing is ever enough, no item counts
+abbrev pub CountsNone : {T : Type 0} → Option ℕ → (T → Bool) → Type 0
+CountsNone None counted = (x : _) → counted x ≡ false
+CountsNone (Some r) counted = Unit {0}
+
+-- this many counting items are enough
+abbrev pub Reaches : Option ℕ → ℕ → Type 0
+Reaches None n = ⊥
+Reaches (Some r) n = r ≤ n
+
+-- the list has enough counting items
+abbrev pub IsEnough : {T : Type 0} → Option ℕ → (T → Bool) → List T → Type 0
+IsEnough needed counted xs = Reaches needed (count_by counted xs)
+
+-- a front of the list that is all of it, or is enough
+abbrev pub IsOutcome : {T : Type 0} → Option ℕ → (T → Bool) → List T → List T → Type 0
+IsOutcome needed counted xs front = (rest : List _) × (xs ≡ front ++ rest) × ((rest ≡ []) ⊎ IsEnough needed counted front)
+
+abbrev pub every_item : {T : Type 0} → T → Bool
+every_item x = true
+
+abbrev pub no_item : {T : Type 0} → T → Bool
+no_item x = false

@@ -1,0 +1,96 @@
+//! What a collector is, and what its laws give.
+ghost use Rattle.std.specs.Prelude.{◌≡◌, List, ◌++◌, All, IfOk, OnOk, fold, map, ⊤};
+ghost use Rattle.collectors.specs.Laws.{CollectorLaws};
+
+use spliterator::{NoMemory, Value};
+
+/// A mutable reduction: containers that take items in, are combined from left to right, and are finished to a result.
+///
+/// Contracts see a container by its content, a plain value. The content of a container that the collector made is the left fold of
+/// `add` from `empty` over the contents of its items.
+///
+/// After a refusal the container is only to be dropped.
+pub trait Collector {
+    type Item: Value;
+
+    type Acc: Drop;
+
+    type Out: Drop;
+
+    // The collectors whose functions may be called. By default all.
+    ghost ready: { Self → Type 0 } = { λ _. ⊤ };
+
+    // What a contract sees of a container.
+    ghost Content: { Type 0 };
+
+    ghost content: { Self → Self.Acc → Content };
+
+    // The content of a new container, of one that takes an item in, and of two that are combined.
+    ghost empty: { Self → Content };
+
+    ghost add: { Self → Content → Self.Item.Content → Content };
+
+    ghost merge: { Self → Content → Content → Content };
+
+    // The results on a list of items.
+    ghost gives: { Self → List Self.Item.Content → Self.Out → Type 0 };
+
+    /// A new container.
+    fn supply(&self) -> Result<Self::Acc, NoMemory>
+        requires { ready self.now }
+        ensures { IfOk result (λ acc. content self.now acc ≡ empty self.now) };
+
+    /// Takes an item into a container.
+    fn accumulate(&self, acc: &mut Self::Acc, x: &Self::Item) -> Result<(), NoMemory>
+        requires { ready self.now }
+        ensures { OnOk result (content self.now acc.new ≡ add self.now (content self.now acc.old) (Self.Item.content x.now)) };
+
+    /// Takes the container of what follows into the container of what comes first.
+    fn combine(&self, left: &mut Self::Acc, right: Self::Acc) -> Result<(), NoMemory>
+        requires { ready self.now }
+        ensures { OnOk result (content self.now left.new ≡ merge self.now (content self.now left.old) (content self.now right)) };
+
+    /// The result.
+    fn finish(&self, acc: Self::Acc) -> Result<Self::Out, NoMemory>
+        requires { ready self.now }
+        ensures { (l : List Self.Item.Content) → All Self.Item.is_value l → content self.now acc ≡ fold (add self.now) (empty self.now) l → IfOk result (gives self.now l) };
+
+    ghost laws: { (c : Self) → CollectorLaws Self.Item.is_value (empty c) (add c) (merge c) };
+}
+
+/// Takes the items of a slice into a new container, one after another.
+pub fn fold_items<C: Collector>(collector: &C, items: &[C::Item]) -> Result<C::Acc, NoMemory>
+    requires { C.ready collector.now }
+    ensures { IfOk result (λ acc. C.content collector.now acc ≡ fold (C.add collector.now) (C.empty collector.now) (map C.Item.content items.now)) }
+{
+    let mut acc = collector.supply()?;
+    for x in items {
+        collector.accumulate(&mut acc, x)?;
+    }
+    Ok(acc)
+}
+
+/// Combines the containers of two lists of values: the outcome is the container of the one list followed by the other.
+pub fn combine_containers<C: Collector>(
+    collector: &C,
+    left: &mut C::Acc,
+    right: C::Acc,
+) -> Result<(), NoMemory>
+    requires { C.ready collector.now }
+    ensures { (l : List C.Item.Content) (r : List C.Item.Content) → All C.Item.is_value l → All C.Item.is_value r → C.content collector.now left.old ≡ fold (C.add collector.now) (C.empty collector.now) l → C.content collector.now right ≡ fold (C.add collector.now) (C.empty collector.now) r → OnOk result (C.content collector.now left.new ≡ fold (C.add collector.now) (C.empty collector.now) (l ++ r)) }
+{
+    collector.combine(left, right)
+}
+
+/// The result on the items of a slice.
+pub fn collect<C: Collector>(collector: &C, items: &[C::Item]) -> Result<C::Out, NoMemory>
+    requires { C.ready collector.now }
+    ensures { IfOk result (C.gives collector.now (map C.Item.content items.now)) }
+{
+    let mut acc = collector.supply()?;
+    for x in items {
+        let _value = x.is_value();
+        collector.accumulate(&mut acc, x)?;
+    }
+    collector.finish(acc)
+}

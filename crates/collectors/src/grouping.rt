@@ -1,0 +1,99 @@
+//! Grouping.
+ghost use Rattle.std.specs.Prelude.{◌≡◌, List, []};
+ghost use Rattle.collectors.specs.Grouping.{group_add, group_merge, contents, IsGrouping};
+ghost use Rattle.collectors.specs.GroupingLaws.{grouping_laws};
+
+use crate::Collector;
+use indexmap::IndexMap;
+use spliterator::NoMemory;
+use stages::Mapping;
+use std::alloc::Global;
+use std::hash::Hash;
+
+/// For each key the downstream result over the items with that key. The keys stand in the order of their first item.
+#[derive(Drop)]
+pub struct GroupingBy<K, D> {
+    alloc: Global,
+    key: K,
+    downstream: D,
+}
+
+impl<K, D> GroupingBy<K, D> {
+    pub fn new(alloc: Global, key: K, downstream: D) -> GroupingBy<K, D>
+        ensures key { result.key ≡ key }
+        ensures downstream { result.downstream ≡ downstream }
+    {
+        GroupingBy {
+            alloc,
+            key,
+            downstream,
+        }
+    }
+}
+
+impl<D: Collector, K: Mapping<D::Item>> Collector for GroupingBy<K, D>
+where
+    K::Out: Hash + Drop,
+{
+    type Item = D::Item;
+
+    type Acc = IndexMap<K::Out, D::Acc>;
+
+    type Out = IndexMap<K::Out, D::Out>;
+
+    ghost ready = { λ c. K.ready c.key × D.ready c.downstream };
+
+    ghost Content = { List (K.Out.Content × D.Content) };
+
+    ghost content = { λ c m. contents K.Out.content (D.content c.downstream) m.entries };
+
+    ghost empty = { λ _. [] };
+
+    ghost add = { λ c. group_add K.Out.same (K.image c.key) (D.empty c.downstream) (D.add c.downstream) };
+
+    ghost merge = { λ c. group_merge K.Out.same (D.merge c.downstream) };
+
+    ghost gives = { λ c l m. IsGrouping K.Out.content K.Out.same (K.image c.key) (D.gives c.downstream) l m.entries };
+
+    ghost laws = { λ c. grouping_laws K.Out.same K.Out.same_decides (K.image c.key) D.Item.is_value (D.empty c.downstream) (D.add c.downstream) (D.merge c.downstream) (D.laws c.downstream) };
+
+    fn supply(&self) -> Result<IndexMap<K::Out, D::Acc>, NoMemory> {
+        Ok(IndexMap::new(self.alloc))
+    }
+
+    fn accumulate(&self, acc: &mut IndexMap<K::Out, D::Acc>, x: &D::Item) -> Result<(), NoMemory> {
+        let key = self.key.image(x)?;
+        if let Some(kept) = acc.get_mut(&key) {
+            return self.downstream.accumulate(kept, x);
+        }
+        let mut kept = self.downstream.supply()?;
+        self.downstream.accumulate(&mut kept, x)?;
+        acc.insert(key, kept)?;
+        Ok(())
+    }
+
+    fn combine(
+        &self,
+        left: &mut IndexMap<K::Out, D::Acc>,
+        right: IndexMap<K::Out, D::Acc>,
+    ) -> Result<(), NoMemory> {
+        for (key, kept) in right {
+            match left.get_mut(&key) {
+                Some(earlier) => self.downstream.combine(earlier, kept)?,
+                None => {
+                    left.insert(key, kept)?;
+                }
+            }
+        }
+        Ok(())
+    }
+
+    fn finish(&self, acc: IndexMap<K::Out, D::Acc>) -> Result<IndexMap<K::Out, D::Out>, NoMemory> {
+        let mut results = IndexMap::new(self.alloc);
+        for (key, kept) in acc {
+            let result = self.downstream.finish(kept)?;
+            results.insert(key, result)?;
+        }
+        Ok(results)
+    }
+}

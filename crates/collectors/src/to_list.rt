@@ -1,0 +1,68 @@
+//! Listing.
+ghost use Rattle.std.specs.Prelude.{◌≡◌, List, [], ◌++◌, map};
+ghost use Rattle.spliterator.specs.Clones.{ClonesAlike, TestsClonesAlike};
+ghost use Rattle.collectors.specs.NestedLaws.{push, list_laws};
+
+use crate::Collector;
+use spliterator::{NoMemory, Value};
+use std::alloc::Global;
+use std::marker::PhantomData;
+
+/// The items, in their order. It keeps clones of them.
+#[derive(Drop)]
+pub struct ToList<T: Value + Clone> {
+    alloc: Global,
+    items: PhantomData<T>,
+    ghost clones_alike: { TestsClonesAlike T.same T.is_clone T.content },
+}
+
+impl<T: Value + Clone> ToList<T> {
+    pub fn new(alloc: Global) -> ToList<T>
+        requires { ClonesAlike T.is_clone T.content }
+    {
+        ToList {
+            alloc,
+            items: PhantomData,
+        }
+    }
+}
+
+impl<T: Value + Clone> Collector for ToList<T> {
+    type Item = T;
+
+    type Acc = Vec<T>;
+
+    type Out = Vec<T>;
+
+    ghost Content = { List T.Content };
+
+    ghost content = { λ _ v. map T.content v.items };
+
+    ghost empty = { λ _. [] };
+
+    ghost add = { λ _. push };
+
+    ghost merge = { λ _ l r. l ++ r };
+
+    ghost gives = { λ _ l v. map T.content v.items ≡ l };
+
+    ghost laws = { λ _. list_laws T.is_value };
+
+    fn supply(&self) -> Result<Vec<T>, NoMemory> {
+        Ok(Vec::new(self.alloc))
+    }
+
+    fn accumulate(&self, acc: &mut Vec<T>, x: &T) -> Result<(), NoMemory> {
+        acc.push(x.clone()?)?;
+        Ok(())
+    }
+
+    fn combine(&self, left: &mut Vec<T>, mut right: Vec<T>) -> Result<(), NoMemory> {
+        left.append(&mut right)?;
+        Ok(())
+    }
+
+    fn finish(&self, acc: Vec<T>) -> Result<Vec<T>, NoMemory> {
+        Ok(acc)
+    }
+}

@@ -1,0 +1,105 @@
+//! Maps that merge the values of equal keys.
+ghost use Rattle.std.specs.Prelude.{◌≡◌, List, [], Some, map};
+ghost use Rattle.stages.specs.Operators.{IsAssociative, TestsAssociative, associative-tested};
+ghost use Rattle.collectors.specs.Grouping.{group_merge, contents, IsGrouping};
+ghost use Rattle.collectors.specs.MapLaws.{map_add, map_laws};
+ghost use Rattle.collectors.specs.Reductions.{reduced};
+
+use crate::Collector;
+use indexmap::IndexMap;
+use spliterator::{NoMemory, Value};
+use stages::{Mapping, Operator};
+use std::alloc::Global;
+use std::hash::Hash;
+use std::marker::PhantomData;
+
+/// For each key the values of its items, merged from left to right. The keys stand in the order of their first item.
+#[derive(Drop)]
+pub struct ToMap<T: Value, K, V: Mapping<T>, M: Operator<V::Out>> {
+    alloc: Global,
+    key: K,
+    value: V,
+    merge: M,
+    items: PhantomData<T>,
+    ghost associative: { TestsAssociative V.Out.same V.Out.is_value (M.join merge) },
+}
+
+impl<T: Value, K, V: Mapping<T>, M: Operator<V::Out>> ToMap<T, K, V, M> {
+    pub fn new(alloc: Global, key: K, value: V, merge: M) -> ToMap<T, K, V, M>
+        requires { IsAssociative V.Out.is_value (M.join merge) }
+        ensures key { result.key ≡ key }
+        ensures value { result.value ≡ value }
+        ensures merge { result.merge ≡ merge }
+    {
+        ToMap {
+            alloc,
+            key,
+            value,
+            merge,
+            items: PhantomData,
+        }
+    }
+}
+
+impl<T: Value, K: Mapping<T>, V: Mapping<T>, M: Operator<V::Out>> Collector for ToMap<T, K, V, M>
+where
+    K::Out: Hash + Drop,
+    V::Out: Drop,
+{
+    type Item = T;
+
+    type Acc = IndexMap<K::Out, V::Out>;
+
+    type Out = IndexMap<K::Out, V::Out>;
+
+    ghost ready = { λ c. K.ready c.key × V.ready c.value × M.ready c.merge };
+
+    ghost Content = { List (K.Out.Content × V.Out.Content) };
+
+    ghost content = { λ c m. contents K.Out.content V.Out.content m.entries };
+
+    ghost empty = { λ _. [] };
+
+    ghost add = { λ c. map_add K.Out.same (K.image c.key) (V.image c.value) (M.join c.merge) };
+
+    ghost merge = { λ c. group_merge K.Out.same (M.join c.merge) };
+
+    ghost gives = { λ c l m. IsGrouping K.Out.content K.Out.same (K.image c.key) (λ s v. Some (V.Out.content v) ≡ reduced (M.join c.merge) (map (V.image c.value) s)) l m.entries };
+
+    ghost laws = { λ c. map_laws K.Out.same K.Out.same_decides (K.image c.key) (V.image c.value) (M.join c.merge) T.is_value V.Out.is_value (V.images_are_values c.value) (M.joins_are_values c.merge) (associative-tested V.Out.same V.Out.same_decides V.Out.is_value (M.join c.merge) c.associative) };
+
+    fn supply(&self) -> Result<IndexMap<K::Out, V::Out>, NoMemory> {
+        Ok(IndexMap::new(self.alloc))
+    }
+
+    fn accumulate(&self, acc: &mut IndexMap<K::Out, V::Out>, x: &T) -> Result<(), NoMemory> {
+        let key = self.key.image(x)?;
+        let value = self.value.image(x)?;
+        if let Some(earlier) = acc.get_mut(&key) {
+            *earlier = self.merge.join(earlier, &value)?;
+            return Ok(());
+        }
+        acc.insert(key, value)?;
+        Ok(())
+    }
+
+    fn combine(
+        &self,
+        left: &mut IndexMap<K::Out, V::Out>,
+        right: IndexMap<K::Out, V::Out>,
+    ) -> Result<(), NoMemory> {
+        for (key, value) in right {
+            match left.get_mut(&key) {
+                Some(earlier) => *earlier = self.merge.join(earlier, &value)?,
+                None => {
+                    left.insert(key, value)?;
+                }
+            }
+        }
+        Ok(())
+    }
+
+    fn finish(&self, acc: IndexMap<K::Out, V::Out>) -> Result<IndexMap<K::Out, V::Out>, NoMemory> {
+        Ok(acc)
+    }
+}
