@@ -12,7 +12,7 @@ use Rattle.leaf_board.specs.Statuses.{Unknown, Skipped, Published}
 use Rattle.leaf_board.specs.Knowledge.{Knowledge, status_of, WasGiven, entry}
 use Rattle.leaf_board.specs.Rule.{cut_word, leaf_word, IsPublished, IsSkipped, Orderly}
 use Rattle.leaf_board.specs.Seats.{Holder}
-use Rattle.leaf_board.specs.Closing.{Outcome, outcome, cut_of, count_in, count_of, In, AreAll, Shows, Closes}
+use Rattle.leaf_board.specs.Closing.{Outcome, outcome, cut_of, count_in, count_of, In, AreAll, Shows, IsRecordOf}
 use Rattle.leaf_board.specs.declared.view.View.{View}
 use Rattle.leaf_board.proofs.Shares.{in_share, distance-within}
 use Rattle.leaf_board.proofs.Steps.{there}
@@ -31,7 +31,7 @@ module _ (c : BoardCase) (s : State Unit View) (o : Orderly c s) (id : ℕ) (v :
   r = outcome s.words c.leaves c.seats
 
   known : (x : Holder) → In seats x → (x.number < c.seats) × (o.know x.number ≡ x.knows)
-  known x is = let e = shows x is in let h = o.housed id v at e.0 (entry x.number x.knows) e.1 in (h.0, h.2)
+  known x is = let e = shows is.0 x is.1 in let h = o.housed id v at e.0 (entry x.number x.knows) e.2 in (h.0, h.2)
 
   -- the seat of a number
   seat_of : (a : ℕ) → a < c.seats → (x : Holder) × In seats x × (o.know a ≡ x.knows)
@@ -57,12 +57,15 @@ module _ (c : BoardCase) (s : State Unit View) (o : Orderly c s) (id : ℕ) (v :
       let sized : length x.knows.leaves ≡ c.leaves = subst (λ (y : Knowledge). length y.leaves ≡ c.leaves) k.1 f.all_leaves in
       omega arith
 
-  pub closes : Closes c seats r
+  pub closes : IsRecordOf c seats r
   closes = record {
     leaves = refl;
-    once = λ x y leaf is_x is_y g h.
-        let kx = known x is_x in let ky = known y is_y in
-        o.sound.once x.number y.number leaf kx.0 ky.0 (subst (λ z. WasGiven z leaf) (sym kx.1) g) (subst (λ z. WasGiven z leaf) (sym ky.1) h);
+    once = λ j k leaf x y is_x is_y g h.
+        let kx = known x (j, is_x) in let ky = known y (k, is_y) in
+        let same = o.sound.once x.number y.number leaf kx.0 ky.0 (subst (λ z. WasGiven z leaf) (sym kx.1) g) (subst (λ z. WasGiven z leaf) (sym ky.1) h) in
+        let at_x = shows j x is_x in let at_y = shows k y is_y in
+        let place = o.apart id v at at_x.0 at_y.0 (entry x.number x.knows) (entry y.number y.knows) at_x.2 at_y.2 same in
+        omega (arith, at_x.1, at_y.1);
     drained = λ x is drained leaf below.
         let k = known x is in
         let w = in_share c leaf (omega arith) below in

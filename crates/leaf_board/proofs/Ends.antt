@@ -7,17 +7,22 @@ use Rattle.atomic_table.proofs.Lists.{at_set}
 use Rattle.leaf_board.specs.Case.{BoardCase, sum_below}
 use Rattle.leaf_board.specs.Statuses.{Unknown, Skipped, Published}
 use Rattle.leaf_board.specs.Knowledge.{blank, status_of, Entry, entry}
-use Rattle.leaf_board.specs.Rule.{given_count, Fits, Sound, Holds, Housed, Orderly, view, single, blanks, nothing, IsOpening}
+use Rattle.leaf_board.specs.Rule.{given_count, Fits, Sound, Holds, Housed, NoneTwice, AreApart, Orderly, view, single, blanks, nothing, IsOpening}
 use Rattle.leaf_board.specs.declared.view.View.{View}
 use Rattle.leaf_board.proofs.Sums.{put, put_here, put_else}
 use Rattle.leaf_board.proofs.Shares.{share_start-least}
-use Rattle.leaf_board.proofs.Frame.{one_entry}
+use Rattle.leaf_board.proofs.Frame.{one_entry, one_alone, apart_put}
 
 -- each of the blank entries
 blank_entry : (c : BoardCase) (P : Entry → Type 0) (number count : ℕ) → ((n : ℕ) → number ≤ n → n < number + count → P (entry n (blank c))) → (j : ℕ) (e : Entry) → get_elem? (blanks c number count) j ≡ some e → P e
 blank_entry c P number zero h j e is = absurd (some-ne-none e (sym is))
 blank_entry c P number (suc count) h zero e is = subst P (some-injective _ _ is) (h number (omega arith) (omega arith))
 blank_entry c P number (suc count) h (suc j) e is = blank_entry c P (suc number) count (λ n low high. h n (omega arith) (omega arith)) j e is
+
+blank_number : (c : BoardCase) (number count j : ℕ) (e : Entry) → get_elem? (blanks c number count) j ≡ some e → e.number ≡ number + j
+blank_number c number zero j e is = absurd (some-ne-none e (sym is))
+blank_number c number (suc count) zero e is = let same : entry number (blank c) ≡ e = some-injective _ _ is in let n : number ≡ e.number = ap (λ (x : Entry). x.number) same in omega arith
+blank_number c number (suc count) (suc j) e is = let r = blank_number c (suc number) count j e is in omega arith
 
 replicate_all : {A : Type 0} (n i : ℕ) (a : A) → get_or (replicate n a) i a ≡ a
 replicate_all zero i a = refl
@@ -75,9 +80,14 @@ opens c words any o = record {
   know = λ _. blank c;
   holder = λ _. 0;
   housed = one;
+  apart = alone;
   sound = blank_sound c words any o;
 }
   where
+    alone : AreApart (view (blanks c 0 c.seats) ∷ [])
+    alone zero v is = subst (λ (x : View). NoneTwice x.entries) (some-injective _ _ is) (λ i j e f at_i at_j same. let a = blank_number c 0 c.seats i e at_i in let b = blank_number c 0 c.seats j f at_j in omega arith)
+    alone (suc at) v is = absurd (some-ne-none v (sym is))
+
     one : Housed c (λ _. blank c) (λ _. 0) (view (blanks c 0 c.seats) ∷ [])
     one zero v is = subst (λ (x : View). Holds c (λ _. blank c) (λ _. 0) 0 x.entries) (some-injective _ _ is) (blank_entry c (λ e. (e.number < c.seats) × (0 ≡ 0) × (blank c ≡ e.knows)) 0 c.seats (λ n _ high. (omega arith, refl, refl)))
     one (suc at) v is = absurd (some-ne-none v (sym is))
@@ -105,6 +115,7 @@ deals c id number count s h at = record {
   know = h.know;
   holder = put h.holder number (length s.views);
   housed = housed;
+  apart = apart;
   sound = h.sound;
 }
   where
@@ -140,6 +151,22 @@ deals c id number count s h at = record {
         (λ (t : (x ≡ length (set s.views id (view (blanks c (suc number) count)))) × (single number (blank c) ≡ v)). subst (λ (w : View). Holds c h.know after x w.entries) t.1 (new x t.0))
         (snoc_at (set s.views id (view (blanks c (suc number) count))) (single number (blank c)) v x is)
 
+    left_apart : NoneTwice (blanks c (suc number) count)
+    left_apart i j e f at_i at_j same = let r = h.apart id (view (blanks c number (suc count))) at (suc i) (suc j) e f at_i at_j same in omega arith
+
+    apart : AreApart (set s.views id (view (blanks c (suc number) count)) ++ single number (blank c) ∷ [])
+    apart x v is =
+        ⊎_elim
+        (λ was. apart_put s.views id (view (blanks c (suc number) count)) left_apart h.apart x v was)
+        (λ (t : (x ≡ length (set s.views id (view (blanks c (suc number) count)))) × (single number (blank c) ≡ v)). subst (λ (w : View). NoneTwice w.entries) t.1 (one_alone (entry number (blank c))))
+        (snoc_at (set s.views id (view (blanks c (suc number) count))) (single number (blank c)) v x is)
+
+-- an entry of two lists, with its place
+append_place : {A : Type 0} (l m : List A) (j : ℕ) (b : A) → get_elem? (l ++ m) j ≡ some b → (get_elem? l j ≡ some b) ⊎ ((i : ℕ) × (j ≡ length l + i) × (get_elem? m i ≡ some b))
+append_place [] m j b e = inr (j, omega arith, e)
+append_place (x ∷ xs) m zero b e = inl e
+append_place (x ∷ xs) m (suc j) b e = ⊎_elim inl (λ t. inr (t.0, omega (arith, t.1), t.2)) (append_place xs m j b e)
+
 -- an entry of two lists
 append_at : {A : Type 0} (l m : List A) (j : ℕ) (b : A) → get_elem? (l ++ m) j ≡ some b → ((i : ℕ) × (get_elem? l i ≡ some b)) ⊎ ((i : ℕ) × (get_elem? m i ≡ some b))
 append_at [] m j b e = inr (j, e)
@@ -151,9 +178,9 @@ front_at [] m i b e = absurd (some-ne-none b (sym e))
 front_at (x ∷ xs) m zero b e = e
 front_at (x ∷ xs) m (suc i) b e = front_at xs m i b e
 
-pub back_at : {A : Type 0} (l m : List A) (i : ℕ) (b : A) → get_elem? m i ≡ some b → (j : ℕ) × (get_elem? (l ++ m) j ≡ some b)
-back_at [] m i b e = (i, e)
-back_at (x ∷ xs) m i b e = let r = back_at xs m i b e in (suc r.0, r.1)
+pub back_at : {A : Type 0} (l m : List A) (i : ℕ) (b : A) → get_elem? m i ≡ some b → get_elem? (l ++ m) (length l + i) ≡ some b
+back_at [] m i b e = subst (λ n. get_elem? m n ≡ some b) (omega arith) e
+back_at (x ∷ xs) m i b e = let next : suc (length xs + i) ≡ suc (length xs) + i = omega arith in subst (λ n. get_elem? (x ∷ xs ++ m) n ≡ some b) next (back_at xs m i b e)
 
 -- two seats are joined, and the second is spent
 pub joins : (c : BoardCase) (id other : ℕ) (v w : View) → Joins (Orderly c) id v other w (view (v.entries ++ w.entries)) nothing
@@ -161,6 +188,7 @@ joins c id other v w s h at apart there = record {
   know = h.know;
   holder = after;
   housed = housed;
+  apart = all_apart;
   sound = h.sound;
 }
   where
@@ -178,6 +206,27 @@ joins c id other v w s h at apart there = record {
 
     theirs : get_elem? s.views other ≡ some w
     theirs = ⊎_elim (λ (t : (other ≡ id) × (both ≡ w)). absurd (apart t.0)) (λ (t : (other ≢ id) × (get_elem? s.views other ≡ some w)). t.1) (at_set s.views id other both w there)
+
+    both_apart : NoneTwice (v.entries ++ w.entries)
+    both_apart i j e f at_i at_j same =
+        ⊎_elim
+        (λ left_i.
+        ⊎_elim
+        (λ left_j. h.apart id v at i j e f left_i left_j same)
+        (λ right_j. absurd (apart (sym (h.housed other w theirs right_j.0 f right_j.2).1 ∙ ap h.holder (sym same) ∙ (h.housed id v at i e left_i).1)))
+        (append_place v.entries w.entries j f at_j))
+        (λ right_i.
+        ⊎_elim
+        (λ left_j. absurd (apart (sym (h.housed other w theirs right_i.0 e right_i.2).1 ∙ ap h.holder same ∙ (h.housed id v at j f left_j).1)))
+        (λ right_j. let r = h.apart other w theirs right_i.0 right_j.0 e f right_i.2 right_j.2 same in let a = right_i.1 in let b = right_j.1 in omega arith)
+        (append_place v.entries w.entries j f at_j))
+        (append_place v.entries w.entries i e at_i)
+
+    none_apart : NoneTwice []
+    none_apart i j e f at_i at_j same = absurd (some-ne-none e (sym at_i))
+
+    all_apart : AreApart (set (set s.views id both) other nothing)
+    all_apart = apart_put (set s.views id both) other nothing none_apart (apart_put s.views id both both_apart h.apart)
 
     joined : (x : ℕ) → x ≡ id → Holds c h.know after x (v.entries ++ w.entries)
     joined x is j e found =

@@ -7,11 +7,11 @@ use Rattle.barriers.specs.Needs.{Reaches}
 use Rattle.leaf_board.specs.Statuses.{Status, Unknown, Given, Published, Skipped, Turns, Draws, AreSeats}
 use Rattle.leaf_board.specs.declared.handout.Draw.{Draw}
 use Rattle.leaf_board.specs.declared.handout.Draw.TheVariants.{Leaf, Drained}
-use Rattle.leaf_board.specs.Records.{Closes as Tells}
+use Rattle.leaf_board.specs.Records.{Closes}
 use Rattle.leaf_board.specs.Case.{BoardCase, sum_below}
-use Rattle.leaf_board.specs.Knowledge.{Knowledge, status_of, IsHeld, after_skip, known_count, KnowsEnough}
+use Rattle.leaf_board.specs.Knowledge.{Knowledge, IsHeld, after_skip, known_count, KnowsEnough}
 use Rattle.leaf_board.specs.Seats.{Holder, Gained, Answered, OnlyLooks, Settles}
-use Rattle.leaf_board.specs.Closing.{Outcome, leaves_of, cut_of, count_of, In, AreOf, AreAll, AreNew, newcomer, Closes}
+use Rattle.leaf_board.specs.Closing.{Outcome, leaves_of, cut_of, count_of, AreOf, AreAll, AreNew, newcomer, IsRecordOf}
 use Rattle.leaf_board.specs.Hands.{KnowsCount, MadeCut, is_unknown, unknown_count, IsOn, number_of, status_at, WasDrained, leaves_left}
 use Rattle.leaf_board.proofs.Steps.{held_there}
 
@@ -79,7 +79,7 @@ all_seats c board seats are = (
 )
 
 -- what the record says, in a pool's words
-pub tells : (c : BoardCase) (board : TableId) (seats : List Holder) (r : Outcome) → Closes c seats r → Tells c.leaves c.full (c.need) status_at (WasDrained c) MadeCut seats (leaves_of r) (count_of r) (cut_of r)
+pub tells : (c : BoardCase) (board : TableId) (seats : List Holder) (r : Outcome) → IsRecordOf c seats r → Closes c.leaves c.full c.need status_at (WasDrained c) MadeCut seats (leaves_of r) (count_of r) (cut_of r)
 tells c board seats r closes =
     record {
       all = closes.leaves;
@@ -97,6 +97,9 @@ tells c board seats r closes =
           let p = closes.drained (get_or seats k d) (k, there_get seats k d within) (is d) i at in
           let q = get_there seats p.1.0 p.0 p.1.1 in
           (p.1.0, q.0, λ d2. subst (λ (h : Holder). status_at h i ≢ Unknown) (sym (q.1 d2)) p.2);
+      once = λ i j k in_j in_k given_j given_k.
+          let d : Holder = newcomer c board 0 in
+          closes.once j k i (get_or seats j d) (get_or seats k d) (there_get seats j d in_j) (there_get seats k d in_k) (given_j d) (given_k d);
       skipped = λ i (k, within, is).
           let d : Holder = newcomer c board 0 in
           let p = closes.skipped (get_or seats k d) i (k, there_get seats k d within) (is d) in
@@ -112,7 +115,7 @@ tells c board seats r closes =
     }
 
 -- the counts so far are enough where one of them is
-own_enough : (c : BoardCase) (k : Knowledge) (leaf n : ℕ) → known_count k leaf ≡ n → Reaches (c.need) n → KnowsEnough c k leaf
+own_enough : (c : BoardCase) (k : Knowledge) (leaf n : ℕ) → known_count k leaf ≡ n → Reaches c.need n → KnowsEnough c k leaf
 own_enough c k leaf n is reached =
     let more : n ≤ sum_below (known_count k) (suc leaf) = omega arith in
     elim c.need as (λ need. Reaches need n → Reaches need (sum_below (known_count k) (suc leaf))) [ None ↦ λ never. never | Some r ↦ λ (m : r ≤ n). omega arith ] reached
@@ -124,7 +127,7 @@ settled_cuts (Some r) c before after leaf (inl (at, cut)) i (own, low, (k, below
     (own, low, subst (λ (l : List ℕ). Contains l own) (sym cut.cuts) (suc k, omega arith, is))
 settled_cuts (Some r) c before after leaf (inr none) i (own, low, is) = (own, low, subst (λ (l : List ℕ). Contains l own) (sym none.cuts) is)
 
-pub settled_enough : (need : Option ℕ) (c : BoardCase) (before after : Holder) (leaf : ℕ) → need ≡ c.need → Settles need c before.knows leaf after.knows → OnlyLooks before.knows after.knows → (n : ℕ) → KnowsCount before leaf n → Reaches (c.need) n → MadeCut after leaf
+pub settled_enough : (need : Option ℕ) (c : BoardCase) (before after : Holder) (leaf : ℕ) → need ≡ c.need → Settles need c before.knows leaf after.knows → OnlyLooks before.knows after.knows → (n : ℕ) → KnowsCount before leaf n → Reaches c.need n → MadeCut after leaf
 settled_enough None c before after leaf same settles looks n known reached = absurd (subst (λ (x : Option ℕ). Reaches x n) (sym same) reached)
 settled_enough (Some r) c before after leaf same (inl (at, cut)) looks n known reached =
     (at, cut.within, subst (λ (l : List ℕ). Contains l at) (sym cut.cuts) (0, omega arith, refl))

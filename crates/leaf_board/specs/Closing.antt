@@ -54,10 +54,10 @@ abbrev pub AreNew : BoardCase → TableId → List Holder → Type 0
 AreNew c board seats = (length seats ≡ c.seats) × ((number : ℕ) → number < c.seats → slice_get seats number ≡ Some (newcomer c board number))
 
 -- What the record says, where these are all the seats
-pub record Closes (c : BoardCase) (seats : List Holder) (r : Outcome) : Type 0 where
+pub record IsRecordOf (c : BoardCase) (seats : List Holder) (r : Outcome) : Type 0 where
   pub leaves : r.leaves ≡ c.leaves
-  -- no leaf was given to two seats
-  pub once : (s t : Holder) (leaf : ℕ) → In seats s → In seats t → WasGiven s.knows leaf → WasGiven t.knows leaf → s.number ≡ t.number
+  -- no leaf was given to two of the seats
+  pub once : (j k leaf : ℕ) (s t : Holder) → slice_get seats j ≡ Some s → slice_get seats k ≡ Some t → WasGiven s.knows leaf → WasGiven t.knows leaf → j ≡ k
   -- where one was told that all leaves were given out, they were
   pub drained : (s : Holder) → In seats s → IsDrained c s.knows → (leaf : ℕ) → leaf < c.leaves → (t : Holder) × In seats t × WasGiven t.knows leaf
   -- a leaf has the count that a seat published, and no other
@@ -69,6 +69,6 @@ pub record Closes (c : BoardCase) (seats : List Holder) (r : Outcome) : Type 0 w
   -- a skipped leaf lies right of the cut, and has no count
   pub skipped : (s : Holder) (leaf : ℕ) → In seats s → IsSkipped s.knows leaf → (cut : ℕ) × (cut_of r ≡ Some cut) × (cut < leaf) × (count_of r leaf ≡ None)
 
--- each of the seats is shown by the view
+-- the view shows the seats, the last one first
 abbrev pub Shows : View → List Holder → Type 0
-Shows v seats = (s : Holder) → In seats s → (i : ℕ) × (get_elem? v.entries i ≡ some (entry s.number s.knows))
+Shows v seats = (j : ℕ) (s : Holder) → slice_get seats j ≡ Some s → (i : ℕ) × (i + j + 1 ≡ length seats) × (get_elem? v.entries i ≡ some (entry s.number s.knows))

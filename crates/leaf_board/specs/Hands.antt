@@ -1,10 +1,10 @@
 -- A seat's knowledge, as a pool sees it.
 use Rattle.std.specs.Prelude.{◌≡◌, ◌≤◌, ◌+◌, Contains, slice_index, ℕ, List, [], ◌∷◌}
-use Rattle.leaf_board.specs.Statuses.{Status, Unknown, Given, Published, Skipped}
+use Rattle.leaf_board.specs.Statuses.{Status, Unknown}
 use Rattle.atomic_table.specs.Seated.{TableId}
 use Rattle.leaf_board.specs.Case.{BoardCase}
 use Rattle.leaf_board.specs.Seats.{Holder}
-use Rattle.leaf_board.specs.Knowledge.{IsDrained, Knowledge, status_of}
+use Rattle.leaf_board.specs.Knowledge.{IsDrained, status_of}
 
 abbrev pub is_unknown : Status → ℕ
 is_unknown Unknown = 1

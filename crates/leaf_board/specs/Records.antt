@@ -2,7 +2,7 @@
 use Rattle.std.specs.Prelude.{◌≡◌, ◌<◌, ◌≤◌, ◌+◌, ◌≢◌, ◌↔◌, ℕ, List, length, slice_index_or, Option, Some, None}
 use Rattle.barriers.specs.Needs.{Reaches}
 use Rattle.leaf_board.specs.Case.{sum_below}
-use Rattle.leaf_board.specs.Statuses.{Status, Unknown, Given, Published, Skipped}
+use Rattle.leaf_board.specs.Statuses.{Status, Unknown, Published, Skipped}
 
 -- one of the seats has this status of leaf i
 abbrev pub Somewhere : {S : Type 0} → (S → ℕ → Status) → List S → ℕ → Status → Type 0
@@ -12,6 +12,8 @@ pub record Closes {S : Type 0} (leaves : ℕ) (full : ℕ → ℕ) (need : Optio
   pub all : recorded ≡ leaves
   -- a leaf has a count exactly where a seat published it
   pub counts : (i n : ℕ) → i < leaves → (count i ≡ Some n) ↔ Somewhere status seats i (Published n)
+  -- no leaf was given to two of the seats
+  pub once : (i j k : ℕ) → j < length seats → k < length seats → ((d : S) → status (slice_index_or seats j d) i ≢ Unknown) → ((d : S) → status (slice_index_or seats k d) i ≢ Unknown) → j ≡ k
   -- where one seat was told Drained, every leaf was given
   pub given : (k : ℕ) → k < length seats → ((d : S) → drained (slice_index_or seats k d)) → (i : ℕ) → i < leaves → (j : ℕ) × (j < length seats) × ((d : S) → status (slice_index_or seats j d) i ≢ Unknown)
   -- each skipped leaf lies right of the cut, and has no count

@@ -93,11 +93,19 @@ Holds c know holder at entries = (j : ℕ) (e : Entry) → get_elem? entries j �
 abbrev pub Housed : BoardCase → (ℕ → Knowledge) → (ℕ → ℕ) → List View → Type 0
 Housed c know holder views = (at : ℕ) (v : View) → get_elem? views at ≡ some v → Holds c know holder at v.entries
 
+-- no number stands twice in a view
+abbrev pub NoneTwice : List Entry → Type 0
+NoneTwice entries = (i j : ℕ) (e f : Entry) → get_elem? entries i ≡ some e → get_elem? entries j ≡ some f → e.number ≡ f.number → i ≡ j
+
+abbrev pub AreApart : List View → Type 0
+AreApart views = (at : ℕ) (v : View) → get_elem? views at ≡ some v → NoneTwice v.entries
+
 -- The rule of the table
 pub record Orderly (c : BoardCase) (s : State Unit View) : Type 0 where
   pub know : ℕ → Knowledge
   pub holder : ℕ → ℕ
   pub housed : Housed c know holder s.views
+  pub apart : AreApart s.views
   pub sound : Sound c s.words know
 
 abbrev pub view : List Entry → View

@@ -6,7 +6,7 @@ ghost use Rattle.leaf_board.specs.Statuses.{Unknown};
 ghost use Rattle.leaf_board.specs.Knowledge.{status_of, IsHeld, IsDrained, KnowsEnough, FirstEnough, known_count, KnowsCutLeftOf, after_leaf, after_empty, after_publish, after_look, after_cut, after_read, after_skip};
 ghost use Rattle.leaf_board.specs.Seats.{SameSeat, Answered, OnlyDraws, OnlyLooks, Settles, HasCutLeftOf};
 ghost use Rattle.leaf_board.specs.Rule.{IsOpening};
-ghost use Rattle.leaf_board.specs.Closing.{AreOf, AreAll, AreNew, Shows, Closes};
+ghost use Rattle.leaf_board.specs.Closing.{AreOf, AreAll, AreNew, Shows, IsRecordOf};
 
 use crate::handout::Draw;
 use crate::record::Record;
@@ -114,11 +114,7 @@ fn add(sum: u64, count: u64) -> u64
 }
 
 // The words at the start.
-fn opening_words<C: Case>(
-    alloc: Global,
-    leaves: usize,
-    seats: usize,
-) -> Result<Vec<u64>, NoMemory>
+fn opening_words<C: Case>(alloc: Global, leaves: usize, seats: usize) -> Result<Vec<u64>, NoMemory>
     requires case { (leaves ≡ C.case.leaves) × (seats ≡ C.case.seats) }
     requires limits { (leaves ≤ 65536) × (0 < seats) × (seats ≤ 64) }
     ensures { IfOk result (λ words. IsOpening C.case words.items) }
@@ -200,7 +196,7 @@ impl<C: Case> Board<C> {
     /// Ends the board, with all its seats.
     pub fn close(self, mut seats: Vec<BoardSeat<C>>) -> Record
         requires { AreOf self seats.items × AreAll C.case seats.items }
-        ensures { Closes C.case seats.items result }
+        ensures { IsRecordOf C.case seats.items result }
     {
         let Board {
             table,

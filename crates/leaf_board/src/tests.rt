@@ -8,10 +8,10 @@ ghost use Rattle.std.specs.Prelude.{None, Some};
 
 mod seats;
 
-use crate::{Board, BoardSeat, Draw, LeafPass};
-use barriers::Need;
 use crate::record::Record;
 use crate::rule::Case;
+use crate::{Board, BoardSeat, Draw, LeafPass};
+use barriers::Need;
 use std::alloc::Global;
 use std::marker::Brand;
 use std::process::Abort;

@@ -4,10 +4,10 @@ ghost use Rattle.leaf_board.specs.Boards.{case_of};
 ghost use Rattle.std.specs.Prelude.{None, Some};
 
 use super::{drained, leaf, skipped};
-use crate::{Board, BoardSeat, Draw};
-use barriers::Need;
 use crate::record::Record;
 use crate::rule::Case;
+use crate::{Board, BoardSeat, Draw};
+use barriers::Need;
 use std::alloc::{AllocError, Global};
 use std::marker::Brand;
 use std::process::Abort;

@@ -1,6 +1,6 @@
 use Rattle.std.proofs.Common.{refl, ap, ◌∙◌}
 use Rattle.leaf_board.specs.Statuses.{Published}
-use Rattle.leaf_board.specs.Knowledge.{Knowledge, status_of}
+use Rattle.leaf_board.specs.Knowledge.{Knowledge}
 use Rattle.leaf_board.specs.Hands.{unknown_count}
 use Rattle.leaf_board.proofs.Handing.{same_cuts, spent_count}
 use Rattle.leaf_board.proofs.board_handout.BoardHandout.publish.Goals as goal

@@ -1,5 +1,5 @@
 use Rattle.std.proofs.Common.{ap, ◌∙◌}
-use Rattle.leaf_board.specs.Knowledge.{Knowledge, status_of}
+use Rattle.leaf_board.specs.Knowledge.{Knowledge}
 use Rattle.leaf_board.specs.Hands.{unknown_count}
 use Rattle.leaf_board.proofs.Handing.{same_cuts, skip_count}
 use Rattle.leaf_board.proofs.board_handout.BoardHandout.skip.Goals as goal
