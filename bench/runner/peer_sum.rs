@@ -1,0 +1,12 @@
+//! The peer of `range A B`, `sum`: a plain loop, one item a step, which the compiler may not fold.
+
+use std::hint::black_box;
+
+fn main() {
+    let ends: Vec<i64> = std::env::args().skip(1).map(|word| word.parse().unwrap()).collect();
+    let mut total = 0i64;
+    for item in ends[0]..ends[1] {
+        total = black_box(total.wrapping_add(item));
+    }
+    println!("{total}");
+}
