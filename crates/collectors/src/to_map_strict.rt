@@ -10,7 +10,7 @@ use spliterator::{NoMemory, Value};
 use stages::Mapping;
 use std::alloc::Global;
 use std::fmt::Display;
-use std::hash::Hash;
+use std::hash::{BuildHasher, BuildHasherDefault, FoldHasher, Hash};
 use std::marker::PhantomData;
 use thiserror::Error;
 
@@ -24,12 +24,12 @@ pub struct DuplicateKey<K> {
 
 /// The entries before the first repeated key, in the order of their items, and that key.
 #[derive(Drop)]
-pub struct StrictEntries<K: Eq + Hash, V> {
-    entries: IndexMap<K, V>,
+pub struct StrictEntries<K: Eq + Hash, V, S: BuildHasher = BuildHasherDefault<FoldHasher>> {
+    entries: IndexMap<K, V, S>,
     repeated: Option<K>,
 }
 
-impl<K: Value + Hash + Drop, V: Value + Drop> StrictEntries<K, V> {
+impl<K: Value + Hash + Drop, V: Value + Drop, S: BuildHasher> StrictEntries<K, V, S> {
     // A key that is there is the repeat, and after a repeat nothing changes.
     fn put(&mut self, key: K, value: V) -> Result<(), NoMemory>
         ensures { OnOk result ((contents K.content V.content self.new.entries.entries, option_map K.content self.new.repeated) ≡ strict_put K.same (contents K.content V.content self.old.entries.entries) (option_map K.content self.old.repeated) (K.content key, V.content value)) }
@@ -49,15 +49,27 @@ impl<K: Value + Hash + Drop, V: Value + Drop> StrictEntries<K, V> {
 /// For each key the value of its one item, in the order of the items; or, where a key repeats, the key of the earliest item whose
 /// key came before.
 #[derive(Drop)]
-pub struct ToMapStrict<T, K, V> {
+pub struct ToMapStrict<T, K, V, S = BuildHasherDefault<FoldHasher>> {
     alloc: Global,
     key: K,
     value: V,
+    hash_builder: S,
     items: PhantomData<T>,
 }
 
 impl<T, K, V> ToMapStrict<T, K, V> {
+    /// A map that hashes by a fixed seed, for keys that no stranger chooses.
     pub fn new(alloc: Global, key: K, value: V) -> ToMapStrict<T, K, V>
+        ensures key { result.key ≡ key }
+        ensures value { result.value ≡ value }
+    {
+        ToMapStrict::with_hasher(alloc, key, value, BuildHasherDefault::new())
+    }
+}
+
+impl<T, K, V, S> ToMapStrict<T, K, V, S> {
+    /// A map that hashes as it is told, as by a `RandomState` where strangers choose the keys.
+    pub fn with_hasher(alloc: Global, key: K, value: V, hash_builder: S) -> ToMapStrict<T, K, V, S>
         ensures key { result.key ≡ key }
         ensures value { result.value ≡ value }
     {
@@ -65,21 +77,23 @@ impl<T, K, V> ToMapStrict<T, K, V> {
             alloc,
             key,
             value,
+            hash_builder,
             items: PhantomData,
         }
     }
 }
 
-impl<T: Value, K: Mapping<T>, V: Mapping<T>> Collector for ToMapStrict<T, K, V>
+impl<T: Value, K: Mapping<T>, V: Mapping<T>, S: BuildHasher + Copy> Collector
+    for ToMapStrict<T, K, V, S>
 where
     K::Out: Hash + Drop,
     V::Out: Drop,
 {
     type Item = T;
 
-    type Acc = StrictEntries<K::Out, V::Out>;
+    type Acc = StrictEntries<K::Out, V::Out, S>;
 
-    type Out = Result<IndexMap<K::Out, V::Out>, DuplicateKey<K::Out>>;
+    type Out = Result<IndexMap<K::Out, V::Out, S>, DuplicateKey<K::Out>>;
 
     ghost ready = { λ c. K.ready c.key × V.ready c.value };
 
@@ -97,14 +111,18 @@ where
 
     ghost laws = { λ c. strict_map_laws K.Out.same (K.image c.key) (V.image c.value) T.is_value };
 
-    fn supply(&self) -> Result<StrictEntries<K::Out, V::Out>, NoMemory> {
+    fn supply(&self) -> Result<StrictEntries<K::Out, V::Out, S>, NoMemory> {
         Ok(StrictEntries {
-            entries: IndexMap::new(self.alloc),
+            entries: IndexMap::with_hasher(self.alloc, self.hash_builder),
             repeated: None,
         })
     }
 
-    fn accumulate(&self, acc: &mut StrictEntries<K::Out, V::Out>, x: &T) -> Result<(), NoMemory> {
+    fn accumulate(
+        &self,
+        acc: &mut StrictEntries<K::Out, V::Out, S>,
+        x: &T,
+    ) -> Result<(), NoMemory> {
         if acc.repeated.is_some() {
             return Ok(());
         }
@@ -115,8 +133,8 @@ where
 
     fn combine(
         &self,
-        left: &mut StrictEntries<K::Out, V::Out>,
-        right: StrictEntries<K::Out, V::Out>,
+        left: &mut StrictEntries<K::Out, V::Out, S>,
+        right: StrictEntries<K::Out, V::Out, S>,
     ) -> Result<(), NoMemory> {
         let StrictEntries { entries, repeated } = right;
         for (key, value) in entries {
@@ -130,8 +148,8 @@ where
 
     fn finish(
         &self,
-        acc: StrictEntries<K::Out, V::Out>,
-    ) -> Result<Result<IndexMap<K::Out, V::Out>, DuplicateKey<K::Out>>, NoMemory> {
+        acc: StrictEntries<K::Out, V::Out, S>,
+    ) -> Result<Result<IndexMap<K::Out, V::Out, S>, DuplicateKey<K::Out>>, NoMemory> {
         let StrictEntries { entries, repeated } = acc;
         match repeated {
             Some(key) => Ok(Err(DuplicateKey { key })),
