@@ -1,7 +1,7 @@
 //! The functions of the rows, each beside what it computes.
 ghost use Rattle.std.specs.Prelude.{◌≡◌, ℤ, pos, ◌<ℤ◌, ◌*ℤ◌, Bool, not, length, int_lt};
 ghost use Rattle.std.specs.Int.{int_rem_euclid, w64};
-ghost use Rattle.std.proofs.lemmas.Int.{SFits-int_wrap};
+ghost use Rattle.collectors.specs.Sums.{wrapped-value};
 ghost use Rattle.stages.specs.Wrapping.{wrapped};
 
 use crate::Pairing;
@@ -76,7 +76,7 @@ impl Mapping<i64> for Modulo {
 
     ghost image = { λ m x. wrapped (int_rem_euclid x m.number) };
 
-    ghost images_are_values = { λ m x _. SFits-int_wrap w64 (int_rem_euclid x m.number) };
+    ghost images_are_values = { λ m x _. wrapped-value (int_rem_euclid x m.number) };
 
     fn image(&self, x: &i64) -> Result<i64, NoMemory> {
         Ok(remainder(x, &self.number))
@@ -98,7 +98,7 @@ impl Mapping<i64> for Times {
 
     ghost image = { λ m x. wrapped (x *ℤ m.0) };
 
-    ghost images_are_values = { λ m x _. SFits-int_wrap w64 (x *ℤ m.0) };
+    ghost images_are_values = { λ m x _. wrapped-value (x *ℤ m.0) };
 
     fn image(&self, x: &i64) -> Result<i64, NoMemory> {
         Ok(product(x, &self.0))
@@ -120,7 +120,7 @@ impl Mapping<&str> for Length {
 
     ghost image = { λ _ x. wrapped (pos (length x)) };
 
-    ghost images_are_values = { λ _ x _. SFits-int_wrap w64 (pos (length x)) };
+    ghost images_are_values = { λ _ x _. wrapped-value (pos (length x)) };
 
     fn image(&self, x: &&str) -> Result<i64, NoMemory> {
         Ok(length_of(*x))
@@ -175,16 +175,6 @@ impl Operator<i64> for LastOf {
     ghost joins_are_values = { λ _ a b _ value. value };
 
     fn join(&self, _a: &i64, b: &i64) -> Result<i64, NoMemory> {
-        Ok(*b)
-    }
-}
-
-impl<'a> Operator<&'a str> for LastOf {
-    ghost join = { λ _ a b. b };
-
-    ghost joins_are_values = { λ _ a b _ value. value };
-
-    fn join(&self, _a: &&'a str, b: &&'a str) -> Result<&'a str, NoMemory> {
         Ok(*b)
     }
 }

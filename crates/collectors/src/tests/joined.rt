@@ -22,15 +22,25 @@ fn joins_empty_texts_as_items(rt: HostRuntime) -> Result<(), Fail> {
 }
 
 #[test]
-fn groups_texts(rt: HostRuntime) -> Result<(), Fail> {
+fn joins_the_texts_of_a_length(rt: HostRuntime) -> Result<(), Fail> {
     let alloc = rt.alloc();
     let texts = Joining::<&str>::new(alloc, "+", "", "");
     let by_length = GroupingBy::new(alloc, Length, texts);
     check(&rt, alloc, &by_length, &["bb", "a", "cc"], "{2=bb+cc, 1=a}")?;
+    Ok(())
+}
+
+#[test]
+fn counts_equal_texts(rt: HostRuntime) -> Result<(), Fail> {
+    let alloc = rt.alloc();
     let counts = GroupingBy::new(alloc, Itself, Counting::<&str>::new());
     check(&rt, alloc, &counts, &["b", "", "b", "a"], "{b=2, =1, a=1}")?;
-    let last = ToMap::<&str, _, _, _>::new(alloc, Length, Itself, LastOf);
-    check(&rt, alloc, &last, &["bb", "a", "cc"], "{2=cc, 1=a}")?;
+    Ok(())
+}
+
+#[test]
+fn maps_texts_to_lengths(rt: HostRuntime) -> Result<(), Fail> {
+    let alloc = rt.alloc();
     let lengths = ToMap::<&str, _, _, _>::new(alloc, Itself, Length, LastOf);
     check(&rt, alloc, &lengths, &["bb", "a"], "{bb=2, a=1}")?;
     Ok(())
