@@ -17,50 +17,52 @@ fn answer(alloc: Global, file: &[u8]) -> Result<String, AllocError> {
     }
 }
 
+/// Files, and what is written or told.
+const ROWS: [(&[u8], &str); 17] = [
+    (b"pipeline 1\nrange 1 6\nsum\n", "15\n"),
+    (b"pipeline 1\nrange 5 5\nsum\n", "0\n"),
+    (
+        b"pipeline 1\nclosed 9223372036854775806 9223372036854775807\nsum\n",
+        "-3\n",
+    ),
+    (
+        b"pipeline 1\nrange 0 4611686018427387904\ncount\n",
+        "4611686018427387904\n",
+    ),
+    (
+        b"pipeline 1\nrange 0 4611686018427387905\ncount\n",
+        "line 2: RANGE_TOO_LONG",
+    ),
+    (
+        b"pipeline 1\nrange 0 3\nsum\nsum\n",
+        "line 4: AFTER_TERMINAL",
+    ),
+    (b"", "line 1: BAD_VERSION"),
+    (b"pipeline 1\nrange 0 3\n", "line 3: MISSING_TERMINAL"),
+    (b"pipeline 1\nrange 1\nsum\n", "line 2: BAD_ARITY"),
+    (b"pipeline 1\nrange 1 06\nsum\n", "line 2: BAD_NUMBER"),
+    (
+        b"pipeline 1\nrange 1 6\nmap self\nsum\n",
+        "line 3: UNKNOWN_WORD",
+    ),
+    (b"pipeline 1\r\nrange 1 6\nsum\n", "line 1: BAD_VERSION"),
+    (b"pipeline 1\nrange 1 6 \nsum\n", "line 2: BAD_ARITY"),
+    (b"pipeline 1\nrange 0 1\nsum\0", "line 3: UNKNOWN_WORD"),
+    (
+        b"pipeline 1\nrange -9223372036854775808 9223372036854775807\ncount\n",
+        "line 2: RANGE_TOO_LONG",
+    ),
+    (
+        b"pipeline 1\nclosed 9223372036854775807 9223372036854775807\ncount\n",
+        "1\n",
+    ),
+    (b"pipeline 1\nrange 0 1\nsum\n\xff", "line 4: BAD_TEXT"),
+];
+
 #[test]
 fn answers_the_rows(rt: HostRuntime) -> Result<(), Fail> {
     let alloc = rt.alloc();
-    let rows: [(&[u8], &str); 17] = [
-        (b"pipeline 1\nrange 1 6\nsum\n", "15\n"),
-        (b"pipeline 1\nrange 5 5\nsum\n", "0\n"),
-        (
-            b"pipeline 1\nclosed 9223372036854775806 9223372036854775807\nsum\n",
-            "-3\n",
-        ),
-        (
-            b"pipeline 1\nrange 0 4611686018427387904\ncount\n",
-            "4611686018427387904\n",
-        ),
-        (
-            b"pipeline 1\nrange 0 4611686018427387905\ncount\n",
-            "line 2: RANGE_TOO_LONG",
-        ),
-        (
-            b"pipeline 1\nrange 0 3\nsum\nsum\n",
-            "line 4: AFTER_TERMINAL",
-        ),
-        (b"", "line 1: BAD_VERSION"),
-        (b"pipeline 1\nrange 0 3\n", "line 3: MISSING_TERMINAL"),
-        (b"pipeline 1\nrange 1\nsum\n", "line 2: BAD_ARITY"),
-        (b"pipeline 1\nrange 1 06\nsum\n", "line 2: BAD_NUMBER"),
-        (
-            b"pipeline 1\nrange 1 6\nmap self\nsum\n",
-            "line 3: UNKNOWN_WORD",
-        ),
-        (b"pipeline 1\r\nrange 1 6\nsum\n", "line 1: BAD_VERSION"),
-        (b"pipeline 1\nrange 1 6 \nsum\n", "line 2: BAD_ARITY"),
-        (b"pipeline 1\nrange 0 1\nsum\0", "line 3: UNKNOWN_WORD"),
-        (
-            b"pipeline 1\nrange -9223372036854775808 9223372036854775807\ncount\n",
-            "line 2: RANGE_TOO_LONG",
-        ),
-        (
-            b"pipeline 1\nclosed 9223372036854775807 9223372036854775807\ncount\n",
-            "1\n",
-        ),
-        (b"pipeline 1\nrange 0 1\nsum\n\xff", "line 4: BAD_TEXT"),
-    ];
-    for (file, wanted) in rows {
+    for (file, wanted) in ROWS {
         assert_eq!(rt; answer(alloc, file)?.as_str(), wanted);
     }
     Ok(())
