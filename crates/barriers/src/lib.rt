@@ -14,3 +14,6 @@ pub use distinct::Distinct;
 pub use limit::Limit;
 pub use skip::Skip;
 pub use whiles::{DropWhile, TakeWhile};
+
+#[cfg(test)]
+mod tests;
