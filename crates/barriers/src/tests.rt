@@ -6,7 +6,7 @@ use crate::{
     Barrier, Demand, Distinct, DropWhile, FirstHit, Limit, Need, Skip, TakeWhile, Total, Whole,
 };
 use spliterator::{NoMemory, OrderedValue};
-use stages::{Map, Mapping, Operation, Stage, Test};
+use stages::{Map, Mapping, Operation, Operator, Stage, Test, WrapAdd};
 use std::alloc::Global;
 use std::process::Abort;
 use std::test::Fail;
@@ -119,7 +119,7 @@ impl Mapping<i64> for Next {
     ghost images_are_values = { λ _ x _. wrapped-value (x +ℤ pos 1) };
 
     fn image(&self, x: &i64) -> Result<i64, NoMemory> {
-        Ok(x.wrapping_add(1))
+        WrapAdd::new().join(x, &1)
     }
 }
 
