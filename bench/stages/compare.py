@@ -1,6 +1,8 @@
 """Compares the least times of each case in two files of lines `CASE NANOSECONDS SUM FED`."""
 import sys
 
+# the cases that may cost at most 1.5 times the plain loop
+LIMITED = ["map_filter_sum", "four_stages_sum"]
 LIMIT = 1.5
 
 
@@ -20,6 +22,7 @@ assert here_sums == peer_sums, "the two programs sum up to different numbers"
 over = 0
 for case, time in here.items():
     ratio = time / peer[case]
-    over += ratio > LIMIT
-    print(f"{case}: {ratio:.2f}" + ("" if ratio <= LIMIT else f", above {LIMIT}"))
+    fits = case not in LIMITED or ratio <= LIMIT
+    over += not fits
+    print(f"{case}: {ratio:.2f}" + ("" if fits else f", above {LIMIT}"))
 sys.exit(over > 0)

@@ -11,7 +11,7 @@ use spliterator::{NoMemory, OrderedValue, Value};
 use stages::Operation;
 use std::hash::Hash;
 
-/// Of equal items the first, in the order of the items.
+/// Of equal items the first, in the order of the items (`java.util.stream.Stream`, `distinct`). The items are moved; none is cloned.
 #[derive(Clone, Copy, Debug)]
 pub struct Distinct;
 

@@ -16,10 +16,10 @@ pub(crate) fn drop_front<T: Drop>(items: &mut Vec<T>, number: usize)
     drop(items.drain(..number));
 }
 
-/// The items after the first ones.
+/// The items after the first ones (`java.util.stream.Stream`, `skip`).
 #[derive(Clone, Copy, Debug)]
 pub struct Skip {
-    number: u64,
+    pub number: u64,
     ghost fits: { number < 2 ^ 63 },
 }
 

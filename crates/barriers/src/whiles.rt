@@ -26,10 +26,10 @@ fn length_of_front<T: Value, P: Test<T>>(items: &[T], test: &P) -> usize
     items.len()
 }
 
-/// The longest front whose items all meet a test. One item that fails it is enough.
+/// The longest front whose items all meet a test (`java.util.stream.Stream`, `takeWhile`). One item that fails it is enough.
 #[derive(Drop)]
 pub struct TakeWhile<P> {
-    test: P,
+    pub test: P,
 }
 
 impl<P> TakeWhile<P> {
@@ -86,10 +86,10 @@ impl<T: OrderedValue + Drop, P: Test<T>> Barrier<T> for TakeWhile<P> {
     }
 }
 
-/// What follows the longest front whose items all meet a test.
+/// What follows the longest front whose items all meet a test (`java.util.stream.Stream`, `dropWhile`).
 #[derive(Drop)]
 pub struct DropWhile<P> {
-    test: P,
+    pub test: P,
 }
 
 impl<P> DropWhile<P> {

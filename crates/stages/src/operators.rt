@@ -13,7 +13,7 @@ use spliterator::{NoMemory, OrderedValue, Value};
 use std::cmp::Ordering;
 use std::marker::PhantomData;
 
-/// The sum of two numbers, which wraps.
+/// The sum of two numbers, which wraps in 64-bit two's complement.
 #[derive(Clone, Copy, Debug)]
 pub struct WrapAdd;
 
@@ -35,7 +35,7 @@ impl Operator<i64> for WrapAdd {
     }
 }
 
-/// The product of two numbers, which wraps.
+/// The product of two numbers, which wraps in 64-bit two's complement.
 #[derive(Clone, Copy, Debug)]
 pub struct WrapMul;
 
@@ -57,7 +57,7 @@ impl Operator<i64> for WrapMul {
     }
 }
 
-/// The greater of two values, as a clone.
+/// The greater of two values, as a clone: the first where they tie (`java.util.function.BinaryOperator`, `maxBy`).
 #[derive(Drop)]
 pub struct Max<T: OrderedValue + Clone> {
     values: PhantomData<T>,
@@ -90,7 +90,7 @@ impl<T: OrderedValue + Clone> Operator<T> for Max<T> {
     }
 }
 
-/// The lesser of two values, as a clone.
+/// The lesser of two values, as a clone: the first where they tie (`java.util.function.BinaryOperator`, `minBy`).
 #[derive(Drop)]
 pub struct Min<T: OrderedValue + Clone> {
     values: PhantomData<T>,

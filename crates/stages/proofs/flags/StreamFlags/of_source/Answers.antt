@@ -1,4 +1,4 @@
-use Rattle.std.proofs.Common.{Some, None, Option, ℕ, if◌then◌else◌, ap, ◌∙◌, sym, subst}
+use Rattle.std.proofs.Common.{Some, None, if◌then◌else◌, ap, ◌∙◌, sym, subst}
 use Rattle.spliterator.specs.Characteristics.{tells}
 use Rattle.spliterator.specs.declared.characteristics.TheConstants.{SIZED}
 use Rattle.stages.specs.declared.flags.StreamFlags.{StreamFlags}
