@@ -1,0 +1,4 @@
+//! A board that hands out leaves.
+#![tactic(auto)]
+
+pub mod handout;

@@ -1,0 +1,4 @@
+pub mod Rows
+pub mod Drawn
+pub mod Places
+pub mod Picked

@@ -1,0 +1,4 @@
+pub mod Jobs
+pub mod Shifts
+pub mod Gathers
+pub mod Reports
