@@ -35,3 +35,7 @@ every_item x = true
 
 abbrev pub no_item : {T : Type 0} → T → Bool
 no_item x = false
+
+-- where a front is enough, nothing that follows it changes the function's value
+abbrev pub KeepsEnough : {T A : Type 0} → Option ℕ → (T → Bool) → (List T → A) → Type 0
+KeepsEnough {T} needed counted value = (front more : List T) → IsEnough needed counted front → value (front ++ more) ≡ value front

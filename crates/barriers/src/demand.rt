@@ -1,8 +1,9 @@
 //! How much of a list is enough.
-ghost use Rattle.std.specs.Prelude.{◌≡◌, ◌^◌, ℕ, Bool, Option, None, ⊤};
-ghost use Rattle.barriers.specs.Needs.{need_of, no_item, IsBelow, CountsNone};
+ghost use Rattle.std.specs.Prelude.{◌≡◌, ◌<◌, ◌^◌, ℕ, Bool, Option, Some, None, ⊤};
+ghost use Rattle.barriers.specs.Needs.{need_of, every_item, no_item, IsBelow, CountsNone};
 
 use spliterator::Value;
+use stages::Test;
 
 /// How many counting items are needed.
 #[derive(Clone, Copy, Debug, PartialEq, Eq)]
@@ -50,5 +51,66 @@ impl<T: Value> Demand<T> for Whole {
 
     fn counts(&self, _x: &T) -> bool {
         false
+    }
+}
+
+/// Every item counts.
+#[derive(Clone, Copy, Debug)]
+pub struct Total {
+    needed: u64,
+    ghost fits: { needed < 2 ^ 63 },
+}
+
+impl Total {
+    /// So many items are enough: less than 2^63.
+    pub fn new(needed: u64) -> Total
+        requires { needed < 2 ^ 63 }
+        ensures { result.needed ≡ needed }
+    {
+        Total { needed }
+    }
+}
+
+impl<T: Value> Demand<T> for Total {
+    ghost needed = { λ d. Some d.needed };
+
+    ghost counted = { λ _. every_item };
+
+    fn need(&self) -> Need {
+        Need::Reach(self.needed)
+    }
+
+    fn counts(&self, _x: &T) -> bool {
+        true
+    }
+}
+
+/// One item that meets the test is enough.
+#[derive(Drop)]
+pub struct FirstHit<P> {
+    test: P,
+}
+
+impl<P> FirstHit<P> {
+    pub fn new(test: P) -> FirstHit<P>
+        ensures { result.test ≡ test }
+    {
+        FirstHit { test }
+    }
+}
+
+impl<T: Value, P: Test<T>> Demand<T> for FirstHit<P> {
+    ghost ready = { λ d. P.ready d.test };
+
+    ghost needed = { λ _. Some 1 };
+
+    ghost counted = { λ d. P.holds d.test };
+
+    fn need(&self) -> Need {
+        Need::Reach(1)
+    }
+
+    fn counts(&self, x: &T) -> bool {
+        self.test.holds(x)
     }
 }

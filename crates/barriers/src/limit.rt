@@ -1,0 +1,72 @@
+ghost use Rattle.std.specs.Prelude.{◌≡◌, ◌<◌, ◌^◌, Some, take, IfOk, map, min, option_map};
+ghost use Rattle.stages.specs.declared.flags.Operation.TheVariants.{Limit as limit_row};
+ghost use Rattle.barriers.specs.Needs.{every_item};
+ghost use Rattle.barriers.specs.NeedLaws.{KeepsEnough-take};
+ghost use Rattle.barriers.specs.BarrierFlags.{KeepsSound-take};
+
+use crate::{Barrier, Demand, Need};
+use spliterator::{NoMemory, OrderedValue, Value};
+use stages::Operation;
+
+/// At most the first items.
+#[derive(Clone, Copy, Debug)]
+pub struct Limit {
+    most: u64,
+    ghost fits: { most < 2 ^ 63 },
+}
+
+impl Limit {
+    /// At most the first `most` items: less than 2^63.
+    pub fn new(most: u64) -> Limit
+        requires { most < 2 ^ 63 }
+        ensures { result.most ≡ most }
+    {
+        Limit { most }
+    }
+}
+
+impl<T: Value> Demand<T> for Limit {
+    ghost needed = { λ b. Some b.most };
+
+    ghost counted = { λ _. every_item };
+
+    fn need(&self) -> Need {
+        Need::Reach(self.most)
+    }
+
+    fn counts(&self, _x: &T) -> bool {
+        true
+    }
+}
+
+impl<T: OrderedValue + Drop> Barrier<T> for Limit {
+    ghost value = { λ b items. take b.most items };
+
+    ghost operation = { λ _. limit_row };
+
+    ghost size_after = { λ b. option_map (min b.most) };
+
+    ghost enough_law = { λ b. KeepsEnough-take b.most };
+
+    ghost flag_law = { λ b. KeepsSound-take T.order b.most };
+
+    fn apply(&self, mut items: Vec<T>) -> Result<Vec<T>, NoMemory>
+        ensures { IfOk result (λ kept. map T.content kept.items ≡ take self.now.most (map T.content items.items)) }
+    {
+        items.truncate(self.most as usize);
+        Ok(items)
+    }
+
+    fn operation(&self) -> Operation {
+        Operation::Limit
+    }
+
+    fn size_after(&self, size: Option<u64>) -> Option<u64>
+        ensures { result ≡ option_map (min self.now.most) size }
+    {
+        match size {
+            Some(size) => Some(self.most.min(size)),
+            None => None,
+        }
+    }
+}

@@ -1,0 +1,258 @@
+//! The stateless stages of a stream.
+ghost use Rattle.std.specs.Prelude.{◌≡◌, [], ◌∷◌, cond, map, flat_map, None, OnOk, OnErr};
+ghost use Rattle.stages.specs.declared.flags.Operation.TheVariants.{Map as map_row, Filter as filter_row, FlatMap as flat_map_row};
+ghost use Rattle.stages.specs.FlagLaws.{KeepsSound-map, KeepsSound-filter, KeepsSound-flat_map};
+
+use crate::{ListValue, Mapping, Onward, Operation, Sink, Stage, Test};
+use spliterator::{NoMemory, OrderedValue, Value};
+use std::marker::PhantomData;
+
+/// One image an item.
+#[derive(Drop)]
+pub struct Map<T, M> {
+    mapping: M,
+    items: PhantomData<T>,
+}
+
+impl<T, M> Map<T, M> {
+    pub fn new(mapping: M) -> Map<T, M>
+        ensures { result.mapping ≡ mapping }
+    {
+        Map {
+            mapping,
+            items: PhantomData,
+        }
+    }
+}
+
+impl<T: OrderedValue + Drop, M: Mapping<T>> Stage for Map<T, M>
+where
+    M::Out: OrderedValue + Drop,
+{
+    type In = T;
+
+    type Out = M::Out;
+
+    ghost ready = { λ s. M.ready s.mapping };
+
+    ghost expand = { λ s x. M.image s.mapping x ∷ [] };
+
+    ghost operation = { λ _. map_row };
+
+    ghost size_after = { λ _ size. size };
+
+    ghost flag_law = { λ s. KeepsSound-map T.order M.Out.order (M.image s.mapping) };
+
+    fn feed<K: Sink<M::Out>>(&self, x: T, sink: &mut K) -> Result<(), NoMemory> {
+        sink.take(self.mapping.image(&x)?)
+    }
+
+    fn operation(&self) -> Operation {
+        Operation::Map
+    }
+
+    fn size_after(&self, size: Option<u64>) -> Option<u64> {
+        size
+    }
+}
+
+/// The items that meet a test.
+#[derive(Drop)]
+pub struct Filter<T, P> {
+    test: P,
+    items: PhantomData<T>,
+}
+
+impl<T, P> Filter<T, P> {
+    pub fn new(test: P) -> Filter<T, P>
+        ensures { result.test ≡ test }
+    {
+        Filter {
+            test,
+            items: PhantomData,
+        }
+    }
+}
+
+impl<T: OrderedValue + Drop, P: Test<T>> Stage for Filter<T, P> {
+    type In = T;
+
+    type Out = T;
+
+    ghost ready = { λ s. P.ready s.test };
+
+    ghost expand = { λ s x. cond (P.holds s.test x) (x ∷ []) [] };
+
+    ghost operation = { λ _. filter_row };
+
+    ghost size_after = { λ _ _. None };
+
+    ghost flag_law = { λ s. KeepsSound-filter T.order (P.holds s.test) };
+
+    fn feed<K: Sink<T>>(&self, x: T, sink: &mut K) -> Result<(), NoMemory> {
+        if self.test.holds(&x) {
+            sink.take(x)
+        } else {
+            Ok(())
+        }
+    }
+
+    fn operation(&self) -> Operation {
+        Operation::Filter
+    }
+
+    fn size_after(&self, _size: Option<u64>) -> Option<u64> {
+        None
+    }
+}
+
+// Gives the items to a sink in turn, as long as they make a difference.
+fn take_each<T: Value + Drop, K: Sink<T>>(items: Vec<T>, sink: &mut K) -> Result<(), NoMemory>
+    requires { K.ready sink.old }
+    ensures taken { OnOk result (K.takes sink.old (map T.content items.items) sink.new) }
+    ensures spoilt { OnErr result (K.spoils sink.old sink.new) }
+{
+    for item in items {
+        if sink.is_full() {
+            return Ok(());
+        }
+        sink.take(item)?;
+    }
+    Ok(())
+}
+
+/// The items of a list of images in the place of each item.
+#[derive(Drop)]
+pub struct FlatMap<T, M> {
+    mapping: M,
+    items: PhantomData<T>,
+}
+
+impl<T, M> FlatMap<T, M> {
+    pub fn new(mapping: M) -> FlatMap<T, M>
+        ensures { result.mapping ≡ mapping }
+    {
+        FlatMap {
+            mapping,
+            items: PhantomData,
+        }
+    }
+}
+
+impl<T: OrderedValue + Drop, M: Mapping<T>> Stage for FlatMap<T, M>
+where
+    M::Out: ListValue,
+{
+    type In = T;
+
+    type Out = <M::Out as ListValue>::Item;
+
+    ghost ready = { λ s. M.ready s.mapping };
+
+    ghost expand = { λ s x. M.Out.items (M.image s.mapping x) };
+
+    ghost operation = { λ _. flat_map_row };
+
+    ghost size_after = { λ _ _. None };
+
+    ghost flag_law = { λ s. KeepsSound-flat_map T.order M.Out.Item.order (λ x. M.Out.items (M.image s.mapping x)) };
+
+    fn feed<K: Sink<<M::Out as ListValue>::Item>>(
+        &self,
+        x: T,
+        sink: &mut K,
+    ) -> Result<(), NoMemory> {
+        take_each(self.mapping.image(&x)?.into_items(), sink)
+    }
+
+    fn operation(&self) -> Operation {
+        Operation::FlatMap
+    }
+
+    fn size_after(&self, _size: Option<u64>) -> Option<u64> {
+        None
+    }
+}
+
+/// Each item as it is.
+#[derive(Drop)]
+pub struct Nothing<T> {
+    items: PhantomData<T>,
+}
+
+impl<T> Nothing<T> {
+    pub fn new() -> Nothing<T> {
+        Nothing { items: PhantomData }
+    }
+}
+
+impl<T: OrderedValue + Drop> Stage for Nothing<T> {
+    type In = T;
+
+    type Out = T;
+
+    ghost expand = { λ _ x. x ∷ [] };
+
+    ghost operation = { λ _. map_row };
+
+    ghost size_after = { λ _ size. size };
+
+    ghost flag_law = { λ _. KeepsSound-map T.order T.order (λ x. x) };
+
+    fn feed<K: Sink<T>>(&self, x: T, sink: &mut K) -> Result<(), NoMemory> {
+        sink.take(x)
+    }
+
+    fn operation(&self) -> Operation {
+        Operation::Map
+    }
+
+    fn size_after(&self, size: Option<u64>) -> Option<u64> {
+        size
+    }
+}
+
+/// One stage after another.
+#[derive(Drop)]
+pub struct Then<A, B> {
+    first: A,
+    second: B,
+}
+
+impl<A, B> Then<A, B> {
+    pub fn new(first: A, second: B) -> Then<A, B>
+        ensures first { result.first ≡ first }
+        ensures second { result.second ≡ second }
+    {
+        Then { first, second }
+    }
+}
+
+impl<A: Stage, B: Stage<In = A::Out>> Stage for Then<A, B> {
+    type In = A::In;
+
+    type Out = B::Out;
+
+    ghost ready = { λ s. A.ready s.first × B.ready s.second };
+
+    ghost expand = { λ s x. flat_map (B.expand s.second) (A.expand s.first x) };
+
+    ghost operation = { λ _. flat_map_row };
+
+    ghost size_after = { λ _ _. None };
+
+    ghost flag_law = { λ s. KeepsSound-flat_map A.In.order B.Out.order (λ x. flat_map (B.expand s.second) (A.expand s.first x)) };
+
+    fn feed<K: Sink<B::Out>>(&self, x: A::In, sink: &mut K) -> Result<(), NoMemory> {
+        let mut onward = Onward::new(&self.second, sink);
+        self.first.feed(x, &mut onward)
+    }
+
+    fn operation(&self) -> Operation {
+        Operation::FlatMap
+    }
+
+    fn size_after(&self, _size: Option<u64>) -> Option<u64> {
+        None
+    }
+}
