@@ -2,3 +2,4 @@ pub mod Rows
 pub mod Drawn
 pub mod Places
 pub mod Picked
+pub mod Filled

@@ -2,19 +2,12 @@
 use Rattle.std.proofs.Common.{◌≡◌, ◌<◌, ◌≤◌, ◌+◌, ◌++◌, ◌∷◌, ◌∙◌, ℕ, zero, suc, List, [], Option, Some, None, length, take, drop, ap, sym, refl, subst, arith, add-zero, length-append}
 use Rattle.std.proofs.lemmas.List.{take_all, length-take-le, length-drop, drop_all}
 use Rattle.barriers.specs.Needs.{Reaches}
-use Rattle.split_tree.specs.declared.tree.Tree.{Tree, Leaf, Node'}
-use Rattle.split_tree.specs.SplitTree.{leaf_numbers}
 use Rattle.stealing_pool.specs.Jobs.{Work, Combines}
 use Rattle.stealing_pool.specs.Gathers.{sum_from, AreKept, AreWanted, StandsForPart}
 
 pub reaches_more : (need : Option ℕ) (a b : ℕ) → a ≤ b → Reaches need a → Reaches need b
 reaches_more None a b le reached = reached
 reaches_more (Some r) a b le reached = omega arith
-
--- a tree has a leaf
-pub some_leaf : (tree : Tree) → 0 < length (leaf_numbers tree)
-some_leaf (Leaf i) = omega arith
-some_leaf (Node' p left q right) = let l = some_leaf left in let e = length-append (leaf_numbers left) (leaf_numbers right) in omega arith
 
 -- the sum over leaves is that over the first ones and that over those that follow
 pub sum_from-add : (count : ℕ → ℕ) (first m n : ℕ) → sum_from count first (m + n) ≡ sum_from count first m + sum_from count (first + m) n

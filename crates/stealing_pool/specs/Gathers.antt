@@ -1,7 +1,7 @@
 -- How what is kept of the leaves is put together.
 use Rattle.std.specs.Prelude.{◌≡◌, ◌<◌, ◌≤◌, ◌+◌, ◌≢◌, ◌⊎◌, ℕ, zero, suc, List, [], ◌∷◌, Option, Some, None, length, take, slice_index_or, slice_set}
 use Rattle.barriers.specs.Needs.{Reaches}
-use Rattle.leaf_board.specs.Words.{IsLawful, sum_below}
+use Rattle.leaf_board.specs.Case.{IsLawful, sum_below}
 use Rattle.stealing_pool.specs.Jobs.{Work, IsWithin}
 use Rattle.stealing_pool.specs.declared.job.Portion.{Portion}
 use Rattle.stealing_pool.specs.declared.worker.Ran.{Ran}

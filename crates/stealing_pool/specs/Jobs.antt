@@ -1,7 +1,7 @@
 -- A run of leaves, as contracts see it.
 use Rattle.std.specs.Prelude.{◌≡◌, ◌<◌, ◌≤◌, ◌+◌, ◌⊎◌, ℕ, Option, Some, None}
 use Rattle.barriers.specs.Needs.{Reaches}
-use Rattle.leaf_board.specs.Words.{IsLawful}
+use Rattle.leaf_board.specs.Case.{IsLawful}
 use Rattle.stealing_pool.specs.declared.job.LeafEnd.{LeafEnd}
 use Rattle.stealing_pool.specs.declared.job.LeafEnd.TheVariants.{Done, Cut}
 

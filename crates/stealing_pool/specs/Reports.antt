@@ -1,7 +1,7 @@
 -- What a run's record says of the leaves.
 use Rattle.std.specs.Prelude.{◌≡◌, ◌<◌, ◌≤◌, ◌+◌, ◌⊎◌, ℕ, Option, Some, None}
 use Rattle.barriers.specs.Needs.{Reaches}
-use Rattle.leaf_board.specs.Words.{IsLawful, sum_below}
+use Rattle.leaf_board.specs.Case.{IsLawful, sum_below}
 
 -- the leaf has a lawful count, or it has none and lies right of the cut
 abbrev pub Reported : Option ℕ → ℕ → ℕ → Option ℕ → Option ℕ → Type 0

@@ -1,7 +1,7 @@
 -- What a worker does with the leaves that it draws.
 use Rattle.std.specs.Prelude.{◌≡◌, ◌<◌, ◌+◌, ◌≢◌, ℕ, false, List, Option, Some, None, Result, Ok, Err, length, slice_index_or, All}
 use Rattle.barriers.specs.Needs.{Reaches}
-use Rattle.leaf_board.specs.Words.{IsLawful}
+use Rattle.leaf_board.specs.Case.{IsLawful}
 use Rattle.leaf_board.specs.Statuses.{Status, Unknown, Given, Published, Skipped, Turns}
 use Rattle.stealing_pool.specs.Jobs.{Work, IsWithin, IsCase}
 use Rattle.stealing_pool.specs.declared.worker.Ran.{Ran}

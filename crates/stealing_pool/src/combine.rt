@@ -1,7 +1,8 @@
 //! What is kept of the leaves is combined up the tree.
 ghost use Rattle.std.specs.Prelude.{◌≡◌, ◌<◌, length, drop, IfOk, OnOk};
 ghost use Rattle.split_tree.specs.SplitTree.{leaf_numbers};
-ghost use Rattle.stealing_pool.specs.Gathers.{StandsForPart};
+ghost use Rattle.stealing_pool.specs.Gathers.{IsRow, StandsForPart};
+ghost use Rattle.stealing_pool.specs.Jobs.{StandsForRun};
 
 use crate::job::LeafJob;
 use spliterator::NoMemory;
@@ -32,4 +33,19 @@ pub fn combine_node<J: LeafJob>(
     let following = combine_node(job, right, row)?;
     job.combine(&mut kept, following)?;
     Ok(kept)
+}
+
+/// Combines what is kept of the first leaves, on the caller's thread.
+pub fn combine_row<J: LeafJob>(
+    job: &J,
+    tree: &Tree,
+    row: Vec<J::Kept>,
+) -> Result<J::Kept, NoMemory>
+    requires ready { J.ready job.now }
+    requires tree { length (leaf_numbers tree.now) ≡ (J.work job.now).leaves }
+    requires row { IsRow (J.work job.now) row.items }
+    ensures { IfOk result (StandsForRun (J.work job.now)) }
+{
+    let mut row = row.into_iter();
+    combine_node(job, tree, &mut row)
 }

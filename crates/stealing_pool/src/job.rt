@@ -5,7 +5,7 @@ ghost use Rattle.leaf_board.specs.Statuses.{SameFrom, StaysSeat};
 ghost use Rattle.stealing_pool.specs.Jobs.{Work, EndsLeaf, Combines};
 
 use barriers::Need;
-use leaf_board::handout::Handout;
+use leaf_board::Handout;
 use spliterator::NoMemory;
 
 /// What is kept of a leaf, and how many of its items count.

@@ -6,6 +6,7 @@ mod crew;
 mod gate;
 mod gather;
 mod job;
+mod run;
 mod worker;
 
 pub use gate::{Gate, NoGate};

@@ -9,7 +9,7 @@ use crate::crew::Worker;
 use crate::gate::Gate;
 use crate::job::{LeafEnd, LeafJob, Portion};
 use barriers::Need;
-use leaf_board::handout::{Draw, Handout};
+use leaf_board::{Draw, Handout};
 use spliterator::NoMemory;
 use std::alloc::Global;
 

@@ -3,7 +3,8 @@ use Rattle.std.proofs.lemmas.List.{length-drop}
 use Rattle.std.proofs.lemmas.Bool.Decides.{nat_tests}
 use Rattle.split_tree.specs.SplitTree.{leaf_numbers}
 use Rattle.stealing_pool.specs.Gathers.{StandsForPart}
-use Rattle.stealing_pool.proofs.Rows.{stands_both, some_leaf}
+use Rattle.split_tree.specs.TreeLaws.{some_leaf}
+use Rattle.stealing_pool.proofs.Rows.{stands_both}
 use Rattle.stealing_pool.proofs.combine.+combine_node.Goals as goal
 
 pub returns-clause-kept : goal.returns-clause-kept

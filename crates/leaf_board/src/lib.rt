@@ -1,4 +1,0 @@
-//! A board that hands out leaves.
-#![tactic(auto)]
-
-pub mod handout;
