@@ -1,0 +1,13 @@
+pub mod Sums
+pub mod Shares
+pub mod Frame
+pub mod Moves
+pub mod Steps
+pub mod Drawing
+pub mod Allowed
+pub mod Calls
+pub mod Settle
+pub mod Ends
+pub mod Closing
+pub mod Gathering
+pub mod Handing

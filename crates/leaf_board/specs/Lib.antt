@@ -1,0 +1,10 @@
+pub mod Case
+pub mod Statuses
+pub mod Knowledge
+pub mod Rule
+pub mod Plays
+pub mod Seats
+pub mod Closing
+pub mod Hands
+pub mod Records
+pub mod Boards
