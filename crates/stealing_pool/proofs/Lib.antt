@@ -3,3 +3,4 @@ pub mod Drawn
 pub mod Places
 pub mod Picked
 pub mod Filled
+pub mod Fronts

@@ -6,8 +6,18 @@ mod crew;
 mod gate;
 mod gather;
 mod job;
+mod keeper;
+mod leaf;
+mod report;
 mod run;
+mod job_run;
+mod plan_run;
+mod stretch;
 mod worker;
 
 pub use gate::{Gate, NoGate};
 pub use job::{LeafEnd, LeafJob, Portion};
+pub use leaf::run_leaf;
+pub use report::{RunEntry, RunReport};
+pub use job_run::{Gathered, run_job};
+pub use plan_run::run_leaves;
