@@ -81,7 +81,7 @@ module _ {T C A : Type 0} (f : Folding T C) (content : A → C) (lists : List (L
   spans-combine left right both combines from middle to count more before after (front, rest, split, folds, counts, inl none) under (front', rest', split', folds', counts', end) =
       let left_list : joined (drop from (take middle lists)) ≡ front = split ∙ ap (λ l. front ++ l) none ∙ append-nil front in
       let list : joined (drop from (take to lists)) ≡ (front ++ front') ++ rest' =
-          ap joined (span-split from middle to lists before after) ∙ joined-append (drop from (take middle lists)) (drop middle (take to lists)) ∙ ap (λ l. l ++ joined (drop middle (take to lists))) left_list ∙ ap (λ l. front ++ l) split' ∙ sym (append_assoc front front' rest') in
+      ap joined (span-split from middle to lists before after) ∙ joined-append (drop from (take middle lists)) (drop middle (take to lists)) ∙ ap (λ l. l ++ joined (drop middle (take to lists))) left_list ∙ ap (λ l. front ++ l) split' ∙ sym (append_assoc front front' rest') in
       let sum = sum_by-append (λ y. cond (f.counted y) 1 0) front front' in (
         front ++ front',
         rest',
@@ -96,7 +96,7 @@ module _ {T C A : Type 0} (f : Folding T C) (content : A → C) (lists : List (L
   run-front kept (to, count, within, (front, rest, split, folds, counts, end), last) =
       let after : List T = joined (drop to lists) in
       let whole : joined lists ≡ front ++ (rest ++ after) =
-          ap joined (sym (take-append-drop to lists)) ∙ joined-append (take to lists) (drop to lists) ∙ ap (λ l. l ++ after) split ∙ append_assoc front rest after in
+      ap joined (sym (take-append-drop to lists)) ∙ joined-append (take to lists) (drop to lists) ∙ ap (λ l. l ++ after) split ∙ append_assoc front rest after in
       let R : ℕ → Type 0 = λ n. Reaches f.needed n in
       elim last [
         | inr enough ↦ (front, (rest ++ after, whole, inr (subst R counts enough)), folds)

@@ -5,8 +5,8 @@ ghost use Rattle.stealing_pool.specs.Gathers.{IsRow, StandsForPart};
 ghost use Rattle.stealing_pool.specs.Jobs.{StandsForRun};
 
 use crate::job::LeafJob;
-use spliterator::NoMemory;
 use split_tree::Tree;
+use spliterator::NoMemory;
 use std::vec::IntoIter;
 
 /// Combines what is kept of a node's leaves, as far as the row goes.
@@ -36,11 +36,7 @@ pub fn combine_node<J: LeafJob>(
 }
 
 /// Combines what is kept of the first leaves, on the caller's thread.
-pub fn combine_row<J: LeafJob>(
-    job: &J,
-    tree: &Tree,
-    row: Vec<J::Kept>,
-) -> Result<J::Kept, NoMemory>
+pub fn combine_row<J: LeafJob>(job: &J, tree: &Tree, row: Vec<J::Kept>) -> Result<J::Kept, NoMemory>
     requires ready { J.ready job.now }
     requires tree { length (leaf_numbers tree.now) ≡ (J.work job.now).leaves }
     requires row { IsRow (J.work job.now) row.items }

@@ -6,18 +6,20 @@ mod crew;
 mod gate;
 mod gather;
 mod job;
+mod job_run;
 mod keeper;
 mod leaf;
+mod plan_run;
 mod report;
 mod run;
-mod job_run;
-mod plan_run;
 mod stretch;
+#[cfg(test)]
+mod tests;
 mod worker;
 
 pub use gate::{Gate, NoGate};
 pub use job::{LeafEnd, LeafJob, Portion};
-pub use leaf::run_leaf;
-pub use report::{RunEntry, RunReport};
 pub use job_run::{Gathered, run_job};
+pub use leaf::run_leaf;
 pub use plan_run::run_leaves;
+pub use report::{RunEntry, RunReport};

@@ -7,13 +7,13 @@ ghost use Rattle.stealing_pool.specs.Reports.{Reports};
 
 use crate::gate::Gate;
 use crate::job::{LeafEnd, LeafJob};
-use crate::leaf::run_leaf;
 use crate::job_run::{Gathered, run_job};
+use crate::leaf::run_leaf;
 use barriers::{Demand, Need};
 use collectors::{Collector, combine_containers};
 use leaf_board::Handout;
-use spliterator::{NoMemory, Spliterator};
 use split_tree::Plan;
+use spliterator::{NoMemory, Spliterator};
 use stages::Stage;
 use std::alloc::Global;
 use std::thread::Threads;
@@ -28,8 +28,7 @@ struct PlanJob<'a, S, G, D, C> {
 }
 
 impl<S: Spliterator, G: Stage<In = S::Item>, D: Demand<G::Out>, C: Collector<Item = G::Out>> LeafJob
-    for PlanJob<'_, S, G, D, C>
-{
+    for PlanJob<'_, S, G, D, C> {
     type Kept = C::Acc;
 
     ghost ready = { λ j. G.ready j.stage.now × D.ready j.demand.now × C.ready j.collector.now };

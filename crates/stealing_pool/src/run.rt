@@ -12,8 +12,8 @@ use crate::gather::{pick_row, sort_shifts};
 use crate::job::LeafJob;
 use crate::worker::Crew;
 use leaf_board::LeafBoard;
-use spliterator::NoMemory;
 use split_tree::Tree;
+use spliterator::NoMemory;
 use std::alloc::Global;
 use std::thread::Threads;
 
@@ -25,12 +25,7 @@ pub struct Closed<K, R> {
 }
 
 /// Runs the leaves over a board and all its seats, and gathers what is kept of them.
-pub fn run_on<
-    R: Threads + Sync,
-    B: LeafBoard + Sync,
-    J: LeafJob + Sync,
-    H: Gate + Sync,
->(
+pub fn run_on<R: Threads + Sync, B: LeafBoard + Sync, J: LeafJob + Sync, H: Gate + Sync>(
     rt: &R,
     alloc: Global,
     tree: &Tree,

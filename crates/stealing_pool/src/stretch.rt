@@ -36,12 +36,7 @@ fn feed_stretch<S: Spliterator, G: Stage<In = S::Item>, K: Sink<G::Out>>(
 }
 
 /// Feeds what the source covers to a sink, until no more makes a difference, or the leaf is cut. Says whether it wasn't cut.
-pub(crate) fn feed_until_cut<
-    B: Handout,
-    S: Spliterator,
-    G: Stage<In = S::Item>,
-    K: Sink<G::Out>,
->(
+pub(crate) fn feed_until_cut<B: Handout, S: Spliterator, G: Stage<In = S::Item>, K: Sink<G::Out>>(
     stage: &G,
     source: S,
     sink: &mut K,

@@ -16,10 +16,10 @@ returns-clause-kept g t c =
     let m = length (leaf_numbers left) in
     let n = length (leaf_numbers right) in
     let size : length (leaf_numbers c.args.tree.now) ≡ m + n =
-        (let l : length (leaf_numbers left) ≡ length (leaf_numbers c.in-Node.left.value) = ap (λ tree. length (leaf_numbers tree)) c.deref.ensures in
-        let r : length (leaf_numbers right) ≡ length (leaf_numbers c.in-Node.right.value) = ap (λ tree. length (leaf_numbers tree)) c.deref-2.ensures in
-        let whole = ap (λ tree. length (leaf_numbers tree)) c.in-Node.is ∙ length-append (leaf_numbers c.in-Node.left.value) (leaf_numbers c.in-Node.right.value) in
-        omega arith) in
+    (let l : length (leaf_numbers left) ≡ length (leaf_numbers c.in-Node.left.value) = ap (λ tree. length (leaf_numbers tree)) c.deref.ensures in
+    let r : length (leaf_numbers right) ≡ length (leaf_numbers c.in-Node.right.value) = ap (λ tree. length (leaf_numbers tree)) c.deref-2.ensures in
+    let whole = ap (λ tree. length (leaf_numbers tree)) c.in-Node.is ∙ length-append (leaf_numbers c.in-Node.left.value) (leaf_numbers c.in-Node.right.value) in
+    omega arith) in
     let rest : length c.combine_node.new.row.rest.items ≡ length row - m = ap length c.in_ok-kept.ensures.rest ∙ length-drop m row in
     let counted = c.len.ensures.value in
     let some : 0 < length c.combine_node.new.row.rest.items = let f = c.if-len-eq0.false in grind (arith, nat_tests) in
