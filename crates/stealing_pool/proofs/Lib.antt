@@ -4,3 +4,4 @@ pub mod Places
 pub mod Picked
 pub mod Filled
 pub mod Fronts
+pub mod Forks

@@ -2,6 +2,8 @@
 use Rattle.std.specs.Prelude.{◌≡◌, ◌<◌, ◌≤◌, ◌+◌, ◌≢◌, ◌⊎◌, ℕ, zero, suc, List, [], ◌∷◌, Option, Some, None, length, take, slice_index_or, slice_set}
 use Rattle.barriers.specs.Needs.{Reaches}
 use Rattle.leaf_board.specs.Case.{IsLawful, sum_below}
+use Rattle.split_tree.specs.declared.tree.Tree.{Tree}
+use Rattle.split_tree.specs.SplitTree.{leaf_numbers, numbers_from}
 use Rattle.stealing_pool.specs.Jobs.{Work, IsWithin}
 use Rattle.stealing_pool.specs.declared.job.Portion.{Portion}
 use Rattle.stealing_pool.specs.declared.worker.Ran.{Ran}
@@ -29,6 +31,10 @@ HoldsLeaves work places = (i : ℕ) (d : Option (Portion _)) → i < work.leaves
 abbrev pub HasLeaves : {A : Type 0} → Work A → List (Option (Portion A)) → Type 0
 HasLeaves work places =
     (i : ℕ) (d : Option (Portion _)) → i < work.leaves → (slice_index_or places i d ≢ None) ⊎ ((c : ℕ) × (c < i) × Reaches work.needed (sum_below work.full (c + 1)))
+
+-- the leaves of the tree are numbered one after another
+abbrev pub IsNumbered : Tree → Type 0
+IsNumbered tree = (first : ℕ) × (leaf_numbers tree ≡ numbers_from first (length (leaf_numbers tree)))
 
 -- the sum of the counts of so many leaves from one number on
 abbrev pub sum_from : (ℕ → ℕ) → ℕ → ℕ → ℕ

@@ -31,7 +31,8 @@ fn run_case<K: Case + Send + Sync, R: Threads + Sync, J: LeafJob + Sync, H: Gate
     alloc: Global,
     tree: &Tree,
     job: &J,
-    workers: usize,
+    workers: u32,
+    seats: usize,
     gate: &H,
 ) -> Result<Gathered<J::Kept>, NoMemory>
 where
@@ -39,13 +40,14 @@ where
     requires ready { J.ready job.now }
     requires tree { leaf_numbers tree.now ≡ numbers_from 0 (J.work job.now).leaves }
     requires few { (J.work job.now).leaves ≤ 65536 }
-    requires case { K.case ≡ case_of (J.work job.now) workers }
-    requires workers { (0 < workers) × (workers ≤ 64) }
+    requires case { K.case ≡ case_of (J.work job.now) seats }
+    requires workers { 0 < workers }
+    requires seats { (0 < seats) × (seats ≤ 64) }
     ensures entry { IfOk result (λ g. Reports (J.work job.now).needed (J.work job.now).leaves (J.work job.now).full g.entry.leaves (count_of g.entry) (cut_of g.entry)) }
     ensures stands { IfOk result (λ g. StandsForRun (J.work job.now) g.acc) }
 {
-    let (board, seats) = Board::<K>::new(alloc, job.leaves(), job.need(), workers)?;
-    let Closed { kept, record } = run_on(rt, alloc, tree, job, gate, board, seats)?;
+    let (board, dealt) = Board::<K>::new(alloc, job.leaves(), job.need(), seats)?;
+    let Closed { kept, record } = run_on(rt, alloc, tree, job, workers, gate, board, dealt)?;
     Ok(Gathered {
         acc: kept,
         entry: RunEntry::of(record),
@@ -84,5 +86,5 @@ where
     ensures stands { IfOk result (λ g. StandsForRun (J.work job.now) g.acc) }
 {
     let seats = seat_count(workers, job.leaves());
-    run_case::<Brand, R, J, H>(rt, alloc, tree, job, seats, gate)
+    run_case::<Brand, R, J, H>(rt, alloc, tree, job, workers, seats, gate)
 }

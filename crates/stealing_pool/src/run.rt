@@ -1,7 +1,7 @@
 //! The workers run at the same time, each on a seat of its own, and what they kept is gathered.
 ghost use Rattle.std.specs.Prelude.{◌≡◌, ◌<◌, ℕ, length, IfOk, slice_index_or};
 ghost use Rattle.leaf_board.specs.Statuses.{Unknown, AreSeats};
-ghost use Rattle.split_tree.specs.SplitTree.{leaf_numbers};
+ghost use Rattle.split_tree.specs.SplitTree.{leaf_numbers, numbers_from};
 ghost use Rattle.stealing_pool.specs.Jobs.{IsCase, StandsForRun};
 ghost use Rattle.stealing_pool.specs.Reports.{Reports};
 
@@ -30,6 +30,7 @@ pub fn run_on<R: Threads + Sync, B: LeafBoard + Sync, J: LeafJob + Sync, H: Gate
     alloc: Global,
     tree: &Tree,
     job: &J,
+    workers: u32,
     gate: &H,
     board: B,
     seats: Vec<B::Seat>,
@@ -38,7 +39,8 @@ where
     B::Seat: Send,
     J::Kept: Send,
     requires ready { J.ready job.now }
-    requires tree { length (leaf_numbers tree.now) ≡ (J.work job.now).leaves }
+    requires tree { leaf_numbers tree.now ≡ numbers_from 0 (J.work job.now).leaves }
+    requires workers { 0 < workers }
     requires case { IsCase (J.work job.now) (B.leaves board) (B.full board) (B.need board) }
     requires all { AreSeats (B.is_of board) B.number (B.seat_count board) seats.items }
     requires some { 0 < length seats.items }
@@ -56,6 +58,6 @@ where
     let (seats, places) = sort_shifts(alloc, job.leaves(), shifts)?;
     let record = board.close(seats);
     let row = pick_row(alloc, job, places)?;
-    let kept = combine_row(job, tree, row)?;
+    let kept = combine_row(rt, job, tree, workers, row)?;
     Ok(Closed { kept, record })
 }

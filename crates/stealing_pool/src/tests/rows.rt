@@ -3,7 +3,7 @@ ghost use Rattle.std.specs.Prelude.{◌≤◌};
 
 use super::gates::{FirstWithin, HoldsFirst, Meeting, SecondFirst};
 use super::plan_of;
-use super::watched::{Above, Itself, RefusesAt, Watched};
+use super::watched::{Above, Itself, MeetingLists, RefusesAt, Watched};
 use crate::{NoGate, RunReport, run_leaves};
 use barriers::{FirstHit, Total, Whole};
 use collectors::{Counting, First, SummingLong, ToList};
@@ -12,7 +12,7 @@ use split_tree::Plan;
 use spliterator::NoMemory;
 use stages::{Filter, Map, Nothing};
 use std::alloc::Global;
-use std::sync::atomic::Ordering;
+use std::sync::atomic::{AtomicU64, Ordering};
 use std::test::Fail;
 use std::thread::Threads;
 
@@ -126,6 +126,55 @@ fn one_worker_meets_no_other(rt: HostRuntime) -> Result<(), Fail> {
     )?;
     assert_eq!(rt; run.acc, 4950);
     assert_eq!(rt; gate.missed.load(Ordering::SeqCst), 1);
+    Ok(())
+}
+
+#[test]
+fn two_children_are_combined_at_once(rt: HostRuntime) -> Result<(), Fail> {
+    let alloc = rt.alloc();
+    let plan = plan_of(alloc, 4, 2, 1)?;
+    let lists = MeetingLists {
+        alloc,
+        entered: AtomicU64::new(0),
+        missed: AtomicU64::new(0),
+    };
+    let run = run_leaves(
+        &rt,
+        alloc,
+        &plan,
+        &Nothing::new(),
+        &Whole,
+        &lists,
+        2,
+        &NoGate,
+    )?;
+    assert_eq!(rt; run.acc.as_slice(), [0, 1, 2, 3].as_slice());
+    assert_eq!(rt; lists.missed.load(Ordering::SeqCst), 0);
+    Ok(())
+}
+
+// One worker combines alone, so the first call of `combine` waits in vain.
+#[test]
+fn one_worker_combines_alone(rt: HostRuntime) -> Result<(), Fail> {
+    let alloc = rt.alloc();
+    let plan = plan_of(alloc, 4, 1, 1)?;
+    let lists = MeetingLists {
+        alloc,
+        entered: AtomicU64::new(0),
+        missed: AtomicU64::new(0),
+    };
+    let run = run_leaves(
+        &rt,
+        alloc,
+        &plan,
+        &Nothing::new(),
+        &Whole,
+        &lists,
+        1,
+        &NoGate,
+    )?;
+    assert_eq!(rt; run.acc.as_slice(), [0, 1, 2, 3].as_slice());
+    assert_eq!(rt; lists.missed.load(Ordering::SeqCst), 1);
     Ok(())
 }
 

@@ -1,9 +1,13 @@
 //! Functions of stages and collectors that tests watch.
-ghost use Rattle.std.specs.Prelude.{int_lt, pos};
+ghost use Rattle.std.specs.Prelude.{◌≡◌, ℤ, List, [], ◌++◌, int_lt, pos};
+ghost use Rattle.collectors.specs.NestedLaws.{push, list_laws};
+ghost use Rattle.spliterator.specs.Values.{IsI64};
 
 use super::gates::wait_for;
+use collectors::Collector;
 use spliterator::NoMemory;
 use stages::{Mapping, Test};
+use std::alloc::Global;
 use std::sync::atomic::{AtomicU64, Ordering};
 
 /// Each number as it is.
@@ -79,5 +83,57 @@ impl Test<i64> for Watched<'_> {
             self.missed.fetch_add(1, Ordering::SeqCst);
         }
         *x < 1
+    }
+}
+
+/// Lists as `ToList` does. The first two calls of `combine` each turn until the other has been entered.
+#[derive(Drop)]
+pub struct MeetingLists {
+    pub alloc: Global,
+    pub entered: AtomicU64,
+    pub missed: AtomicU64,
+}
+
+impl Collector for MeetingLists {
+    type Item = i64;
+
+    type Acc = Vec<i64>;
+
+    type Out = Vec<i64>;
+
+    ghost Content = { List ℤ };
+
+    ghost content = { λ _ v. v.items };
+
+    ghost empty = { λ _. [] };
+
+    ghost add = { λ _. push };
+
+    ghost merge = { λ _ l r. l ++ r };
+
+    ghost gives = { λ _ l v. v.items ≡ l };
+
+    ghost laws = { λ _. list_laws IsI64 };
+
+    fn supply(&self) -> Result<Vec<i64>, NoMemory> {
+        Ok(Vec::new(self.alloc))
+    }
+
+    fn accumulate(&self, acc: &mut Vec<i64>, x: &i64) -> Result<(), NoMemory> {
+        acc.push(*x)?;
+        Ok(())
+    }
+
+    fn combine(&self, left: &mut Vec<i64>, mut right: Vec<i64>) -> Result<(), NoMemory> {
+        let earlier = self.entered.fetch_add(1, Ordering::SeqCst);
+        if earlier < 2 && !wait_for(&self.entered, 2) {
+            self.missed.fetch_add(1, Ordering::SeqCst);
+        }
+        left.append(&mut right)?;
+        Ok(())
+    }
+
+    fn finish(&self, acc: Vec<i64>) -> Result<Vec<i64>, NoMemory> {
+        Ok(acc)
     }
 }

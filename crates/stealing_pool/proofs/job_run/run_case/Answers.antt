@@ -13,13 +13,10 @@ new-requires-clause-limits g c =
     let all = c.leaves.ensures in
     let few = c.requires.few in
     let P : Option ℕ → Type 0 = λ need. IsBelow need (2 ^ 63) in
-    (omega arith, omega arith, c.requires.workers.0, c.requires.workers.1, subst P (sym c.need.ensures.is) c.need.ensures.fits)
-
-pub run_on-requires-clause-tree : goal.run_on-requires-clause-tree
-run_on-requires-clause-tree g c κs lives = ap length c.requires.tree ∙ length-numbers_from 0 (g.J.LeafJob.work c.args.job.now).leaves
+    (omega arith, omega arith, c.requires.seats.0, c.requires.seats.1, subst P (sym c.need.ensures.is) c.need.ensures.fits)
 
 pub run_on-requires-clause-all : goal.run_on-requires-clause-all
-run_on-requires-clause-all g c κs lives = new_seats g.K.Case.case c.in_ok-board.board c.in_ok-board.seats.items c.in_ok-board.ensures
+run_on-requires-clause-all g c κs lives = new_seats g.K.Case.case c.in_ok-board.board c.in_ok-board.dealt.items c.in_ok-board.ensures
 
 pub run_on-requires-clause-fresh : goal.run_on-requires-clause-fresh
-run_on-requires-clause-fresh g c κs lives = new_fresh g.K.Case.case c.in_ok-board.board c.in_ok-board.seats.items c.in_ok-board.ensures
+run_on-requires-clause-fresh g c κs lives = new_fresh g.K.Case.case c.in_ok-board.board c.in_ok-board.dealt.items c.in_ok-board.ensures

@@ -1,5 +1,6 @@
-use Rattle.std.proofs.Common.{◌≡◌, ◌<◌, ◌≤◌, ◌∙◌, ℕ, length, arith}
-use Rattle.split_tree.specs.TreeLaws.{some_leaf}
+use Rattle.std.proofs.Common.{◌≡◌, ◌<◌, ◌≤◌, ◌∙◌, ℕ, ap, length, arith}
+use Rattle.split_tree.specs.TreeLaws.{some_leaf, length-numbers_from}
+use Rattle.split_tree.specs.SplitTree.{leaf_numbers}
 use Rattle.stealing_pool.proofs.Places.{shifts_within, shifts_seats, placed_len, placed_holds}
 use Rattle.stealing_pool.proofs.Filled.{all_filled, all_reported}
 use Rattle.stealing_pool.proofs.run.run_on.Goals as goal
@@ -19,7 +20,11 @@ pub pick_row-requires-clause-all : goal.pick_row-requires-clause-all
 pick_row-requires-clause-all g c = placed_len c.leaves.result c.in_ok-shifts.shifts.items c.in_ok-seats.places.items c.in_ok-seats.ensures.places ∙ c.leaves.ensures
 
 pub pick_row-requires-clause-some : goal.pick_row-requires-clause-some
-pick_row-requires-clause-some g c = let t = c.requires.tree in let s = some_leaf c.args.tree.now in omega arith
+pick_row-requires-clause-some g c =
+    let work = g.J.LeafJob.work c.args.job.now in
+    let size : length (leaf_numbers c.args.tree.now) ≡ work.leaves = ap length c.requires.tree ∙ length-numbers_from 0 work.leaves in
+    let some = some_leaf c.args.tree.now in
+    omega arith
 
 pub pick_row-requires-clause-holds : goal.pick_row-requires-clause-holds
 pick_row-requires-clause-holds g c =
