@@ -1,5 +1,5 @@
-//! What a collector is, and what its laws give.
-ghost use Rattle.std.specs.Prelude.{◌≡◌, List, ◌++◌, All, IfOk, OnOk, fold, map, ⊤};
+//! What a collector is.
+ghost use Rattle.std.specs.Prelude.{◌≡◌, List, All, IfOk, OnOk, fold, ⊤};
 ghost use Rattle.collectors.specs.Laws.{CollectorLaws};
 
 use spliterator::{NoMemory, Value};
@@ -56,41 +56,4 @@ pub trait Collector {
         ensures { (l : List Self.Item.Content) → All Self.Item.is_value l → content self.now acc ≡ fold (add self.now) (empty self.now) l → IfOk result (gives self.now l) };
 
     ghost laws: { (c : Self) → CollectorLaws Self.Item.is_value (empty c) (add c) (merge c) };
-}
-
-/// Takes the items of a slice into a new container, one after another.
-pub fn fold_items<C: Collector>(collector: &C, items: &[C::Item]) -> Result<C::Acc, NoMemory>
-    requires { C.ready collector.now }
-    ensures { IfOk result (λ acc. C.content collector.now acc ≡ fold (C.add collector.now) (C.empty collector.now) (map C.Item.content items.now)) }
-{
-    let mut acc = collector.supply()?;
-    for x in items {
-        collector.accumulate(&mut acc, x)?;
-    }
-    Ok(acc)
-}
-
-/// Combines the containers of two lists of values: the outcome is the container of the one list followed by the other.
-pub fn combine_containers<C: Collector>(
-    collector: &C,
-    left: &mut C::Acc,
-    right: C::Acc,
-) -> Result<(), NoMemory>
-    requires { C.ready collector.now }
-    ensures { (l : List C.Item.Content) (r : List C.Item.Content) → All C.Item.is_value l → All C.Item.is_value r → C.content collector.now left.old ≡ fold (C.add collector.now) (C.empty collector.now) l → C.content collector.now right ≡ fold (C.add collector.now) (C.empty collector.now) r → OnOk result (C.content collector.now left.new ≡ fold (C.add collector.now) (C.empty collector.now) (l ++ r)) }
-{
-    collector.combine(left, right)
-}
-
-/// The result on the items of a slice.
-pub fn collect<C: Collector>(collector: &C, items: &[C::Item]) -> Result<C::Out, NoMemory>
-    requires { C.ready collector.now }
-    ensures { IfOk result (C.gives collector.now (map C.Item.content items.now)) }
-{
-    let mut acc = collector.supply()?;
-    for x in items {
-        let _value = x.is_value();
-        collector.accumulate(&mut acc, x)?;
-    }
-    collector.finish(acc)
 }

@@ -8,18 +8,30 @@ use indexmap::IndexMap;
 use spliterator::NoMemory;
 use stages::Mapping;
 use std::alloc::Global;
-use std::hash::Hash;
+use std::hash::{BuildHasher, BuildHasherDefault, FoldHasher, Hash};
 
 /// For each key the downstream result over the items with that key. The keys stand in the order of their first item.
 #[derive(Drop)]
-pub struct GroupingBy<K, D> {
+pub struct GroupingBy<K, D, S = BuildHasherDefault<FoldHasher>> {
     alloc: Global,
     key: K,
     downstream: D,
+    hash_builder: S,
 }
 
 impl<K, D> GroupingBy<K, D> {
+    /// Groups by a hasher of a fixed seed, for keys that no stranger chooses.
     pub fn new(alloc: Global, key: K, downstream: D) -> GroupingBy<K, D>
+        ensures key { result.key ≡ key }
+        ensures downstream { result.downstream ≡ downstream }
+    {
+        GroupingBy::with_hasher(alloc, key, downstream, BuildHasherDefault::new())
+    }
+}
+
+impl<K, D, S> GroupingBy<K, D, S> {
+    /// Groups by the given hasher, as by a `RandomState` where strangers choose the keys.
+    pub fn with_hasher(alloc: Global, key: K, downstream: D, hash_builder: S) -> GroupingBy<K, D, S>
         ensures key { result.key ≡ key }
         ensures downstream { result.downstream ≡ downstream }
     {
@@ -27,19 +39,20 @@ impl<K, D> GroupingBy<K, D> {
             alloc,
             key,
             downstream,
+            hash_builder,
         }
     }
 }
 
-impl<D: Collector, K: Mapping<D::Item>> Collector for GroupingBy<K, D>
+impl<D: Collector, K: Mapping<D::Item>, S: BuildHasher + Copy> Collector for GroupingBy<K, D, S>
 where
     K::Out: Hash + Drop,
 {
     type Item = D::Item;
 
-    type Acc = IndexMap<K::Out, D::Acc>;
+    type Acc = IndexMap<K::Out, D::Acc, S>;
 
-    type Out = IndexMap<K::Out, D::Out>;
+    type Out = IndexMap<K::Out, D::Out, S>;
 
     ghost ready = { λ c. K.ready c.key × D.ready c.downstream };
 
@@ -57,11 +70,15 @@ where
 
     ghost laws = { λ c. grouping_laws K.Out.same K.Out.same_decides (K.image c.key) D.Item.is_value (D.empty c.downstream) (D.add c.downstream) (D.merge c.downstream) (D.laws c.downstream) };
 
-    fn supply(&self) -> Result<IndexMap<K::Out, D::Acc>, NoMemory> {
-        Ok(IndexMap::new(self.alloc))
+    fn supply(&self) -> Result<IndexMap<K::Out, D::Acc, S>, NoMemory> {
+        Ok(IndexMap::with_hasher(self.alloc, self.hash_builder))
     }
 
-    fn accumulate(&self, acc: &mut IndexMap<K::Out, D::Acc>, x: &D::Item) -> Result<(), NoMemory> {
+    fn accumulate(
+        &self,
+        acc: &mut IndexMap<K::Out, D::Acc, S>,
+        x: &D::Item,
+    ) -> Result<(), NoMemory> {
         let key = self.key.image(x)?;
         if let Some(kept) = acc.get_mut(&key) {
             return self.downstream.accumulate(kept, x);
@@ -74,8 +91,8 @@ where
 
     fn combine(
         &self,
-        left: &mut IndexMap<K::Out, D::Acc>,
-        right: IndexMap<K::Out, D::Acc>,
+        left: &mut IndexMap<K::Out, D::Acc, S>,
+        right: IndexMap<K::Out, D::Acc, S>,
     ) -> Result<(), NoMemory> {
         for (key, kept) in right {
             match left.get_mut(&key) {
@@ -88,8 +105,11 @@ where
         Ok(())
     }
 
-    fn finish(&self, acc: IndexMap<K::Out, D::Acc>) -> Result<IndexMap<K::Out, D::Out>, NoMemory> {
-        let mut results = IndexMap::new(self.alloc);
+    fn finish(
+        &self,
+        acc: IndexMap<K::Out, D::Acc, S>,
+    ) -> Result<IndexMap<K::Out, D::Out, S>, NoMemory> {
+        let mut results = IndexMap::with_hasher(self.alloc, self.hash_builder);
         for (key, kept) in acc {
             let result = self.downstream.finish(kept)?;
             results.insert(key, result)?;

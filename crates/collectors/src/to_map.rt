@@ -10,22 +10,48 @@ use indexmap::IndexMap;
 use spliterator::{NoMemory, Value};
 use stages::{Mapping, Operator};
 use std::alloc::Global;
-use std::hash::Hash;
+use std::hash::{BuildHasher, BuildHasherDefault, FoldHasher, Hash};
 use std::marker::PhantomData;
 
 /// For each key the values of its items, merged from left to right. The keys stand in the order of their first item.
 #[derive(Drop)]
-pub struct ToMap<T: Value, K, V: Mapping<T>, M: Operator<V::Out>> {
+pub struct ToMap<
+    T: Value,
+    K,
+    V: Mapping<T>,
+    M: Operator<V::Out>,
+    S = BuildHasherDefault<FoldHasher>,
+> {
     alloc: Global,
     key: K,
     value: V,
     merge: M,
+    hash_builder: S,
     items: PhantomData<T>,
     ghost associative: { TestsAssociative V.Out.same V.Out.is_value (M.join merge) },
 }
 
 impl<T: Value, K, V: Mapping<T>, M: Operator<V::Out>> ToMap<T, K, V, M> {
+    /// A map that hashes by a fixed seed, for keys that no stranger chooses.
     pub fn new(alloc: Global, key: K, value: V, merge: M) -> ToMap<T, K, V, M>
+        requires { IsAssociative V.Out.is_value (M.join merge) }
+        ensures key { result.key ≡ key }
+        ensures value { result.value ≡ value }
+        ensures merge { result.merge ≡ merge }
+    {
+        ToMap::with_hasher(alloc, key, value, merge, BuildHasherDefault::new())
+    }
+}
+
+impl<T: Value, K, V: Mapping<T>, M: Operator<V::Out>, S> ToMap<T, K, V, M, S> {
+    /// A map that hashes as it is told, as by a `RandomState` where strangers choose the keys.
+    pub fn with_hasher(
+        alloc: Global,
+        key: K,
+        value: V,
+        merge: M,
+        hash_builder: S,
+    ) -> ToMap<T, K, V, M, S>
         requires { IsAssociative V.Out.is_value (M.join merge) }
         ensures key { result.key ≡ key }
         ensures value { result.value ≡ value }
@@ -36,21 +62,23 @@ impl<T: Value, K, V: Mapping<T>, M: Operator<V::Out>> ToMap<T, K, V, M> {
             key,
             value,
             merge,
+            hash_builder,
             items: PhantomData,
         }
     }
 }
 
-impl<T: Value, K: Mapping<T>, V: Mapping<T>, M: Operator<V::Out>> Collector for ToMap<T, K, V, M>
+impl<T: Value, K: Mapping<T>, V: Mapping<T>, M: Operator<V::Out>, S: BuildHasher + Copy> Collector
+    for ToMap<T, K, V, M, S>
 where
     K::Out: Hash + Drop,
     V::Out: Drop,
 {
     type Item = T;
 
-    type Acc = IndexMap<K::Out, V::Out>;
+    type Acc = IndexMap<K::Out, V::Out, S>;
 
-    type Out = IndexMap<K::Out, V::Out>;
+    type Out = IndexMap<K::Out, V::Out, S>;
 
     ghost ready = { λ c. K.ready c.key × V.ready c.value × M.ready c.merge };
 
@@ -68,11 +96,11 @@ where
 
     ghost laws = { λ c. map_laws K.Out.same K.Out.same_decides (K.image c.key) (V.image c.value) (M.join c.merge) T.is_value V.Out.is_value (V.images_are_values c.value) (M.joins_are_values c.merge) (associative-tested V.Out.same V.Out.same_decides V.Out.is_value (M.join c.merge) c.associative) };
 
-    fn supply(&self) -> Result<IndexMap<K::Out, V::Out>, NoMemory> {
-        Ok(IndexMap::new(self.alloc))
+    fn supply(&self) -> Result<IndexMap<K::Out, V::Out, S>, NoMemory> {
+        Ok(IndexMap::with_hasher(self.alloc, self.hash_builder))
     }
 
-    fn accumulate(&self, acc: &mut IndexMap<K::Out, V::Out>, x: &T) -> Result<(), NoMemory> {
+    fn accumulate(&self, acc: &mut IndexMap<K::Out, V::Out, S>, x: &T) -> Result<(), NoMemory> {
         let key = self.key.image(x)?;
         let value = self.value.image(x)?;
         if let Some(earlier) = acc.get_mut(&key) {
@@ -85,8 +113,8 @@ where
 
     fn combine(
         &self,
-        left: &mut IndexMap<K::Out, V::Out>,
-        right: IndexMap<K::Out, V::Out>,
+        left: &mut IndexMap<K::Out, V::Out, S>,
+        right: IndexMap<K::Out, V::Out, S>,
     ) -> Result<(), NoMemory> {
         for (key, value) in right {
             match left.get_mut(&key) {
@@ -99,7 +127,10 @@ where
         Ok(())
     }
 
-    fn finish(&self, acc: IndexMap<K::Out, V::Out>) -> Result<IndexMap<K::Out, V::Out>, NoMemory> {
+    fn finish(
+        &self,
+        acc: IndexMap<K::Out, V::Out, S>,
+    ) -> Result<IndexMap<K::Out, V::Out, S>, NoMemory> {
         Ok(acc)
     }
 }

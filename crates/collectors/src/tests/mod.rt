@@ -1,0 +1,9 @@
+//! Each collector at concrete types: folded on one thread, and folded in every two and every three parts that are then combined.
+
+mod cuts;
+mod functions;
+mod joined;
+mod nested;
+mod plain;
+mod shown;
+mod strict;

@@ -1,0 +1,159 @@
+//! Maps that refuse a repeated key.
+ghost use Rattle.std.specs.Prelude.{◌≡◌, List, [], map, Option, None, option_map, IfOk, IfErr, OnOk};
+ghost use Rattle.collectors.specs.Grouping.{contents};
+ghost use Rattle.collectors.specs.StrictMaps.{strict_put, strict_add, strict_merge, IsFirstRepeat, IsStrictMap};
+ghost use Rattle.collectors.specs.StrictMapLaws.{strict_map_laws};
+
+use crate::Collector;
+use indexmap::IndexMap;
+use spliterator::{NoMemory, Value};
+use stages::Mapping;
+use std::alloc::Global;
+use std::fmt::Display;
+use std::hash::{BuildHasher, BuildHasherDefault, FoldHasher, Hash};
+use std::marker::PhantomData;
+use thiserror::Error;
+
+/// The key of the earliest item whose key came before.
+#[derive(Debug, Drop, Error)]
+#[error("duplicate key {key}")]
+#[error_bound(K: Display)]
+pub struct DuplicateKey<K> {
+    pub key: K,
+}
+
+/// The entries before the first repeated key, in the order of their items, and that key.
+#[derive(Drop)]
+pub struct StrictEntries<K: Eq + Hash, V, S: BuildHasher = BuildHasherDefault<FoldHasher>> {
+    entries: IndexMap<K, V, S>,
+    repeated: Option<K>,
+}
+
+impl<K: Value + Hash + Drop, V: Value + Drop, S: BuildHasher> StrictEntries<K, V, S> {
+    // A key that is there is the repeat, and after a repeat nothing changes.
+    fn put(&mut self, key: K, value: V) -> Result<(), NoMemory>
+        ensures { OnOk result ((contents K.content V.content self.new.entries.entries, option_map K.content self.new.repeated) ≡ strict_put K.same (contents K.content V.content self.old.entries.entries) (option_map K.content self.old.repeated) (K.content key, V.content value)) }
+    {
+        if self.repeated.is_some() {
+            return Ok(());
+        }
+        if self.entries.contains_key(&key) {
+            self.repeated = Some(key);
+        } else {
+            self.entries.insert(key, value)?;
+        }
+        Ok(())
+    }
+}
+
+/// For each key the value of its one item, in the order of the items; or, where a key repeats, the key of the earliest item whose
+/// key came before.
+#[derive(Drop)]
+pub struct ToMapStrict<T, K, V, S = BuildHasherDefault<FoldHasher>> {
+    alloc: Global,
+    key: K,
+    value: V,
+    hash_builder: S,
+    items: PhantomData<T>,
+}
+
+impl<T, K, V> ToMapStrict<T, K, V> {
+    /// A map that hashes by a fixed seed, for keys that no stranger chooses.
+    pub fn new(alloc: Global, key: K, value: V) -> ToMapStrict<T, K, V>
+        ensures key { result.key ≡ key }
+        ensures value { result.value ≡ value }
+    {
+        ToMapStrict::with_hasher(alloc, key, value, BuildHasherDefault::new())
+    }
+}
+
+impl<T, K, V, S> ToMapStrict<T, K, V, S> {
+    /// A map that hashes as it is told, as by a `RandomState` where strangers choose the keys.
+    pub fn with_hasher(alloc: Global, key: K, value: V, hash_builder: S) -> ToMapStrict<T, K, V, S>
+        ensures key { result.key ≡ key }
+        ensures value { result.value ≡ value }
+    {
+        ToMapStrict {
+            alloc,
+            key,
+            value,
+            hash_builder,
+            items: PhantomData,
+        }
+    }
+}
+
+impl<T: Value, K: Mapping<T>, V: Mapping<T>, S: BuildHasher + Copy> Collector
+    for ToMapStrict<T, K, V, S>
+where
+    K::Out: Hash + Drop,
+    V::Out: Drop,
+{
+    type Item = T;
+
+    type Acc = StrictEntries<K::Out, V::Out, S>;
+
+    type Out = Result<IndexMap<K::Out, V::Out, S>, DuplicateKey<K::Out>>;
+
+    ghost ready = { λ c. K.ready c.key × V.ready c.value };
+
+    ghost Content = { List (K.Out.Content × V.Out.Content) × Option K.Out.Content };
+
+    ghost content = { λ _ a. (contents K.Out.content V.Out.content a.entries.entries, option_map K.Out.content a.repeated) };
+
+    ghost empty = { λ _. ([], None) };
+
+    ghost add = { λ c. strict_add K.Out.same (K.image c.key) (V.image c.value) };
+
+    ghost merge = { λ _. strict_merge K.Out.same };
+
+    ghost gives = { λ c l r. IfOk r (λ m. IsStrictMap K.Out.same (K.image c.key) (V.image c.value) l (contents K.Out.content V.Out.content m.entries)) × IfErr r (λ d. IsFirstRepeat K.Out.same (map (K.image c.key) l) (K.Out.content d.key)) };
+
+    ghost laws = { λ c. strict_map_laws K.Out.same (K.image c.key) (V.image c.value) T.is_value };
+
+    fn supply(&self) -> Result<StrictEntries<K::Out, V::Out, S>, NoMemory> {
+        Ok(StrictEntries {
+            entries: IndexMap::with_hasher(self.alloc, self.hash_builder),
+            repeated: None,
+        })
+    }
+
+    fn accumulate(
+        &self,
+        acc: &mut StrictEntries<K::Out, V::Out, S>,
+        x: &T,
+    ) -> Result<(), NoMemory> {
+        if acc.repeated.is_some() {
+            return Ok(());
+        }
+        let key = self.key.image(x)?;
+        let value = self.value.image(x)?;
+        acc.put(key, value)
+    }
+
+    fn combine(
+        &self,
+        left: &mut StrictEntries<K::Out, V::Out, S>,
+        right: StrictEntries<K::Out, V::Out, S>,
+    ) -> Result<(), NoMemory> {
+        let StrictEntries { entries, repeated } = right;
+        for (key, value) in entries {
+            left.put(key, value)?;
+        }
+        if left.repeated.is_none() {
+            left.repeated = repeated;
+        }
+        Ok(())
+    }
+
+    fn finish(
+        &self,
+        acc: StrictEntries<K::Out, V::Out, S>,
+    ) -> Result<Result<IndexMap<K::Out, V::Out, S>, DuplicateKey<K::Out>>, NoMemory> {
+        let StrictEntries { entries, repeated } = acc;
+        match repeated {
+            Some(key) => Ok(Err(DuplicateKey { key })),
+            None => Ok(Ok(entries)),
+        }
+    }
+}

@@ -1,0 +1,134 @@
+//! The whole program, over the words after its name.
+
+use super::Script;
+use crate::{Counted, command};
+use std::alloc::{AllocError, Global};
+use std::test::Fail;
+
+const HELP: &str = "Runs a pipeline file
+
+Usage: pstream [OPTIONS] <FILE>
+
+Arguments:
+  <FILE>  The pipeline file
+
+Options:
+      --workers <W>  How many workers run the leaves [default: 4]
+      --target <T>   The most items of a leaf; 0 chooses it [default: 0]
+  -h, --help         Print help
+";
+
+/// A program's end: its status, what it wrote, and what it told.
+#[derive(Debug, Drop)]
+struct End {
+    status: u8,
+    written: String,
+    told: String,
+}
+
+/// How the program ends, with an output that fails at one call.
+fn program(alloc: Global, words: &[&str], write_fails: u64) -> Result<End, AllocError> {
+    let mut output = Counted::new(Script::new(alloc, b"", 100, write_fails));
+    let mut error = Vec::new(alloc);
+    let row: &[u8] = b"pipeline 1\nrange 1 6\nsum\n";
+    let opener = |name: &str| match name {
+        "row" => Some(Counted::new(Script::new(alloc, row, 100, 0))),
+        "torn" => Some(Counted::new(Script::new(alloc, row, 4, 2))),
+        "bad" => Some(Counted::new(Script::new(alloc, b"pipeline 2\n", 100, 0))),
+        _ => None,
+    };
+    let status = command(alloc, words, opener, &mut output, &mut error);
+    let written = String::from_utf8_lossy(alloc, output.get_ref().written.as_slice())?;
+    let told = String::from_utf8_lossy(alloc, error.as_slice())?;
+    Ok(End {
+        status,
+        written,
+        told,
+    })
+}
+
+#[test]
+fn ends_as_the_run_does(rt: HostRuntime) -> Result<(), Fail> {
+    let cases: [(&[&str], u64, u8, &str, &str); 9] = [
+        (&["row"], 0, 0, "15\n", ""),
+        (
+            &["row", "--workers", "64", "--target", "1"],
+            0,
+            0,
+            "15\n",
+            "",
+        ),
+        (&["--workers=1", "row"], 0, 0, "15\n", ""),
+        (
+            &["row", "--target", "4611686018427387904"],
+            0,
+            0,
+            "15\n",
+            "",
+        ),
+        (&["bad"], 0, 2, "", "line 1: BAD_VERSION\n"),
+        (&["none"], 0, 3, "", "read failed\n"),
+        (&["torn"], 0, 3, "", "read failed\n"),
+        (&["row"], 1, 3, "", "write failed\n"),
+        (&["row"], 2, 3, "15\n", "write failed\n"),
+    ];
+    for (words, write_fails, status, written, told) in cases {
+        let end = program(rt.alloc(), words, write_fails)?;
+        assert_eq!(rt; end.status, status, "{end:?}");
+        assert_eq!(rt; end.written.as_str(), written);
+        assert_eq!(rt; end.told.as_str(), told);
+    }
+    Ok(())
+}
+
+#[test]
+fn tells_a_fault_of_the_command_line(rt: HostRuntime) -> Result<(), Fail> {
+    let tail = "\n\nFor more information, try '--help'.\n";
+    let missing =
+        "error: the following required arguments were not provided:\n  <FILE>\n\nUsage: pstream <FILE>";
+    let cases: [(&[&str], &str); 6] = [
+        (&[], missing),
+        (
+            &["row", "--workers", "0"],
+            "error: invalid value '0' for '--workers <W>': 0 is not in 1..=64",
+        ),
+        (
+            &["row", "--workers", "65"],
+            "error: invalid value '65' for '--workers <W>': 65 is not in 1..=64",
+        ),
+        (
+            &["row", "--target", "4611686018427387905"],
+            "error: invalid value '4611686018427387905' for '--target <T>': 4611686018427387905 is not in 0..=4611686018427387904",
+        ),
+        (
+            &["row", "--workers", "four"],
+            "error: invalid value 'four' for '--workers <W>': invalid digit found in string",
+        ),
+        (
+            &["row", "bad"],
+            "error: unexpected argument 'bad' found\n\nUsage: pstream [OPTIONS] <FILE>",
+        ),
+    ];
+    for (words, wanted) in cases {
+        let end = program(rt.alloc(), words, 0)?;
+        let text = format!(in rt.alloc(); "{wanted}{tail}")?;
+        assert_eq!(rt; end.told.as_str(), text.as_str());
+        assert_eq!(rt; end.status, 2);
+        assert_eq!(rt; end.written.as_str(), "");
+    }
+    Ok(())
+}
+
+#[test]
+fn shows_its_help(rt: HostRuntime) -> Result<(), Fail> {
+    for word in ["--help", "-h"] {
+        let end = program(rt.alloc(), [word].as_slice(), 0)?;
+        assert_eq!(rt; end.written.as_str(), HELP);
+        assert_eq!(rt; end.status, 0);
+        assert_eq!(rt; end.told.as_str(), "");
+    }
+    let end = program(rt.alloc(), ["--help"].as_slice(), 1)?;
+    assert_eq!(rt; end.status, 3);
+    assert_eq!(rt; end.told.as_str(), "write failed\n");
+    Ok(())
+}
