@@ -4,6 +4,7 @@ use std::io::{self, BufRead};
 use std::time::Instant;
 
 const SLICE: u32 = 10_000;
+const TEXT: u32 = 60_000;
 
 fn mixed(start: i64, items: impl Iterator<Item = i64>) -> i64 {
     let mut mix = start;
@@ -21,8 +22,8 @@ fn total(start: i64, items: &[i64]) -> i64 {
     sum
 }
 
-fn line_bytes(text: &str) -> i64 {
-    let mut sum: i64 = 0;
+fn line_bytes(start: i64, text: &str) -> i64 {
+    let mut sum = start;
     for line in text.lines() {
         let first = line.as_bytes().first().copied().unwrap_or(0);
         sum = sum
@@ -42,8 +43,8 @@ fn measure(name: &str, rounds: u32, mut read: impl FnMut(i64) -> i64) {
 }
 
 fn measure_lines(name: &str, bytes: u32, line: &str) {
-    let text = line.repeat(bytes as usize / line.len());
-    measure(name, 1, |_| line_bytes(&text));
+    let text = line.repeat(TEXT as usize / line.len());
+    measure(name, bytes / TEXT, |start| line_bytes(start, &text));
 }
 
 fn main() {

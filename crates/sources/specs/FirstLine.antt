@@ -1,11 +1,10 @@
 -- What a text's first line is, as a search for a line feed finds it.
-use Rattle.std.specs.Prelude.{◌≡◌, ◌≢◌, ℕ, ◌<◌, ◌==◌, true, false, ⊤, ◌⊎◌, List, [], ◌∷◌, ◌++◌, length, slice_index, refl}
+use Rattle.std.specs.Prelude.{◌≡◌, ◌≢◌, ℕ, ◌<◌, ◌==◌, List, [], ◌∷◌, ◌++◌, length, slice_index, refl}
 use Rattle.std.proofs.Common.{inl, inr, sym, ap, ◌∙◌, get_or, arith}
 use Rattle.std.proofs.lemmas.Bool.{false≢true, eqb-true}
 use Rattle.std.proofs.lemmas.List.{get_or-take, length-take-le}
 use Rattle.std.proofs.lemmas.List.Sums.{fails_before_first, passes_at_first, split_at_first}
 use Rattle.std.specs.List.{position_or_len, before_first, after_first}
-use Rattle.sources.specs.Lines.{LacksLineFeed}
 use Rattle.sources.specs.LinesSplit.{IsFirstLine}
 
 -- up to its first line feed a text has none

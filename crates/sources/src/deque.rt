@@ -8,7 +8,11 @@ use spliterator::{NoMemory, OrderedValue, Spliterator, Value};
 use std::alloc::AllocError;
 use std::collections::VecDeque;
 
-/// The clones of a deque's items from its front to its back, which splits in half.
+/// The clones of a deque's items from its front to its back, wherever they lie in its storage, which splits in half, rounded
+/// down, from two items on.
+///
+/// An advance answers `NoMemory` where an item's clone finds none.
+// java.util.ArrayDeque, spliterator
 pub struct DequeSplit<'a, T: Value + Clone> {
     items: &'a VecDeque<T>,
     from: usize,
@@ -31,7 +35,7 @@ impl<'a, T: Value + Clone> Clone for DequeSplit<'a, T> {
 impl<'a, T: Value + Clone> Copy for DequeSplit<'a, T> {}
 
 impl<'a, T: OrderedValue + Clone> DequeSplit<'a, T> {
-    /// A clone of an item must have the item's content.
+    /// A clone of an item must have the item's content: a condition on the type `T`.
     pub fn new(items: &'a VecDeque<T>) -> DequeSplit<'a, T>
         requires { ClonesAlike T.is_clone T.content }
         ensures { ⟦<DequeSplit<'a, T> as Spliterator>⟧.items result ≡ map T.content items.now.items }

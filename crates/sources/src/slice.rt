@@ -5,7 +5,11 @@ use crate::counted::{capped, told};
 use spliterator::{NoMemory, OrderedValue, Spliterator, Value};
 use std::alloc::AllocError;
 
-/// The clones of a slice's items, which splits in half.
+/// The clones of a slice's items, from its front to its back, which splits in half, rounded down, from two items on.
+///
+/// An advance answers `NoMemory` where an item's clone finds none. More than 2^63 - 1 items, which only items of no size can be,
+/// have no size that is told.
+// java.util.Arrays, spliterator
 pub struct SliceSplit<'a, T: Value + Clone> {
     items: &'a [T],
     ghost clones_alike: { TestsClonesAlike T.same T.is_clone T.content },
@@ -24,7 +28,7 @@ impl<'a, T: Value + Clone> Clone for SliceSplit<'a, T> {
 impl<'a, T: Value + Clone> Copy for SliceSplit<'a, T> {}
 
 impl<'a, T: OrderedValue + Clone> SliceSplit<'a, T> {
-    /// A clone of an item must have the item's content.
+    /// A clone of an item must have the item's content: a condition on the type `T`.
     pub fn new(items: &'a [T]) -> SliceSplit<'a, T>
         requires { ClonesAlike T.is_clone T.content }
         ensures { ⟦<SliceSplit<'a, T> as Spliterator>⟧.items result ≡ map T.content items.now }

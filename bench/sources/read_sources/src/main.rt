@@ -11,8 +11,10 @@ use std::io;
 use std::rt::Clock;
 use std::time::Instant;
 
-/// The items of a slice, which fit a processor's cache: what is measured is the reading and not the memory.
+/// The items of a slice, and the bytes of a text. They fit a processor's cache: what is measured is the reading and not the memory.
 const SLICE: u32 = 10_000;
+
+const TEXT: u32 = 60_000;
 
 /// A number that depends on each item and its place, so that no closed form stands for the loop.
 fn mixed<S: Spliterator<Item = i64>>(start: i64, mut split: S) -> Result<i64, NoMemory> {
@@ -33,8 +35,8 @@ fn total<S: Spliterator<Item = i64>>(start: i64, mut split: S) -> Result<i64, No
 }
 
 /// The lines' lengths and first bytes, added up.
-fn line_bytes(mut split: LinesSplit<'_>) -> Result<i64, NoMemory> {
-    let mut sum: i64 = 0;
+fn line_bytes(start: i64, mut split: LinesSplit<'_>) -> Result<i64, NoMemory> {
+    let mut sum = start;
     while let Some(line) = split.try_advance()? {
         let first = line.as_bytes().first().copied().unwrap_or(0);
         sum = sum
@@ -91,10 +93,7 @@ fn report_ranges(rt: &(impl Print + Clock), end: i64) -> io::Result<()> {
     measure_mix(rt, "two_ranges", Concat::new(first, second), 1)
 }
 
-fn report_numbers(
-    rt: &(impl Print + Clock + Alloc<A = Global>),
-    count: u32,
-) -> io::Result<()> {
+fn report_numbers(rt: &(impl Print + Clock + Alloc<A = Global>), count: u32) -> io::Result<()> {
     let mut numbers = Vec::new(rt.alloc());
     let mut queue = VecDeque::new(rt.alloc());
     for number in 0..i64::from(SLICE) {
@@ -121,9 +120,12 @@ fn report_lines(
     bytes: u32,
     line: &str,
 ) -> io::Result<()> {
-    let text = text_of(rt.alloc(), bytes as usize, line)?;
+    let text = text_of(rt.alloc(), TEXT as usize, line)?;
     let start = Instant::now(rt)?;
-    let sum = line_bytes(LinesSplit::new(text.as_str())).unwrap_or(-1);
+    let mut sum = 0;
+    for _ in 0..bytes / TEXT {
+        sum = line_bytes(sum, LinesSplit::new(text.as_str())).unwrap_or(-1);
+    }
     tell(rt, name, start, sum)
 }
 
