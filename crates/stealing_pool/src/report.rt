@@ -53,7 +53,7 @@ impl RunEntry {
         requires { leaf < self.now.leaves }
         ensures { IsTrue result ↔ (count_of self.now leaf ≡ None) }
     {
-        self.closed.count(leaf).is_none()
+        self.count(leaf).is_none()
     }
 }
 
