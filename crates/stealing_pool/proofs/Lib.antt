@@ -1,0 +1,7 @@
+pub mod Rows
+pub mod Drawn
+pub mod Places
+pub mod Picked
+pub mod Filled
+pub mod Fronts
+pub mod Forks

@@ -1,0 +1,9 @@
+pub mod Jobs
+pub mod Shifts
+pub mod Gathers
+pub mod Reports
+pub mod Fronts
+pub mod KeeperLaws
+pub mod SpanLaws
+pub mod Keepers
+pub mod Cases

@@ -1,0 +1,118 @@
+-- What containers of leaves make together: for the jobs whose work is `work_of` lists.
+use Rattle.std.specs.Prelude.{◌≡◌, ◌<◌, ◌≤◌, ◌+◌, ◌⊎◌, ℕ, zero, suc, List, [], ◌∷◌, ◌++◌, Option, Some, None, Result, Ok, Err, OnOk, IfOk, All, count_by, flat_map, map, fold, take, drop, length, cond, slice_index_or, slice_get, refl}
+use Rattle.std.proofs.Common.{◌∙◌, ap, sym, subst, arith, append-nil, append_assoc, inl, inr, get_or}
+use Rattle.std.proofs.lemmas.List.{take_all, take-take, take-append-drop}
+use Rattle.std.proofs.lemmas.List.Concat.{flat_map-append, flat_map-cons}
+use Rattle.std.proofs.lemmas.Option.{get_or_from_slice_get}
+use Rattle.std.proofs.lemmas.List.Sums.{sum_by-append}
+use Rattle.barriers.specs.Needs.{Reaches, IsOutcome}
+use Rattle.leaf_board.specs.Case.{IsLawful}
+use Rattle.stealing_pool.specs.declared.job.Portion.{Portion}
+use Rattle.stealing_pool.specs.declared.job.LeafEnd.{LeafEnd}
+use Rattle.stealing_pool.specs.declared.job.LeafEnd.TheVariants.{Done, Cut}
+use Rattle.stealing_pool.specs.Jobs.{Work, IsWithin, EndsLeaf, Combines, StandsForRun}
+use Rattle.stealing_pool.specs.Fronts.{Folding, Folds, IsFront, KeepsFront, EndsList, KeepsSpan, joined, lists_of, full_count, work_of}
+
+reaches-more : (need : Option ℕ) (a b : ℕ) → a ≤ b → Reaches need a → Reaches need b
+reaches-more None a b le reached = reached
+reaches-more (Some r) a b le reached = omega arith
+
+-- the members from one place up to another are those up to a place between, and those that follow
+span-split : {X : Type 0} (from middle to : ℕ) (xs : List X) → from ≤ middle → middle ≤ to → drop from (take to xs) ≡ drop from (take middle xs) ++ drop middle (take to xs)
+span-split zero middle to xs before after = sym (ap (λ l. l ++ drop middle (take to xs)) (sym (take-take middle to xs after)) ∙ take-append-drop middle (take to xs))
+span-split (suc from) zero to xs before after = absurd (omega arith)
+span-split (suc from) (suc middle) zero xs before after = absurd (omega arith)
+span-split (suc from) (suc middle) (suc to) [] before after = refl
+span-split (suc from) (suc middle) (suc to) (x ∷ xs) before after = span-split from middle to xs (omega arith) (omega arith)
+
+-- one member
+span-one : {X : Type 0} (i : ℕ) (xs : List X) (d : X) → i < length xs → drop i (take (suc i) xs) ≡ get_or xs i d ∷ []
+span-one zero [] d within = absurd (omega arith)
+span-one (suc i) [] d within = absurd (omega arith)
+span-one zero (x ∷ xs) d within = refl
+span-one (suc i) (x ∷ xs) d within = span-one i xs d (omega arith)
+
+pub joined-append : {T : Type 0} (xs ys : List (List T)) → joined (xs ++ ys) ≡ joined xs ++ joined ys
+joined-append xs ys = flat_map-append (λ l. l) xs ys
+
+-- the lists of the leaves end to end are the stage's list on all their items
+pub joined-lists_of : {S X T : Type 0} (items : S → List X) (expand : X → List T) (leaves : List S) → joined (lists_of items expand leaves) ≡ flat_map expand (flat_map items leaves)
+joined-lists_of items expand [] = refl
+joined-lists_of items expand (s ∷ leaves) =
+    let rest = joined-lists_of items expand leaves in
+    let one : joined (lists_of items expand (s ∷ leaves)) ≡ flat_map expand (items s) ++ joined (lists_of items expand leaves) = flat_map-cons (λ l. l) (flat_map expand (items s)) (lists_of items expand leaves) in
+    let all : flat_map expand (flat_map items (s ∷ leaves)) ≡ flat_map expand (items s) ++ flat_map expand (flat_map items leaves) = ap (flat_map expand) (flat_map-cons items s leaves) ∙ flat_map-append expand (items s) (flat_map items leaves) in
+    one ∙ ap (λ l. flat_map expand (items s) ++ l) rest ∙ sym all
+
+pub map-at : {X Y : Type 0} (f : X → Y) (xs : List X) (i : ℕ) (d : Y) (e : X) → i < length xs → get_or (map f xs) i d ≡ f (get_or xs i e)
+map-at f [] i d e within = absurd (omega arith)
+map-at f (x ∷ xs) zero d e within = refl
+map-at f (x ∷ xs) (suc i) d e within = map-at f xs i d e (omega arith)
+
+-- the list of a leaf
+pub list-at : {S X T : Type 0} (items : S → List X) (expand : X → List T) (leaves : List S) (leaf : ℕ) (s : S) → leaf < length leaves → slice_get leaves leaf ≡ Some s → get_or (lists_of items expand leaves) leaf [] ≡ flat_map expand (items s)
+list-at items expand leaves leaf s within is = map-at (λ l. flat_map expand (items l)) leaves leaf [] s within ∙ ap (λ l. flat_map expand (items l)) (get_or_from_slice_get leaves leaf s s is)
+
+module _ {T C A : Type 0} (f : Folding T C) (content : A → C) (lists : List (List T)) where
+  -- what is kept of a leaf's list stands for the leaf
+  pub leaf-ends : (leaf cut : ℕ) (whole : List T) → leaf < length lists → get_or lists leaf [] ≡ whole → (end : LeafEnd A) → EndsList f content whole cut leaf end → EndsLeaf (work_of f content lists) cut leaf end
+  leaf-ends leaf cut whole within is Cut told = told
+  leaf-ends leaf cut whole within is (Done p) (front, rest, split, folds, counts, small, end) =
+      let count : List T → ℕ = λ xs. count_by f.counted xs in
+      let one : drop leaf (take (leaf + 1) lists) ≡ get_or lists leaf [] ∷ [] = (let next : leaf + 1 ≡ suc leaf = omega arith in ap (λ n. drop leaf (take n lists)) next ∙ span-one leaf lists [] within) in
+      let list : joined (drop leaf (take (leaf + 1) lists)) ≡ front ++ rest = ap joined one ∙ append-nil (get_or lists leaf []) ∙ is ∙ split in
+      let full : full_count f.counted lists leaf ≡ count front + count rest = ap count (is ∙ split) ∙ sum_by-append (λ y. cond (f.counted y) 1 0) front rest in (
+        (front, rest, list, folds, counts, end),
+        (
+          omega arith,
+          elim end [
+            | inl none ↦ inl (let z : count rest ≡ 0 = ap count none in omega arith)
+            | inr enough ↦ inr enough
+          ],
+        ),
+        small,
+      )
+
+  -- two containers side by side
+  pub spans-combine : (left right both : A) → ((l m : List T) → Folds f l (content left) → Folds f m (content right) → Folds f (l ++ m) (content both))
+      → Combines (work_of f content lists) left right both
+  spans-combine left right both combines from middle to count more before after (front, rest, split, folds, counts, inr reached) under of_right = absurd (under reached)
+  spans-combine left right both combines from middle to count more before after (front, rest, split, folds, counts, inl none) under (front', rest', split', folds', counts', end) =
+      let left_list : joined (drop from (take middle lists)) ≡ front = split ∙ ap (λ l. front ++ l) none ∙ append-nil front in
+      let list : joined (drop from (take to lists)) ≡ (front ++ front') ++ rest' =
+      ap joined (span-split from middle to lists before after) ∙ joined-append (drop from (take middle lists)) (drop middle (take to lists)) ∙ ap (λ l. l ++ joined (drop middle (take to lists))) left_list ∙ ap (λ l. front ++ l) split' ∙ sym (append_assoc front front' rest') in
+      let sum = sum_by-append (λ y. cond (f.counted y) 1 0) front front' in (
+        front ++ front',
+        rest',
+        list,
+        combines front front' folds folds',
+        omega arith,
+        elim end [ inl all ↦ inl all | inr reached ↦ inr (reaches-more f.needed more (count + more) (omega arith) reached) ],
+      )
+
+  -- what stands for the run is the fold over a front of all the lists, which is all of them or enough
+  pub run-front : (kept : A) → StandsForRun (work_of f content lists) kept → IsFront f (joined lists) (content kept)
+  run-front kept (to, count, within, (front, rest, split, folds, counts, end), last) =
+      let after : List T = joined (drop to lists) in
+      let whole : joined lists ≡ front ++ (rest ++ after) =
+      ap joined (sym (take-append-drop to lists)) ∙ joined-append (take to lists) (drop to lists) ∙ ap (λ l. l ++ after) split ∙ append_assoc front rest after in
+      let R : ℕ → Type 0 = λ n. Reaches f.needed n in
+      elim last [
+        | inr enough ↦ (front, (rest ++ after, whole, inr (subst R counts enough)), folds)
+        | inl all ↦
+            (let list : joined lists ≡ front ++ rest = ap joined (sym (take_all to lists (omega arith))) ∙ split in
+            elim end [
+              | inl none ↦ (front, (rest, list, inl none), folds)
+              | inr enough ↦ (front, (rest, list, inr (subst R counts enough)), folds)
+            ])
+      ]
+
+  -- the same of calls that may be refused memory
+  pub leaf-ends-ok : {E : Type 0} (leaf cut : ℕ) (whole : List T) → leaf < length lists → get_or lists leaf [] ≡ whole → (r : Result (LeafEnd A) E) → IfOk r (EndsList f content whole cut leaf) → IfOk r (EndsLeaf (work_of f content lists) cut leaf)
+  leaf-ends-ok leaf cut whole within is (Ok end) ends = leaf-ends leaf cut whole within is end ends
+  leaf-ends-ok leaf cut whole within is (Err e) ends = tt
+
+  pub spans-combine-ok : {U E : Type 0} (r : Result U E) (left right both : A) → ((l m : List T) → Folds f l (content left) → Folds f m (content right) → OnOk r (Folds f (l ++ m) (content both)))
+      → OnOk r (Combines (work_of f content lists) left right both)
+  spans-combine-ok (Ok u) left right both combines = spans-combine left right both combines
+  spans-combine-ok (Err e) left right both combines = tt

@@ -1,0 +1,75 @@
+//! What is kept of a leaf, as a sink.
+ghost use Rattle.std.specs.Prelude.{◌≡◌, ◌<◌, ◌+◌, ◌^◌, cond, List, [], ◌∷◌, ◌++◌, true, OnOk, ⊤};
+ghost use Rattle.std.proofs.Common.{refl, ◌∙◌, subst, sym};
+ghost use Rattle.barriers.specs.Needs.{need_of};
+ghost use Rattle.stealing_pool.specs.Fronts.{folding, KeepsFront};
+ghost use Rattle.stealing_pool.specs.Keepers.{IsNeed};
+ghost use Rattle.stealing_pool.specs.KeeperLaws.{Offers, offers-none, offers-both-kept, ready-kept};
+
+use crate::gather::is_enough;
+use crate::job::Portion;
+use barriers::{Demand, Need};
+use collectors::Collector;
+use spliterator::{NoMemory, Value};
+use stages::Sink;
+
+/// Keeps one item.
+fn keep<T: Value, D: Demand<T>, C: Collector<Item = T>>(
+    demand: &D,
+    collector: &C,
+    portion: &mut Portion<C::Acc>,
+    item: &T,
+) -> Result<(), NoMemory>
+    requires demand { D.ready demand.now }
+    requires collector { C.ready collector.now }
+    requires room { D.counted demand.now (T.content item.now) ≡ true → portion.old.count < 2 ^ 63 }
+    ensures value { T.is_value (T.content item.now) }
+    ensures content { OnOk result (C.content collector.now portion.new.kept ≡ C.add collector.now (C.content collector.now portion.old.kept) (T.content item.now)) }
+    ensures count { portion.new.count ≡ portion.old.count + cond (D.counted demand.now (T.content item.now)) 1 0 }
+{
+    let _value = item.is_value();
+    if demand.counts(item) {
+        portion.count += 1;
+    }
+    collector.accumulate(&mut portion.kept, item)
+}
+
+/// A container with its demand, which takes items until they are enough.
+#[derive(Drop)]
+pub(crate) struct Keeper<'a, D, C, A> {
+    pub(crate) demand: &'a D,
+    pub(crate) need: Need,
+    pub(crate) collector: &'a C,
+    pub(crate) portion: Portion<A>,
+}
+
+impl<T: Value + Drop, D: Demand<T>, C: Collector<Item = T>> Sink<T> for Keeper<'_, D, C, C::Acc> {
+    ghost ready = { λ k. (D.ready k.demand.now × C.ready k.collector.now) × IsNeed (D.needed k.demand.now) (D.counted k.demand.now) (need_of k.need) };
+
+    ghost takes = { λ k xs m. (m.demand ≡ k.demand) × (m.need ≡ k.need) × (m.collector ≡ k.collector)
+        × Offers (KeepsFront (folding (D.needed k.demand.now) (D.counted k.demand.now) T.is_value (C.empty k.collector.now) (C.add k.collector.now)) (C.content k.collector.now)) k.portion xs m.portion };
+
+    ghost spoils = { λ _ _. ⊤ };
+
+    ghost takes_none = { λ k. (refl, refl, refl, offers-none (KeepsFront (folding (D.needed k.demand.now) (D.counted k.demand.now) T.is_value (C.empty k.collector.now) (C.add k.collector.now)) (C.content k.collector.now)) k.portion) };
+
+    ghost spoils_nothing = { λ k. tt };
+
+    ghost takes_both = { λ k m n xs ys p q. (q.0 ∙ p.0, q.1 ∙ p.1, q.2 ∙ p.2, offers-both-kept (λ d n c. KeepsFront (folding (D.needed d.now) (D.counted d.now) T.is_value (C.empty c.now) (C.add c.now)) (C.content c.now)) k.demand m.demand k.need m.need k.collector m.collector k.portion m.portion n.portion xs ys p.0 p.1 p.2 p.3 q.3) };
+
+    ghost spoils_later = { λ a b c xs p q. tt };
+
+    ghost stays_ready = { λ k m xs p r. ready-kept (λ d c. D.ready d.now × C.ready c.now) (λ d n. IsNeed (D.needed d.now) (D.counted d.now) (need_of n)) k.demand m.demand k.need m.need k.collector m.collector p.0 p.1 p.2 r };
+
+    fn take(&mut self, x: T) -> Result<(), NoMemory> {
+        if is_enough(self.need, self.portion.count) {
+            return Ok(());
+        }
+        keep(self.demand, self.collector, &mut self.portion, &x)?;
+        Ok(())
+    }
+
+    fn is_full(&self) -> bool {
+        is_enough(self.need, self.portion.count)
+    }
+}

@@ -1,0 +1,25 @@
+//! Runs the leaves of a plan on several threads, and combines what they kept.
+#![tactic(auto)]
+
+mod combine;
+mod crew;
+mod gate;
+mod gather;
+mod job;
+mod job_run;
+mod keeper;
+mod leaf;
+mod plan_run;
+mod report;
+mod run;
+mod stretch;
+#[cfg(test)]
+mod tests;
+mod worker;
+
+pub use gate::{Gate, NoGate};
+pub use job::{LeafEnd, LeafJob, Portion};
+pub use job_run::{Gathered, run_job};
+pub use leaf::run_leaf;
+pub use plan_run::run_leaves;
+pub use report::{RunEntry, RunReport};

@@ -1,0 +1,65 @@
+//! A leaf's items go to a sink, a stretch at a time.
+ghost use Rattle.std.specs.Prelude.{◌<◌, flat_map, length, MatchBool, OnOk, IfOk};
+ghost use Rattle.leaf_board.specs.Statuses.{SameFrom, StaysSeat};
+
+use leaf_board::Handout;
+use spliterator::{NoMemory, Spliterator};
+use stages::{Sink, Stage};
+
+/// The source items between two questions whether the leaf was cut.
+const STRETCH: u32 = 1024;
+
+/// Feeds a stretch of what the source covers to a sink. Says whether more may make a difference.
+fn feed_stretch<S: Spliterator, G: Stage<In = S::Item>, K: Sink<G::Out>>(
+    stage: &G,
+    source: &mut S,
+    sink: &mut K,
+) -> Result<bool, NoMemory>
+    requires stage { G.ready stage.now }
+    requires sink { K.ready sink.old }
+    ensures taken { OnOk result ((end : K)
+        → K.takes sink.new (flat_map (G.expand stage.now) (S.items source.new)) end
+        → K.takes sink.old (flat_map (G.expand stage.now) (S.items source.old)) end) }
+    ensures ready { OnOk result (K.ready sink.new) }
+    ensures more { IfOk result (λ more. MatchBool more (length (S.items source.new) < length (S.items source.old)) (K.takes sink.new (flat_map (G.expand stage.now) (S.items source.new)) sink.new)) }
+{
+    for _read in 0..STRETCH {
+        if sink.is_full() {
+            return Ok(false);
+        }
+        let Some(x) = source.try_advance()? else {
+            return Ok(false);
+        };
+        stage.feed(x, sink)?;
+    }
+    Ok(true)
+}
+
+/// Feeds what the source covers to a sink, until no more makes a difference, or the leaf is cut. Says whether it wasn't cut.
+pub(crate) fn feed_until_cut<B: Handout, S: Spliterator, G: Stage<In = S::Item>, K: Sink<G::Out>>(
+    stage: &G,
+    source: S,
+    sink: &mut K,
+    board: &B,
+    seat: &mut B::Seat,
+    leaf: usize,
+) -> Result<bool, NoMemory>
+    requires stage { G.ready stage.now }
+    requires sink { K.ready sink.old }
+    requires of { B.is_of board.now seat.old }
+    requires within { leaf < B.leaves board.now }
+    ensures seat { StaysSeat (B.is_of board.now) B.number B.draws_left B.made_cut seat.old seat.new }
+    ensures same { SameFrom (B.status seat.old) (B.status seat.new) }
+    ensures fed { IfOk result (λ ended. MatchBool ended (K.takes sink.old (flat_map (G.expand stage.now) (S.items source)) sink.new) (B.cut seat.new < leaf)) }
+{
+    let mut source = source;
+    'reading: loop {
+        let more = feed_stretch(stage, &mut source, sink)?;
+        if !more {
+            return Ok(true);
+        }
+        if board.is_cut(seat, leaf) {
+            return Ok(false);
+        }
+    }
+}

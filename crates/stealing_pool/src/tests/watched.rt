@@ -1,0 +1,139 @@
+//! Functions of stages and collectors that tests watch.
+ghost use Rattle.std.specs.Prelude.{◌≡◌, ℤ, List, [], ◌++◌, int_lt, pos};
+ghost use Rattle.collectors.specs.NestedLaws.{push, list_laws};
+ghost use Rattle.spliterator.specs.Values.{IsI64};
+
+use super::gates::wait_for;
+use collectors::Collector;
+use spliterator::NoMemory;
+use stages::{Mapping, Test};
+use std::alloc::Global;
+use std::sync::atomic::{AtomicU64, Ordering};
+
+/// Each number as it is.
+#[derive(Drop)]
+pub struct Itself;
+
+impl Mapping<i64> for Itself {
+    type Out = i64;
+
+    ghost image = { λ _ x. x };
+
+    ghost images_are_values = { λ f x h. h };
+
+    fn image(&self, x: &i64) -> Result<i64, NoMemory> {
+        Ok(*x)
+    }
+}
+
+/// Each number as it is, but memory is refused at one of them.
+#[derive(Drop)]
+pub struct RefusesAt {
+    pub number: i64,
+}
+
+impl Mapping<i64> for RefusesAt {
+    type Out = i64;
+
+    ghost image = { λ _ x. x };
+
+    ghost images_are_values = { λ f x h. h };
+
+    fn image(&self, x: &i64) -> Result<i64, NoMemory> {
+        if *x == self.number {
+            Err(NoMemory)
+        } else {
+            Ok(*x)
+        }
+    }
+}
+
+/// The numbers above a limit.
+#[derive(Drop)]
+pub struct Above {
+    pub limit: i64,
+}
+
+impl Test<i64> for Above {
+    ghost holds = { λ t x. int_lt t.limit x };
+
+    fn holds(&self, x: &i64) -> bool {
+        self.limit < *x
+    }
+}
+
+/// The numbers below 1. It counts how often it was asked of a number from `from` on, and at `from` it turns until another thread
+/// tells that it has ended.
+#[derive(Drop)]
+pub struct Watched<'a> {
+    pub from: i64,
+    pub ended: &'a AtomicU64,
+    pub asked: &'a AtomicU64,
+    pub missed: &'a AtomicU64,
+}
+
+impl Test<i64> for Watched<'_> {
+    ghost holds = { λ _ x. int_lt x (pos 1) };
+
+    fn holds(&self, x: &i64) -> bool {
+        if *x >= self.from {
+            self.asked.fetch_add(1, Ordering::SeqCst);
+        }
+        if *x == self.from && !wait_for(self.ended, 1) {
+            self.missed.fetch_add(1, Ordering::SeqCst);
+        }
+        *x < 1
+    }
+}
+
+/// Lists as `ToList` does. The first two calls of `combine` each turn until the other has been entered.
+#[derive(Drop)]
+pub struct MeetingLists {
+    pub alloc: Global,
+    pub entered: AtomicU64,
+    pub missed: AtomicU64,
+}
+
+impl Collector for MeetingLists {
+    type Item = i64;
+
+    type Acc = Vec<i64>;
+
+    type Out = Vec<i64>;
+
+    ghost Content = { List ℤ };
+
+    ghost content = { λ _ v. v.items };
+
+    ghost empty = { λ _. [] };
+
+    ghost add = { λ _. push };
+
+    ghost merge = { λ _ l r. l ++ r };
+
+    ghost gives = { λ _ l v. v.items ≡ l };
+
+    ghost laws = { λ _. list_laws IsI64 };
+
+    fn supply(&self) -> Result<Vec<i64>, NoMemory> {
+        Ok(Vec::new(self.alloc))
+    }
+
+    fn accumulate(&self, acc: &mut Vec<i64>, x: &i64) -> Result<(), NoMemory> {
+        acc.push(*x)?;
+        Ok(())
+    }
+
+    fn combine(&self, left: &mut Vec<i64>, mut right: Vec<i64>) -> Result<(), NoMemory> {
+        let earlier = self.entered.fetch_add(1, Ordering::SeqCst);
+        if earlier < 2 && !wait_for(&self.entered, 2) {
+            self.missed.fetch_add(1, Ordering::SeqCst);
+        }
+        left.append(&mut right)?;
+        Ok(())
+    }
+
+    fn finish(&self, acc: Vec<i64>) -> Result<Vec<i64>, NoMemory> {
+        Ok(acc)
+    }
+}
