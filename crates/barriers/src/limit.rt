@@ -1,4 +1,4 @@
-ghost use Rattle.std.specs.Prelude.{◌≡◌, ◌<◌, ◌^◌, Some, take, IfOk, map, min, option_map};
+ghost use Rattle.std.specs.Prelude.{◌≡◌, ◌<◌, ◌^◌, Some, take, IsOk, IfOk, map, min, option_map};
 ghost use Rattle.stages.specs.declared.flags.Operation.TheVariants.{Limit as limit_row};
 ghost use Rattle.barriers.specs.Needs.{every_item};
 ghost use Rattle.barriers.specs.NeedLaws.{KeepsEnough-take};
@@ -51,7 +51,8 @@ impl<T: OrderedValue + Drop> Barrier<T> for Limit {
     ghost flag_law = { λ b. KeepsSound-take T.order b.most };
 
     fn apply(&self, mut items: Vec<T>) -> Result<Vec<T>, NoMemory>
-        ensures { IfOk result (λ kept. map T.content kept.items ≡ take self.now.most (map T.content items.items)) }
+        ensures value { IfOk result (λ kept. map T.content kept.items ≡ take self.now.most (map T.content items.items)) }
+        ensures answered { IsOk result }
     {
         items.truncate(self.most as usize);
         Ok(items)

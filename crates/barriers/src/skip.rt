@@ -1,4 +1,4 @@
-ghost use Rattle.std.specs.Prelude.{◌≡◌, ◌-◌, ◌<◌, ◌≤◌, vec_len, ◌^◌, None, drop, IfOk, map, option_map};
+ghost use Rattle.std.specs.Prelude.{◌≡◌, ◌-◌, ◌<◌, ◌≤◌, vec_len, ◌^◌, None, drop, IsOk, IfOk, map, option_map};
 ghost use Rattle.stages.specs.declared.flags.Operation.TheVariants.{Skip as skip_row};
 ghost use Rattle.barriers.specs.Needs.{no_item};
 ghost use Rattle.barriers.specs.NeedLaws.{KeepsEnough-never};
@@ -59,7 +59,8 @@ impl<T: OrderedValue + Drop> Barrier<T> for Skip {
     ghost flag_law = { λ b. KeepsSound-drop T.order b.number };
 
     fn apply(&self, mut items: Vec<T>) -> Result<Vec<T>, NoMemory>
-        ensures { IfOk result (λ kept. map T.content kept.items ≡ drop self.now.number (map T.content items.items)) }
+        ensures value { IfOk result (λ kept. map T.content kept.items ≡ drop self.now.number (map T.content items.items)) }
+        ensures answered { IsOk result }
     {
         let number = items.len().min(self.number as usize);
         drop_front(&mut items, number);

@@ -1,5 +1,5 @@
 //! The longest front whose items all meet a test, and what follows it.
-ghost use Rattle.std.specs.Prelude.{◌≡◌, ◌≤◌, length, Some, None, not, IfOk, map, take_while};
+ghost use Rattle.std.specs.Prelude.{◌≡◌, ◌≤◌, length, Some, None, not, IsOk, IfOk, map, take_while};
 ghost use Rattle.std.specs.List.{prefix_len};
 ghost use Rattle.stages.specs.declared.flags.Operation.TheVariants.{TakeWhile as take_while_row, DropWhile as drop_while_row};
 ghost use Rattle.barriers.specs.Whiles.{drop_while};
@@ -69,7 +69,8 @@ impl<T: OrderedValue + Drop, P: Test<T>> Barrier<T> for TakeWhile<P> {
 
     fn apply(&self, mut items: Vec<T>) -> Result<Vec<T>, NoMemory>
         requires { P.ready self.now.test }
-        ensures { IfOk result (λ kept. map T.content kept.items ≡ take_while (P.holds self.now.test) (map T.content items.items)) }
+        ensures value { IfOk result (λ kept. map T.content kept.items ≡ take_while (P.holds self.now.test) (map T.content items.items)) }
+        ensures answered { IsOk result }
     {
         items.truncate(length_of_front(&items, &self.test));
         Ok(items)
@@ -129,7 +130,8 @@ impl<T: OrderedValue + Drop, P: Test<T>> Barrier<T> for DropWhile<P> {
 
     fn apply(&self, mut items: Vec<T>) -> Result<Vec<T>, NoMemory>
         requires { P.ready self.now.test }
-        ensures { IfOk result (λ kept. map T.content kept.items ≡ drop_while (P.holds self.now.test) (map T.content items.items)) }
+        ensures value { IfOk result (λ kept. map T.content kept.items ≡ drop_while (P.holds self.now.test) (map T.content items.items)) }
+        ensures answered { IsOk result }
     {
         let length = length_of_front(&items, &self.test);
         drop_front(&mut items, length);

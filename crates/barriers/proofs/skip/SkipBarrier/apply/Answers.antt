@@ -3,8 +3,8 @@ use Rattle.std.proofs.lemmas.List.{drop-map}
 use Rattle.barriers.proofs.Fronts.{drop-at_most}
 use Rattle.barriers.proofs.skip.SkipBarrier.apply.Goals as goal
 
-pub returns : goal.returns
-returns g c =
+pub returns-clause-value : goal.returns-clause-value
+returns-clause-value g c =
     let number = c.args.self.now.number in
     let items = c.args.items.items in
     let whole : c.len.result ≡ length items = omega arith in

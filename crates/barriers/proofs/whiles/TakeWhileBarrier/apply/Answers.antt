@@ -3,8 +3,8 @@ use Rattle.std.specs.List.{prefix_len}
 use Rattle.std.proofs.lemmas.List.{take-map}
 use Rattle.barriers.proofs.whiles.TakeWhileBarrier.apply.Goals as goal
 
-pub returns : goal.returns
-returns g c =
+pub returns-clause-value : goal.returns-clause-value
+returns-clause-value g c =
     let content = g.T.Value.content in
     let items = c.args.items.items in
     ap (map content) c.truncate.ensures.items
