@@ -114,18 +114,19 @@ fn add(sum: u64, count: u64) -> u64
 }
 
 // The words at the start.
-fn opening_words<C: Case>(alloc: Global, leaves: usize, seats: usize) -> Result<Vec<u64>, NoMemory>
+fn opening_words<C: Case>(
+    alloc: Global,
+    leaves: usize,
+    seats: usize,
+) -> Result<Vec<u64>, NoMemory>
     requires case { (leaves ≡ C.case.leaves) × (seats ≡ C.case.seats) }
     requires limits { (leaves ≤ 65536) × (0 < seats) × (seats ≤ 64) }
     ensures { IfOk result (λ words. IsOpening C.case words.items) }
 {
-    let mut words = Vec::new(alloc);
-    words.push(leaves as u64)?;
+    let mut words = vec![in alloc; 0; 8 * (1 + seats) + leaves]?;
+    words[0] = leaves as u64;
     for share in 0..seats {
-        words.push((share * leaves / seats) as u64)?;
-    }
-    for _leaf in 0..leaves {
-        words.push(0)?;
+        words[8 * (1 + share)] = (share * leaves / seats) as u64;
     }
     Ok(words)
 }
@@ -244,7 +245,7 @@ impl<C: Case> Board<C> {
         let found = self
             .table
             .shared
-            .fetch_add::<Draws<C>>(&mut seat.seat, 1 + share, 1);
+            .fetch_add::<Draws<C>>(&mut seat.seat, 8 * (1 + share), 1);
         if found < end {
             return Some(found as usize);
         }
@@ -282,7 +283,7 @@ impl<C: Case> Board<C> {
     {
         let LeafPass { leaf } = pass;
         let seat = &mut seat.seat;
-        let place = 1 + self.seats + leaf;
+        let place = 8 * (1 + self.seats) + leaf;
         self.table
             .shared
             .swap::<Publishes<C>>(seat, place, count + 1);
@@ -304,7 +305,7 @@ impl<C: Case> Board<C> {
         ensures count { known_count seat.new.knows leaf ≡ result - 1 }
         ensures stays { slice_index seat.old.knows.counts leaf ≢ 0 → result ≡ slice_index seat.old.knows.counts leaf }
     {
-        let place = 1 + self.seats + leaf;
+        let place = 8 * (1 + self.seats) + leaf;
         self.table.shared.load::<Looks<C>>(&mut seat.seat, place)
     }
 

@@ -1,6 +1,6 @@
 use Rattle.std.specs.Prelude.{slice_index}
 use Rattle.std.proofs.lemmas.List.{get_or-set_same}
-use Rattle.std.proofs.Common.{◌-◌, ◌+◌, ◌≡◌, ◌<◌, length, arith, ap, sym, subst, length-set, ◌∙◌}
+use Rattle.std.proofs.Common.{◌-◌, ◌+◌, ◌*◌, ◌≡◌, ◌<◌, length, arith, ap, sym, subst, length-set, ◌∙◌}
 use Rattle.leaf_board.specs.Case.{IsLawful}
 use Rattle.leaf_board.specs.Knowledge.{Knowledge, IsHeld, after_publish}
 use Rattle.leaf_board.specs.Rule.{leaf_place}
@@ -30,7 +30,7 @@ invariant_of-seat g c =
 
 pub returns-clause-knows : goal.returns-clause-knows
 returns-clause-knows g c =
-    step_knows (λ k. after_publish k (1 + c.self.inside.seats + c.pass.inside.leaf - leaf_place g.C.Case.case 0) (c.args.count + 1 - 1)) c.seat.inside.seat.me _ c.seat.inside.number _ (ap (λ (h : Holder). h.knows) c.seat.view_is) (c.swap.ensures.2 _ _ c.seat.invariant.0).0
+    step_knows (λ k. after_publish k (8 * (1 + c.self.inside.seats) + c.pass.inside.leaf - leaf_place g.C.Case.case 0) (c.args.count + 1 - 1)) c.seat.inside.seat.me _ c.seat.inside.number _ (ap (λ (h : Holder). h.knows) c.seat.view_is) (c.swap.ensures.2 _ _ c.seat.invariant.0).0
     ∙ (let e = leaf_of_place g.C.Case.case c.self.inside.seats c.pass.inside.leaf c.self.invariant.2 ∙ c.pass.view_is in let d : c.args.count + 1 - 1 ≡ c.args.count = omega arith in λ i. after_publish c.args.seat.now.knows (e i) (d i))
 
 pub returns-clause-counts : goal.returns-clause-counts
