@@ -7,6 +7,8 @@ ghost use Rattle.leaf_board.specs.Boards.{case_of};
 ghost use Rattle.std.specs.Prelude.{None, Some};
 
 mod seats;
+mod shares;
+mod threads;
 
 use crate::record::Record;
 use crate::rule::Case;
