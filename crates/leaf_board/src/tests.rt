@@ -6,8 +6,10 @@ ghost use Rattle.leaf_board.specs.Seats.{SameSeat, Gained, OnlyDraws};
 ghost use Rattle.leaf_board.specs.Boards.{case_of};
 ghost use Rattle.std.specs.Prelude.{None, Some};
 
+mod plain;
 mod seats;
 mod shares;
+mod simulation;
 mod threads;
 
 use crate::record::Record;
