@@ -12,9 +12,7 @@ mod shares;
 mod simulation;
 mod threads;
 
-use crate::record::Record;
-use crate::rule::Case;
-use crate::{Board, BoardSeat, Draw, LeafPass};
+use crate::{Board, BoardSeat, Case, Draw, LeafBoard, LeafPass, Record};
 use barriers::Need;
 use std::alloc::Global;
 use std::marker::Brand;
@@ -78,7 +76,7 @@ fn close_one<C: Case>(
     ensures { IfOk result (λ r. r.leaves ≡ C.case.leaves) }
 {
     seats.push(seat)?;
-    Ok(board.close(seats))
+    Ok(LeafBoard::close(board, seats))
 }
 
 fn two_leaves<C: Case, R: Abort>(rt: &R, alloc: Global) -> Result<(), Fail>

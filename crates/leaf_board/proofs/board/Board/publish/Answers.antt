@@ -11,13 +11,13 @@ use Rattle.leaf_board.proofs.board.Board.publish.Goals as goal
 
 pub overflow_add-place-2 : goal.overflow_add-place-2
 overflow_add-place-2 g c =
-    let held = subst (λ (h : Holder). IsHeld h.knows c.pass.inside.leaf) (sym c.seat.view_is) (subst (λ n. IsHeld c.args.seat.now.knows n) (sym c.pass.view_is) c.requires.pass) in
+    let held = subst (λ (h : Holder). IsHeld h.knows c.pass.inside.leaf) (sym c.seat.view_is) (subst (λ n. IsHeld c.args.seat.now.knows n) (sym c.pass.view_is) c.requires.held) in
     let at = held_there (knowledge_in c.seat.inside.seat.me.0) c.pass.inside.leaf held in
     omega arith
 
 pub swap-requires : goal.swap-requires
 swap-requires g c =
-    let held = subst (λ (h : Holder). IsHeld h.knows c.pass.inside.leaf) (sym c.seat.view_is) (subst (λ n. IsHeld c.args.seat.now.knows n) (sym c.pass.view_is) c.requires.pass) in
+    let held = subst (λ (h : Holder). IsHeld h.knows c.pass.inside.leaf) (sym c.seat.view_is) (subst (λ n. IsHeld c.args.seat.now.knows n) (sym c.pass.view_is) c.requires.held) in
     let at = held_there (knowledge_in c.seat.inside.seat.me.0) c.pass.inside.leaf held in (
       ap (λ (h : Holder). h.board) c.seat.view_is ∙ c.requires.own ∙ sym c.self.view_is,
       omega arith,
@@ -35,7 +35,7 @@ returns-clause-knows g c =
 
 pub returns-clause-counts : goal.returns-clause-counts
 returns-clause-counts g c =
-    let held = subst (λ (h : Holder). IsHeld h.knows c.pass.inside.leaf) (sym c.seat.view_is) (subst (λ n. IsHeld c.args.seat.now.knows n) (sym c.pass.view_is) c.requires.pass) in
+    let held = subst (λ (h : Holder). IsHeld h.knows c.pass.inside.leaf) (sym c.seat.view_is) (subst (λ n. IsHeld c.args.seat.now.knows n) (sym c.pass.view_is) c.requires.held) in
     let at = held_there (knowledge_in c.seat.inside.seat.me.0) c.pass.inside.leaf held in
     let there : c.pass.inside.leaf < length (knowledge_in c.seat.inside.seat.me.0).counts = (let a = c.seat.invariant.4 in let b = c.seat.invariant.6 in omega arith) in
     let known : c.args.pass < length c.args.seat.now.knows.counts = subst (λ n. n < length c.args.seat.now.knows.counts) c.pass.view_is (subst (λ (h : Holder). c.pass.inside.leaf < length h.knows.counts) c.seat.view_is there) in
