@@ -17,9 +17,6 @@ use Rattle.std.proofs.lemmas.Bool.{lt-ltb, le-ltb}
 pub in_use : (c : BoardCase) (m n : Sat) (number passed : ℕ) (next : Knowledge) → IsInUse c m number passed → n ≡ sat number next → next.passed ≡ passed → length next.leaves ≡ c.leaves → next.draws ≤ c.leaves + c.seats → length next.counts ≡ c.leaves → IsInUse c n number passed
 in_use c m n number passed next was is same sized few counted = subst (λ x. IsInUse c x number passed) (sym is) (refl, was.1, sym same, was.3, sized, few, counted)
 
-pub knows_now : (n : Sat) (number : ℕ) (next : Knowledge) → n ≡ sat number next → knowledge_in n.0 ≡ next
-knows_now n number next is = ap (λ (m : Sat). knowledge_in m.0) is
-
 module _ (c : BoardCase) (slots id : ℕ) (m : Sat) (number : ℕ) (is : m ≡ sat number (knowledge_in m.0)) where
   pub look_step : (seats leaf : ℕ) → seats ≡ c.seats → leaf < c.leaves → Allows (Orderly c) slots id m (8 * (1 + seats) + leaf) (λ n. n) (looks c (step slots (8 * (1 + seats) + leaf) 0 0 none) m)
   look_step seats leaf e at =
@@ -63,13 +60,6 @@ module _ (c : BoardCase) (slots id : ℕ) (m : Sat) (number : ℕ) (is : m ≡ s
 -- a skip leaves as many leaves
 pub after_skip-leaves : (k : Knowledge) (leaf found : ℕ) → length (after_skip k leaf found).leaves ≡ length k.leaves
 after_skip-leaves k leaf found = elim (nat_lt found leaf) as (λ b. length (if b then set k.leaves leaf Skipped else k.leaves) ≡ length k.leaves) [ true ↦ length-set k.leaves leaf Skipped | false ↦ refl ]
-
--- what a draw found
-pub draw_leaf : (c : BoardCase) (n : Sat) (number found end : ℕ) (k : Knowledge) → end ≡ share_end c (ring c number k.passed) → found < end → n ≡ sat number (draw_next c number k found) → n ≡ sat number (after_leaf k found)
-draw_leaf c n number found end k e low is = is ∙ ap (λ b. sat number (if b then after_leaf k found else after_empty k)) (lt-ltb found (share_end c (ring c number k.passed)) (omega arith))
-
-pub draw_empty : (c : BoardCase) (n : Sat) (number found end : ℕ) (k : Knowledge) → end ≡ share_end c (ring c number k.passed) → end ≤ found → n ≡ sat number (draw_next c number k found) → n ≡ sat number (after_empty k)
-draw_empty c n number found end k e past is = is ∙ ap (λ b. sat number (if b then after_leaf k found else after_empty k)) (le-ltb found (share_end c (ring c number k.passed)) (omega arith))
 
 -- what a look found is the count that is known then
 pub look_count : (c : BoardCase) (m n : Sat) (number seats leaf found : ℕ) → seats ≡ c.seats → length (knowledge_in m.0).counts ≡ c.leaves → leaf < c.leaves → n ≡ sat number (after_look (knowledge_in m.0) (8 * (1 + seats) + leaf - leaf_place c 0) found) → known_count (knowledge_in n.0) leaf ≡ found - 1

@@ -145,11 +145,7 @@ fn add(sum: u64, count: u64) -> u64
 const WORDS_A_LINE: usize = 8;
 
 // The words at the start.
-fn opening_words<C: Case>(
-    alloc: Global,
-    leaves: usize,
-    seats: usize,
-) -> Result<Vec<u64>, NoMemory>
+fn opening_words<C: Case>(alloc: Global, leaves: usize, seats: usize) -> Result<Vec<u64>, NoMemory>
     requires case { (leaves ≡ C.case.leaves) × (seats ≡ C.case.seats) }
     requires limits { (leaves ≤ 65536) × (0 < seats) × (seats ≤ 64) }
     ensures { IfOk result (λ words. IsOpening C.case words.items) }

@@ -44,7 +44,13 @@ fn own_shares<C: Case, R: Abort>(
 {
     let (board, mut all) = Board::<C>::new(alloc, leaves, Need::Never, seats)?;
     for number in 0..seats {
-        gets(rt, &board, &mut all[number], start(starts, number), start(starts, number + 1));
+        gets(
+            rt,
+            &board,
+            &mut all[number],
+            start(starts, number),
+            start(starts, number + 1),
+        );
     }
     for number in 0..seats {
         assert!(rt; drained(&board, &mut all[number]));

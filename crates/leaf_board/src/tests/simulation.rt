@@ -221,7 +221,14 @@ fn simulate<C: Case, R: Abort>(
     let mut hands = empty_hands(alloc, setting.seats)?;
     for _turn in 0..60 {
         let at = world.dice.below(setting.seats);
-        turn(rt, &board, setting, &mut world, &mut seats[at], &mut hands[at]);
+        turn(
+            rt,
+            &board,
+            setting,
+            &mut world,
+            &mut seats[at],
+            &mut hands[at],
+        );
     }
     give_up_all(&board, &mut seats, hands);
     let record = LeafBoard::close(board, seats);
@@ -254,7 +261,9 @@ fn setting(alloc: Global, dice: &mut Dice) -> Result<Setting, AllocError>
 
 #[test]
 fn random_orders_answer_as_the_plain_rule(rt: HostRuntime) -> Result<(), Fail> {
-    let mut dice = Dice { state: 88_172_645_463_325_252 };
+    let mut dice = Dice {
+        state: 88_172_645_463_325_252,
+    };
     for _run in 0..20_000 {
         let setting = setting(rt.alloc(), &mut dice)?;
         let seed = dice.roll();

@@ -80,10 +80,15 @@ fn all_work<C: Case + Send + Sync, R: Threads + Sync>(
     requires case { (C.case.seats ≡ 64) × (C.case ≡ largest C.case.need) }
     ensures { AreSeats (IsOn board.now) number_of C.case.seats seats.new }
 {
-    thread::for_each_mut(rt, seats, 64, &|_number, seat: &mut BoardSeat<C>|
-        requires { (seat.now.board ≡ board.now) × (C.case ≡ largest C.case.need) }
-        ensures { SameSeat seat.entry.now seat.exit.now }
-    { work(board, seat, drawn) });
+    thread::for_each_mut(
+        rt,
+        seats,
+        64,
+        &|_number, seat: &mut BoardSeat<C>|
+            requires { (seat.now.board ≡ board.now) × (C.case ≡ largest C.case.need) }
+            ensures { SameSeat seat.entry.now seat.exit.now }
+        { work(board, seat, drawn) },
+    );
     board.settle(&mut seats[0], 65535);
 }
 
@@ -107,7 +112,11 @@ fn sixty_four_threads_publish_every_leaf(rt: HostRuntime) -> Result<(), Fail> {
     let record = in_threads::<Brand, HostRuntime>(&rt, rt.alloc(), Need::Never)?;
     assert!(rt; record.cut().is_none());
     for leaf in 0..record.leaves() {
-        let expected = if is_refused(leaf) { None } else { Some(count_of(leaf)) };
+        let expected = if is_refused(leaf) {
+            None
+        } else {
+            Some(count_of(leaf))
+        };
         assert_eq!(rt; record.count(leaf), expected, "leaf {leaf}");
     }
     Ok(())
@@ -134,9 +143,16 @@ fn sixty_four_threads_skip_right_of_the_cut(rt: HostRuntime) -> Result<(), Fail>
     assert_eq!(rt; record.cut(), expected);
     let cut = expected.expect(&rt, "a cut");
     for leaf in 0..record.leaves() {
-        let planned = if is_refused(leaf) { None } else { Some(count_of(leaf)) };
+        let planned = if is_refused(leaf) {
+            None
+        } else {
+            Some(count_of(leaf))
+        };
         let told = record.count(leaf);
-        assert!(rt; told == planned || (leaf > cut && told.is_none()), "leaf {leaf}");
+        assert!(rt;
+            told == planned || (leaf > cut && told.is_none()),
+            "leaf {leaf}"
+        );
     }
     Ok(())
 }

@@ -25,7 +25,7 @@ turn-requires-clause-seat g c =
     let hand = c.loop-turn.invariant.hands.1 c.below-at.result c.index_mut.result.now (omega arith) in (
       ap (λ (h : Holder). h.board) c.index_mut.ensures.value ∙ at.0,
       subst (λ (h : Holder). Holds g.C.Case.case.leaves h c.index_mut-in-loop-turn.result.now) (sym c.index_mut.ensures.value)
-      (subst (Holds g.C.Case.case.leaves (slice_index_or c.loop-turn.seats.items c.below-at.result c.index_mut.result.now)) (same_hand c.loop-turn.hands.items c.below-at.result _ _ (omega arith) ∙ sym c.index_mut-in-loop-turn.ensures.value) hand),
+          (subst (Holds g.C.Case.case.leaves (slice_index_or c.loop-turn.seats.items c.below-at.result c.index_mut.result.now)) (same_hand c.loop-turn.hands.items c.below-at.result _ _ (omega arith) ∙ sym c.index_mut-in-loop-turn.ensures.value) hand),
     )
 
 pub loop-turn-preserved : goal.loop-turn-preserved
