@@ -204,12 +204,13 @@ fn empty_hands(alloc: Global, seats: usize) -> Result<Vec<Option<LeafPass>>, All
     Ok(hands)
 }
 
+// Whether the board was cut.
 fn simulate<C: Case, R: Abort>(
     rt: &R,
     alloc: Global,
     setting: &Setting,
     seed: u64,
-) -> Result<(), Fail>
+) -> Result<bool, Fail>
     requires case { C.case ≡ case_of setting.now.leaves setting.now.full.items (need_of setting.now.need) setting.now.seats }
     requires need { IsBelow (need_of setting.now.need) (2 ^ 63) }
 {
@@ -233,7 +234,7 @@ fn simulate<C: Case, R: Abort>(
     give_up_all(&board, &mut seats, hands);
     let record = LeafBoard::close(board, seats);
     compare(rt, setting, &world.plain, &record);
-    Ok(())
+    Ok(record.cut().is_some())
 }
 
 // A setting by the dice: few leaves, seats and counts, so that cuts, empty shares and enough leaves of their own are common.
@@ -264,10 +265,15 @@ fn random_orders_answer_as_the_plain_rule(rt: HostRuntime) -> Result<(), Fail> {
     let mut dice = Dice {
         state: 88_172_645_463_325_252,
     };
-    for _run in 0..20_000 {
+    let mut cuts: u64 = 0;
+    for _run in 0..100_000 {
         let setting = setting(rt.alloc(), &mut dice)?;
         let seed = dice.roll();
-        simulate::<Brand, HostRuntime>(&rt, rt.alloc(), &setting, seed)?;
+        if simulate::<Brand, HostRuntime>(&rt, rt.alloc(), &setting, seed)? {
+            cuts = cuts.wrapping_add(1);
+        }
     }
+    // Both kinds of run are common.
+    assert!(rt; cuts > 20_000 && cuts < 90_000, "{cuts} runs were cut");
     Ok(())
 }
