@@ -1,5 +1,5 @@
 -- Which places are filled, and what the board's record says.
-use Rattle.std.proofs.Common.{◌≡◌, ◌≢◌, ◌<◌, ◌≤◌, ◌+◌, ◌∷◌, ◌∙◌, ℕ, zero, suc, List, [], Option, Some, None, length, get_or, ap, sym, refl, subst, inl, inr, arith, get_or-set_same, get_or-set_other, false, map, replicate, ◌⊎◌}
+use Rattle.std.proofs.Common.{◌≡◌, ◌≢◌, ◌<◌, ◌+◌, ◌∷◌, ◌∙◌, ℕ, zero, suc, List, [], Option, Some, None, length, get_or, ap, sym, refl, subst, inl, inr, arith, get_or-set_same, get_or-set_other, false, map, replicate, ◌⊎◌}
 use Rattle.std.specs.Prelude.{All}
 use Rattle.std.proofs.Math.ListN.{set, length-set}
 use Rattle.std.proofs.lemmas.Bool.{cases_eq}

@@ -1,12 +1,12 @@
 -- The parts that two threads combine.
-use Rattle.std.proofs.Common.{◌≡◌, ◌<◌, ◌≤◌, ◌+◌, ◌++◌, ◌∷◌, ◌∙◌, ℕ, zero, suc, List, [], Some, length, take, drop, ap, sym, refl, subst, arith}
+use Rattle.std.proofs.Common.{◌≡◌, ◌<◌, ◌≤◌, ◌+◌, ◌++◌, ◌∷◌, ◌∙◌, ℕ, zero, suc, List, [], Some, length, take, ap, sym, subst, arith}
 use Rattle.std.specs.Prelude.{slice_get, Result, Ok, Err, IfOk}
-use Rattle.std.proofs.lemmas.List.{take_all, take-take, length-take-le, length-append}
+use Rattle.std.proofs.lemmas.List.{take_all, take-take, length-take-le}
 use Rattle.split_tree.specs.declared.tree.Tree.{Tree}
 use Rattle.split_tree.specs.SplitTree.{leaf_numbers, numbers_from}
 use Rattle.split_tree.specs.TreeLaws.{leaf_numbers-children, some_leaf, length-numbers_from}
 use Rattle.stealing_pool.specs.Jobs.{Work, StandsForRun}
-use Rattle.stealing_pool.specs.Gathers.{IsNumbered, IsRow, sum_from, AreKept, AreWanted, StandsForPart}
+use Rattle.stealing_pool.specs.Gathers.{IsNumbered, IsRow, sum_from, AreKept, StandsForPart}
 use Rattle.stealing_pool.proofs.Rows.{stands_left}
 
 first_from : (xs : List ℕ) (first n a : ℕ) → 0 < n → xs ≡ numbers_from first n → slice_get xs 0 ≡ Some a → a ≡ first

@@ -1,12 +1,12 @@
 -- What a keeper keeps of what it is offered.
-use Rattle.std.proofs.Common.{◌≡◌, ◌<◌, ◌≤◌, ◌^◌, ◌+◌, ◌++◌, ◌∷◌, ◌⊎◌, ℕ, zero, suc, Bool, true, false, List, [], Option, Some, None, length, get_or, arith, cond, add-zero, refl, ap, sym, ◌∙◌, append_assoc, append-nil, subst, inl, inr}
-use Rattle.std.specs.Prelude.{All, fold, count_by}
+use Rattle.std.proofs.Common.{◌≡◌, ◌<◌, ◌≤◌, ◌^◌, ◌+◌, ◌++◌, ◌∷◌, ℕ, Bool, true, false, List, [], Option, Some, None, arith, cond, add-zero, refl, ap, sym, ◌∙◌, append_assoc, append-nil, subst, inl, inr}
+use Rattle.std.specs.Prelude.{count_by}
 use Rattle.std.proofs.lemmas.List.Elements.{All-push}
 use Rattle.std.proofs.lemmas.List.Sums.{fold-append, sum_by-append}
 use Rattle.barriers.specs.Needs.{IsBelow, CountsNone, Reaches}
 use Rattle.stealing_pool.specs.declared.job.Portion.{Portion}
 use Rattle.stealing_pool.specs.Jobs.{IsWithin}
-use Rattle.stealing_pool.specs.Fronts.{Folding, Folds, KeepsFront}
+use Rattle.stealing_pool.specs.Fronts.{Folding, KeepsFront}
 use Rattle.stealing_pool.specs.KeeperLaws.{Offers}
 
 -- what counts while the need isn't reached may be counted

@@ -1,8 +1,8 @@
 -- The leaves that the answer needs, as they are picked from left to right.
-use Rattle.std.proofs.Common.{◌≡◌, ◌≢◌, ◌<◌, ◌≤◌, ◌+◌, ◌^◌, ◌++◌, ◌∷◌, ◌∙◌, ◌⊎◌, ℕ, zero, suc, List, [], Option, Some, None, length, get_or, ap, sym, refl, subst, arith, inl, inr, add-zero, length-append}
+use Rattle.std.proofs.Common.{◌≡◌, ◌<◌, ◌+◌, ◌^◌, ◌++◌, ◌∷◌, ◌∙◌, ℕ, zero, suc, List, [], Option, Some, None, length, get_or, ap, sym, refl, subst, arith, inl, inr, add-zero, length-append}
 use Rattle.std.proofs.lemmas.Bool.{cases_lt}
 use Rattle.barriers.specs.Needs.{Reaches, IsBelow}
-use Rattle.leaf_board.specs.Case.{IsLawful, sum_below}
+use Rattle.leaf_board.specs.Case.{sum_below}
 use Rattle.stealing_pool.specs.declared.job.Portion.{Portion}
 use Rattle.stealing_pool.specs.Jobs.{Work, IsWithin}
 use Rattle.stealing_pool.specs.Gathers.{sum_from, AreKept, AreWanted, HoldsLeaf, IsRow}

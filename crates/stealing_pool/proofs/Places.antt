@@ -1,5 +1,5 @@
 -- What stands in the places of the leaves.
-use Rattle.std.proofs.Common.{◌≡◌, ◌≢◌, ◌<◌, ◌≤◌, ◌+◌, ◌^◌, ◌++◌, ◌∷◌, ◌⊎◌, ℕ, zero, suc, map, replicate, List, [], Option, Some, None, length, get_or, drop, ap, sym, ◌∙◌, refl, subst, inl, inr, arith, add-one, drop-cons, get_or-set_same, get_or-set_other}
+use Rattle.std.proofs.Common.{◌≡◌, ◌<◌, ◌+◌, ◌∷◌, ℕ, zero, suc, map, replicate, List, [], Option, Some, None, length, get_or, drop, ap, sym, ◌∙◌, refl, subst, inl, inr, arith, add-one, drop-cons, get_or-set_same, get_or-set_other}
 use Rattle.std.proofs.lemmas.List.{length-map, length-replicate, get_or-replicate, drop_all}
 use Rattle.std.specs.Prelude.{All}
 use Rattle.std.proofs.Math.ListN.{set, length-set}

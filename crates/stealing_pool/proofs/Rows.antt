@@ -1,6 +1,6 @@
 -- What stands for leaves that stand side by side.
-use Rattle.std.proofs.Common.{◌≡◌, ◌<◌, ◌≤◌, ◌+◌, ◌++◌, ◌∷◌, ◌∙◌, ℕ, zero, suc, List, [], Option, Some, None, length, take, drop, ap, sym, refl, subst, arith, add-zero, length-append}
-use Rattle.std.proofs.lemmas.List.{take_all, length-take-le, length-drop, drop_all}
+use Rattle.std.proofs.Common.{◌≡◌, ◌<◌, ◌≤◌, ◌+◌, ◌∷◌, ◌∙◌, ℕ, zero, suc, List, [], Option, Some, None, length, take, drop, ap, sym, subst, arith, add-zero}
+use Rattle.std.proofs.lemmas.List.{take_all, length-take-le, length-drop}
 use Rattle.barriers.specs.Needs.{Reaches}
 use Rattle.stealing_pool.specs.Jobs.{Work, Combines}
 use Rattle.stealing_pool.specs.Gathers.{sum_from, AreKept, AreWanted, StandsForPart}

@@ -1,6 +1,6 @@
 -- What is kept of a list of items.
 -- java.util.stream, package summary, Mutable reduction; java.util.stream, package summary, Stream operations and pipelines (short-circuiting)
-use Rattle.std.specs.Prelude.{◌≡◌, ◌<◌, ◌+◌, ◌⊎◌, ℕ, Bool, List, [], ◌++◌, Option, All, count_by, flat_map, map, fold, take, drop, length, slice_index_or}
+use Rattle.std.specs.Prelude.{◌≡◌, ◌<◌, ◌⊎◌, ℕ, Bool, List, [], ◌++◌, Option, All, count_by, flat_map, map, fold, take, drop, length, slice_index_or}
 use Rattle.barriers.specs.Needs.{Reaches, IsOutcome}
 use Rattle.stealing_pool.specs.Jobs.{Work, IsWithin}
 use Rattle.stealing_pool.specs.declared.job.Portion.{Portion}

@@ -1,17 +1,15 @@
 -- What containers of leaves make together: for the jobs whose work is `work_of` lists.
-use Rattle.std.specs.Prelude.{◌≡◌, ◌<◌, ◌≤◌, ◌+◌, ◌⊎◌, ℕ, zero, suc, List, [], ◌∷◌, ◌++◌, Option, Some, None, Result, Ok, Err, OnOk, IfOk, All, count_by, flat_map, map, fold, take, drop, length, cond, slice_index_or, slice_get, refl}
+use Rattle.std.specs.Prelude.{◌≡◌, ◌<◌, ◌≤◌, ◌+◌, ℕ, zero, suc, List, [], ◌∷◌, ◌++◌, Option, Some, None, Result, Ok, Err, OnOk, IfOk, count_by, flat_map, map, take, drop, length, cond, slice_get, refl}
 use Rattle.std.proofs.Common.{◌∙◌, ap, sym, subst, arith, append-nil, append_assoc, inl, inr, get_or}
 use Rattle.std.proofs.lemmas.List.{take_all, take-take, take-append-drop}
 use Rattle.std.proofs.lemmas.List.Concat.{flat_map-append, flat_map-cons}
 use Rattle.std.proofs.lemmas.Option.{get_or_from_slice_get}
 use Rattle.std.proofs.lemmas.List.Sums.{sum_by-append}
-use Rattle.barriers.specs.Needs.{Reaches, IsOutcome}
-use Rattle.leaf_board.specs.Case.{IsLawful}
-use Rattle.stealing_pool.specs.declared.job.Portion.{Portion}
+use Rattle.barriers.specs.Needs.{Reaches}
 use Rattle.stealing_pool.specs.declared.job.LeafEnd.{LeafEnd}
 use Rattle.stealing_pool.specs.declared.job.LeafEnd.TheVariants.{Done, Cut}
-use Rattle.stealing_pool.specs.Jobs.{Work, IsWithin, EndsLeaf, Combines, StandsForRun}
-use Rattle.stealing_pool.specs.Fronts.{Folding, Folds, IsFront, KeepsFront, EndsList, KeepsSpan, joined, lists_of, full_count, work_of}
+use Rattle.stealing_pool.specs.Jobs.{EndsLeaf, Combines, StandsForRun}
+use Rattle.stealing_pool.specs.Fronts.{Folding, Folds, IsFront, EndsList, joined, lists_of, full_count, work_of}
 
 reaches-more : (need : Option ℕ) (a b : ℕ) → a ≤ b → Reaches need a → Reaches need b
 reaches-more None a b le reached = reached

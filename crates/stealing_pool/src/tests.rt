@@ -3,6 +3,7 @@ ghost use Rattle.std.specs.Prelude.{◌≤◌};
 
 mod gates;
 mod rows;
+mod streams;
 mod watched;
 
 use sources::RangeSplit;

@@ -1,7 +1,6 @@
-use Rattle.std.proofs.Common.{◌≡◌, ◌<◌, ◌≤◌, ◌+◌, ◌∙◌, ◌++◌, ◌∷◌, ◌⊎◌, ℕ, List, [], Option, Some, None, ap, length, length-append, get_or, drop, arith, sym, subst, refl, inl, inr, true, false}
+use Rattle.std.proofs.Common.{◌≡◌, ◌<◌, ◌+◌, ◌∙◌, ◌∷◌, ℕ, [], Option, Some, None, ap, length, length-append, drop, arith, sym, subst, refl, inl, inr, true}
 use Rattle.std.proofs.lemmas.List.{length-drop}
 use Rattle.barriers.specs.Needs.{Reaches}
-use Rattle.stealing_pool.specs.declared.job.Portion.{Portion}
 use Rattle.stealing_pool.specs.Gathers.{HoldsLeaf}
 use Rattle.stealing_pool.proofs.Places.{drop_next}
 use Rattle.stealing_pool.proofs.Picked.{portion_count, count_in, picked_filled, picked_enough, picked_more, picked_all}

@@ -1,4 +1,4 @@
-use Rattle.std.proofs.Common.{◌≡◌, Some, ap, length, arith}
+use Rattle.std.proofs.Common.{Some, ap, length, arith}
 use Rattle.stealing_pool.proofs.Places.{put_step, leaves_left}
 use Rattle.stealing_pool.proofs.gather.put_all.Goals as goal
 

@@ -1,7 +1,6 @@
-use Rattle.std.proofs.Common.{◌≡◌, ◌<◌, ◌∙◌, ◌++◌, ◌∷◌, ℕ, List, [], ap, length, map, arith, sym, subst, false, append_assoc}
+use Rattle.std.proofs.Common.{◌≡◌, ◌<◌, ◌∙◌, ◌++◌, ◌∷◌, ℕ, [], ap, length, map, arith, sym, subst, false, append_assoc}
 use Rattle.std.specs.Prelude.{All}
-use Rattle.std.proofs.lemmas.List.Elements.{All-same, All-head, All-tail, All-cons, All-nil}
-use Rattle.stealing_pool.specs.declared.worker.Ran.{Ran}
+use Rattle.std.proofs.lemmas.List.Elements.{All-same, All-head, All-tail, All-cons}
 use Rattle.stealing_pool.specs.declared.worker.Shift.{Shift}
 use Rattle.stealing_pool.specs.Gathers.{place_shifts}
 use Rattle.stealing_pool.proofs.Places.{length-put_in}

@@ -1,5 +1,5 @@
-use Rattle.std.proofs.Common.{◌≡◌, ◌<◌, ◌≤◌, ◌∙◌, ℕ, Option, ap, sym, subst, length, arith, ◌^◌}
-use Rattle.barriers.specs.Needs.{IsBelow, need_of}
+use Rattle.std.proofs.Common.{◌≡◌, ◌∙◌, ℕ, Option, ap, sym, subst, length, arith, ◌^◌}
+use Rattle.barriers.specs.Needs.{IsBelow}
 use Rattle.split_tree.specs.SplitTree.{leaf_numbers}
 use Rattle.split_tree.specs.TreeLaws.{some_leaf, length-numbers_from}
 use Rattle.leaf_board.proofs.Handing.{new_fresh, new_seats}

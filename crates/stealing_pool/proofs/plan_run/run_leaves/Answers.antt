@@ -1,9 +1,9 @@
-use Rattle.std.proofs.Common.{◌≡◌, List, subst}
+use Rattle.std.proofs.Common.{List, subst}
 use Rattle.std.specs.Prelude.{flat_map, Result, Ok, Err, IfOk}
 use Rattle.split_tree.specs.Plan.{leaves_of}
 use Rattle.stealing_pool.specs.declared.job_run.Gathered.{Gathered}
 use Rattle.stealing_pool.specs.Jobs.{StandsForRun}
-use Rattle.stealing_pool.specs.Fronts.{Folding, folding, lists_of, joined, work_of, IsFront}
+use Rattle.stealing_pool.specs.Fronts.{Folding, folding, lists_of, work_of, IsFront}
 use Rattle.stealing_pool.specs.SpanLaws.{joined-lists_of, run-front}
 use Rattle.stealing_pool.proofs.plan_run.run_leaves.Goals as goal
 

@@ -1,4 +1,4 @@
-use Rattle.std.proofs.Common.{◌≡◌, ℕ, Option, refl, subst}
+use Rattle.std.proofs.Common.{ℕ, Option, refl, subst}
 use Rattle.barriers.specs.Needs.{Reaches}
 use Rattle.stealing_pool.specs.Fronts.{folding}
 use Rattle.stealing_pool.proofs.Fronts.{front_full}

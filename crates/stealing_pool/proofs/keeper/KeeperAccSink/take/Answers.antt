@@ -1,7 +1,7 @@
 use Rattle.std.proofs.Common.{◌≡◌, ℕ, Option, refl, subst, sym, true}
 use Rattle.barriers.specs.Needs.{Reaches, CountsNone}
 use Rattle.stealing_pool.specs.Fronts.{folding}
-use Rattle.stealing_pool.proofs.Fronts.{front_full, front_more, count_fits}
+use Rattle.stealing_pool.proofs.Fronts.{front_full, front_more}
 use Rattle.stealing_pool.proofs.keeper.KeeperAccSink.take.Goals as goal
 
 pub returns-then-is_enough-clause-taken : goal.returns-then-is_enough-clause-taken
