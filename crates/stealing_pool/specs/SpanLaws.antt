@@ -4,7 +4,6 @@ use Rattle.std.proofs.Common.{◌∙◌, ap, sym, subst, arith, append-nil, appe
 use Rattle.std.proofs.lemmas.List.{take_all, take-take, take-append-drop}
 use Rattle.std.proofs.lemmas.List.Concat.{flat_map-append, flat_map-cons}
 use Rattle.std.proofs.lemmas.Option.{get_or_from_slice_get}
-use Rattle.std.proofs.lemmas.List.Elements.{All-append}
 use Rattle.std.proofs.lemmas.List.Sums.{sum_by-append}
 use Rattle.barriers.specs.Needs.{Reaches, IsOutcome}
 use Rattle.leaf_board.specs.Case.{IsLawful}
@@ -45,7 +44,7 @@ joined-lists_of items expand (s ∷ leaves) =
     let all : flat_map expand (flat_map items (s ∷ leaves)) ≡ flat_map expand (items s) ++ flat_map expand (flat_map items leaves) = ap (flat_map expand) (flat_map-cons items s leaves) ∙ flat_map-append expand (items s) (flat_map items leaves) in
     one ∙ ap (λ l. flat_map expand (items s) ++ l) rest ∙ sym all
 
-map-at : {X Y : Type 0} (f : X → Y) (xs : List X) (i : ℕ) (d : Y) (e : X) → i < length xs → get_or (map f xs) i d ≡ f (get_or xs i e)
+pub map-at : {X Y : Type 0} (f : X → Y) (xs : List X) (i : ℕ) (d : Y) (e : X) → i < length xs → get_or (map f xs) i d ≡ f (get_or xs i e)
 map-at f [] i d e within = absurd (omega arith)
 map-at f (x ∷ xs) zero d e within = refl
 map-at f (x ∷ xs) (suc i) d e within = map-at f xs i d e (omega arith)
@@ -75,7 +74,7 @@ module _ {T C A : Type 0} (f : Folding T C) (content : A → C) (lists : List (L
       )
 
   -- two containers side by side
-  pub spans-combine : (left right both : A) → ((l m : List T) → All f.is_value l → All f.is_value m → content left ≡ fold f.add f.empty l → content right ≡ fold f.add f.empty m → content both ≡ fold f.add f.empty (l ++ m))
+  pub spans-combine : (left right both : A) → ((l m : List T) → Folds f l (content left) → Folds f m (content right) → Folds f (l ++ m) (content both))
       → Combines (work_of f content lists) left right both
   spans-combine left right both combines from middle to count more before after (front, rest, split, folds, counts, inr reached) under of_right = absurd (under reached)
   spans-combine left right both combines from middle to count more before after (front, rest, split, folds, counts, inl none) under (front', rest', split', folds', counts', end) =
@@ -86,7 +85,7 @@ module _ {T C A : Type 0} (f : Folding T C) (content : A → C) (lists : List (L
         front ++ front',
         rest',
         list,
-        (All-append f.is_value front front' folds.0 folds'.0, combines front front' folds.0 folds'.0 folds.1 folds'.1),
+        combines front front' folds folds',
         omega arith,
         elim end [ inl all ↦ inl all | inr reached ↦ inr (reaches-more f.needed more (count + more) (omega arith) reached) ],
       )
@@ -113,7 +112,7 @@ module _ {T C A : Type 0} (f : Folding T C) (content : A → C) (lists : List (L
   leaf-ends-ok leaf cut whole within is (Ok end) ends = leaf-ends leaf cut whole within is end ends
   leaf-ends-ok leaf cut whole within is (Err e) ends = tt
 
-  pub spans-combine-ok : {U E : Type 0} (r : Result U E) (left right both : A) → ((l m : List T) → All f.is_value l → All f.is_value m → content left ≡ fold f.add f.empty l → content right ≡ fold f.add f.empty m → OnOk r (content both ≡ fold f.add f.empty (l ++ m)))
+  pub spans-combine-ok : {U E : Type 0} (r : Result U E) (left right both : A) → ((l m : List T) → Folds f l (content left) → Folds f m (content right) → OnOk r (Folds f (l ++ m) (content both)))
       → OnOk r (Combines (work_of f content lists) left right both)
   spans-combine-ok (Ok u) left right both combines = spans-combine left right both combines
   spans-combine-ok (Err e) left right both combines = tt
