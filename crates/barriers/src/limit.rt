@@ -8,10 +8,10 @@ use crate::{Barrier, Demand, Need};
 use spliterator::{NoMemory, OrderedValue, Value};
 use stages::Operation;
 
-/// At most the first items.
+/// At most the first items (`java.util.stream.Stream`, `limit`). So many items are enough.
 #[derive(Clone, Copy, Debug)]
 pub struct Limit {
-    most: u64,
+    pub most: u64,
     ghost fits: { most < 2 ^ 63 },
 }
 
