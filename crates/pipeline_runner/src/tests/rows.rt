@@ -9,11 +9,7 @@ use std::test::Fail;
 use std::thread::Threads;
 
 /// What a run on the file writes, or the line that it tells.
-fn answer<R: Threads + Sync>(
-    rt: &R,
-    alloc: Global,
-    file: &[u8],
-) -> Result<String, AllocError> {
+fn answer<R: Threads + Sync>(rt: &R, alloc: Global, file: &[u8]) -> Result<String, AllocError> {
     let mut input = Counted::new(file);
     let mut output = Counted::new(Vec::new(alloc));
     match run(rt, alloc, &mut input, &mut output, &SETTINGS, &NoGate) {
