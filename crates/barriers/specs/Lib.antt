@@ -1,3 +1,4 @@
 pub mod Needs
 pub mod NeedLaws
+pub mod Whiles
 pub mod BarrierFlags

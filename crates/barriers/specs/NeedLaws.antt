@@ -1,7 +1,8 @@
 -- What enough of a list gives.
-use Rattle.std.specs.Prelude.{◌≡◌, fold, cond, ◌+◌, ℕ, Bool, List, [], ◌∷◌, ◌++◌, Option, Some, None, count_by, take, length}
-use Rattle.std.proofs.Common.{ap, ◌∙◌, arith, append-nil, ⊎_elim}
+use Rattle.std.specs.Prelude.{◌≡◌, ◌≤◌, ◌+◌, ℕ, Bool, true, false, not, cond, fold, count_by, List, [], ◌∷◌, ◌++◌, take, take_while, length, Option, Some, None, refl}
+use Rattle.std.proofs.Common.{ap, ◌∙◌, sym, arith, append-nil, ⊎_elim}
 use Rattle.std.proofs.lemmas.List.{take-append-le}
+use Rattle.std.proofs.lemmas.List.Sums.{take_while-cons}
 use Rattle.barriers.specs.Needs.{KeepsEnough, IsOutcome, every_item}
 
 sum_from : {T : Type 0} (n : ℕ) (l : List T) → fold (λ a x. a + cond (every_item {T = T} x) 1 0) n l ≡ n + length l
@@ -13,6 +14,29 @@ count-every_item l = sum_from 0 l ∙ omega arith
 
 pub KeepsEnough-take : {T : Type 0} (n : ℕ) → KeepsEnough {T = T} (Some n) every_item (take n)
 KeepsEnough-take n front more h = take-append-le n front more (let e = count-every_item front in omega arith)
+
+-- where nothing is ever enough, there is nothing to show
+pub KeepsEnough-never : {T A : Type 0} (counted : T → Bool) (value : List T → A) → KeepsEnough None counted value
+KeepsEnough-never counted value front more enough = absurd enough
+
+count-from : {T : Type 0} (p : T → Bool) (n : ℕ) (l : List T) → fold (λ a x. a + cond (p x) 1 0) n l ≡ n + count_by p l
+count-from p n [] = omega arith
+count-from p n (x ∷ l) = let e = count-from p (n + cond (p x) 1 0) l in let f = count-from p (0 + cond (p x) 1 0) l in e ∙ omega arith
+
+-- a front that has a member that fails the test has all that `take_while` takes
+pub KeepsEnough-take_while : {T : Type 0} (p : T → Bool) → KeepsEnough (Some 1) (λ x. not (p x)) (take_while p)
+KeepsEnough-take_while p [] more enough = absurd (omega arith)
+KeepsEnough-take_while p (x ∷ front) more enough =
+    take_while-cons p x (front ++ more) ∙ head (p x) (λ e. KeepsEnough-take_while p front more (rest e)) ∙ sym (take_while-cons p x front)
+  where
+    head : (b : Bool) → (b ≡ true → take_while p (front ++ more) ≡ take_while p front) → cond b (x ∷ take_while p (front ++ more)) [] ≡ cond b (x ∷ take_while p front) []
+    head true same = ap (λ l. x ∷ l) (same refl)
+    head false same = refl
+
+    rest : p x ≡ true → 1 ≤ count_by (λ x. not (p x)) front
+    rest e = let counted : count_by (λ x. not (p x)) (x ∷ front) ≡ (0 + cond (not (p x)) 1 0) + count_by (λ x. not (p x)) front = count-from (λ x. not (p x)) (0 + cond (not (p x)) 1 0) front in
+        let none : cond {A = ℕ} (not (p x)) 1 0 ≡ 0 = ap (λ b. cond (not b) 1 0) e in
+        omega arith
 
 -- the value of a front that is all of the list or enough is the value of the list
 pub value-front : {T A : Type 0} (needed : Option ℕ) (counted : T → Bool) (value : List T → A) → KeepsEnough needed counted value

@@ -8,7 +8,8 @@ use crate::Demand;
 use spliterator::{NoMemory, OrderedValue};
 use stages::Operation;
 
-/// An operation that looks at a whole list. It is its own demand: what it asks of the list before it.
+/// An operation that looks at a whole list (`java.util.stream`, package summary, Stateful operations). It is its own demand: what it asks of the
+/// list before it.
 pub trait Barrier<T: OrderedValue>: Demand<T> {
     ghost value: { Self → List T.Content → List T.Content };
 

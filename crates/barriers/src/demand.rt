@@ -57,7 +57,7 @@ impl<T: Value> Demand<T> for Whole {
 /// Every item counts.
 #[derive(Clone, Copy, Debug)]
 pub struct Total {
-    needed: u64,
+    pub needed: u64,
     ghost fits: { needed < 2 ^ 63 },
 }
 
@@ -88,7 +88,7 @@ impl<T: Value> Demand<T> for Total {
 /// One item that meets the test is enough.
 #[derive(Drop)]
 pub struct FirstHit<P> {
-    test: P,
+    pub test: P,
 }
 
 impl<P> FirstHit<P> {

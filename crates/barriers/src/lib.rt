@@ -3,8 +3,17 @@
 
 mod barrier;
 mod demand;
+mod distinct;
 mod limit;
+mod skip;
+mod whiles;
 
 pub use barrier::Barrier;
 pub use demand::{Demand, FirstHit, Need, Total, Whole};
+pub use distinct::Distinct;
 pub use limit::Limit;
+pub use skip::Skip;
+pub use whiles::{DropWhile, TakeWhile};
+
+#[cfg(test)]
+mod tests;

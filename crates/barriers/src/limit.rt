@@ -1,4 +1,4 @@
-ghost use Rattle.std.specs.Prelude.{◌≡◌, ◌<◌, ◌^◌, Some, take, IfOk, map, min, option_map};
+ghost use Rattle.std.specs.Prelude.{◌≡◌, ◌<◌, ◌^◌, Some, take, IsOk, IfOk, map, min, option_map};
 ghost use Rattle.stages.specs.declared.flags.Operation.TheVariants.{Limit as limit_row};
 ghost use Rattle.barriers.specs.Needs.{every_item};
 ghost use Rattle.barriers.specs.NeedLaws.{KeepsEnough-take};
@@ -8,10 +8,10 @@ use crate::{Barrier, Demand, Need};
 use spliterator::{NoMemory, OrderedValue, Value};
 use stages::Operation;
 
-/// At most the first items.
+/// At most the first items (`java.util.stream.Stream`, `limit`). So many items are enough.
 #[derive(Clone, Copy, Debug)]
 pub struct Limit {
-    most: u64,
+    pub most: u64,
     ghost fits: { most < 2 ^ 63 },
 }
 
@@ -51,7 +51,8 @@ impl<T: OrderedValue + Drop> Barrier<T> for Limit {
     ghost flag_law = { λ b. KeepsSound-take T.order b.most };
 
     fn apply(&self, mut items: Vec<T>) -> Result<Vec<T>, NoMemory>
-        ensures { IfOk result (λ kept. map T.content kept.items ≡ take self.now.most (map T.content items.items)) }
+        ensures value { IfOk result (λ kept. map T.content kept.items ≡ take self.now.most (map T.content items.items)) }
+        ensures answered { IsOk result }
     {
         items.truncate(self.most as usize);
         Ok(items)

@@ -1,5 +1,5 @@
 -- What holds of a closed board.
-use Rattle.std.proofs.Common.{◌≡◌, ◌≢◌, ℕ, zero, suc, ◌+◌, ◌-◌, ◌<◌, List, [], ◌∷◌, length, drop, refl, sym, ap, ◌∙◌, subst, arith, Some, None, if◌then◌else◌}
+use Rattle.std.proofs.Common.{◌≡◌, ◌≢◌, ℕ, zero, suc, ◌+◌, ◌*◌, ◌-◌, ◌<◌, List, [], ◌∷◌, length, drop, refl, sym, ap, ◌∙◌, subst, arith, Some, None, if◌then◌else◌}
 use Rattle.std.specs.Prelude.{slice_index, Contains}
 use mathlib.Core.Option.{some, some-ne-none, some-injective}
 use mathlib.Core.Logic.{dite}
@@ -38,7 +38,7 @@ module _ (c : BoardCase) (s : State Unit View) (o : Orderly c s) (id : ℕ) (v :
   seat_of a below = let x = all a below in (x.0, x.1, ap o.know (sym x.2) ∙ (known x.0 x.1).1)
 
   word_is : (leaf : ℕ) → slice_index r.counts leaf ≡ leaf_word c s.words leaf
-  word_is leaf = get_or_drop s.words (1 + c.seats) leaf
+  word_is leaf = get_or_drop s.words (8 * (1 + c.seats)) leaf
 
   cut_is : cut_word s.words < c.leaves → cut_of r ≡ Some (cut_word s.words)
   cut_is less = ap (λ b. if b then Some (cut_word s.words) else None) (lt-ltb (cut_word s.words) c.leaves less)
@@ -124,8 +124,8 @@ at_get_or [] i w e = absurd (some-ne-none w (sym e))
 at_get_or (x ∷ xs) zero w e = some-injective x w e
 at_get_or (x ∷ xs) (suc i) w e = at_get_or xs i w e
 
-pub count_word : (words : List ℕ) (leaves seats leaf w : ℕ) → get_elem? words (1 + seats + leaf) ≡ some w → count_of (outcome words leaves seats) leaf ≡ count_in w
-count_word words leaves seats leaf w e = ap count_in (get_or_drop words (1 + seats) leaf ∙ at_get_or words (1 + seats + leaf) w e)
+pub count_word : (words : List ℕ) (leaves seats leaf w : ℕ) → get_elem? words (8 * (1 + seats) + leaf) ≡ some w → count_of (outcome words leaves seats) leaf ≡ count_in w
+count_word words leaves seats leaf w e = ap count_in (get_or_drop words (8 * (1 + seats)) leaf ∙ at_get_or words (8 * (1 + seats) + leaf) w e)
 
 pub no_count : (w : ℕ) → w ≡ 0 → count_in w ≡ None
 no_count w e = ap count_in e

@@ -11,3 +11,4 @@ pub mod Ends
 pub mod Closing
 pub mod Gathering
 pub mod Handing
+pub mod Simulated

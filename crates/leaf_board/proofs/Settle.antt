@@ -16,9 +16,6 @@ enough_is c r n e le = subst (λ need. Reaches need n) (sym e) le
 pub enough_means : (c : BoardCase) (r n : ℕ) → c.need ≡ Some r → Reaches c.need n → r ≤ n
 enough_means c r n e h = subst (λ need. Reaches need n) e h
 
-pub never_enough : (c : BoardCase) (n : ℕ) → c.need ≡ None → ¬ Reaches c.need n
-never_enough c n e h = subst (λ need. Reaches need n) e h
-
 -- a look changes one known count
 pub known_else : (k : Knowledge) (leaf word j : ℕ) → j ≢ leaf → known_count (after_look k leaf word) j ≡ known_count k j
 known_else k leaf word j ne = ap (λ (n : ℕ). n - 1) (get_or-set_other k.counts leaf j word 0 ne)
@@ -58,10 +55,6 @@ looks_turn k was next at word o is stays = subst (OnlyLooks k) (sym is) (record 
         let known : slice_index counts at ≢ 0 = λ z. some (ap (slice_index counts) e ∙ z) in
         ap (λ l. slice_index l leaf) (ap (set counts at) (stays known) ∙ set-get_or counts at 0))
         (λ ne. get_or-set_other counts at leaf word 0 ne)
-
--- .. and a cut
-pub looks_cut : (k was next : Knowledge) (cut found : ℕ) → OnlyLooks k was → next ≡ after_cut was cut found → OnlyLooks k next
-looks_cut k was next cut found o is = subst (OnlyLooks k) (sym is) (record { leaves = o.leaves; passed = o.passed; draws = o.draws; publishes = o.publishes; reads = o.reads; known = o.known })
 
 -- a cut changes no known count
 pub first_after_cut : (c : BoardCase) (k after : Knowledge) (at found : ℕ) → after ≡ after_cut k at found → KnowsEnough c k at → ((p : ℕ) → p < at → ¬ KnowsEnough c k p) → FirstEnough c after at

@@ -1,5 +1,5 @@
 -- What a closed board's record says of what its seats did.
-use Rattle.std.specs.Prelude.{◌≡◌, ℕ, zero, suc, ◌+◌, ◌<◌, ◌≤◌, List, drop, length, Option, Some, None, slice_get, slice_index, Contains, if◌then◌else◌, nat_lt}
+use Rattle.std.specs.Prelude.{◌≡◌, ℕ, zero, suc, ◌+◌, ◌*◌, ◌<◌, ◌≤◌, List, drop, length, Option, Some, None, slice_get, slice_index, Contains, if◌then◌else◌, nat_lt}
 use mathlib.Core.Option.{some}
 use lib.ListN.{get_elem?}
 use Rattle.atomic_table.specs.Seated.{TableId}
@@ -16,7 +16,7 @@ pub record Outcome : Type 0 where
   pub counts : List ℕ
 
 abbrev pub outcome : List ℕ → ℕ → ℕ → Outcome
-outcome words leaves seats = record { leaves = leaves; cut_word = slice_index words 0; counts = drop (1 + seats) words }
+outcome words leaves seats = record { leaves = leaves; cut_word = slice_index words 0; counts = drop (8 * (1 + seats)) words }
 
 abbrev pub leaves_of : Outcome → ℕ
 leaves_of r = r.leaves

@@ -1,5 +1,5 @@
 -- What holds between any two steps of any seats: of the words, and of what the seats know.
-use Rattle.std.specs.Prelude.{◌≡◌, ◌≢◌, ℕ, zero, suc, ◌+◌, ◌<◌, ◌≤◌, List, [], ◌∷◌, length, slice_index, Contains, if◌then◌else◌, nat_lt}
+use Rattle.std.specs.Prelude.{◌≡◌, ◌≢◌, ℕ, zero, suc, ◌+◌, ◌*◌, ◌<◌, ◌≤◌, List, [], ◌∷◌, length, slice_index, Contains, if◌then◌else◌, nat_lt}
 use mathlib.Core.Option.{some}
 use lib.ListN.{get_elem?}
 use Rattle.atomic_table.specs.Table.{State}
@@ -10,13 +10,13 @@ use Rattle.leaf_board.specs.declared.view.View.{View}
 
 -- Word 0 is the cut, then each share has a ticket, then each leaf has a word: 0, or 1 + its count
 abbrev pub ticket_place : ℕ → ℕ
-ticket_place share = 1 + share
+ticket_place share = 8 * (1 + share)
 
 abbrev pub leaf_place : BoardCase → ℕ → ℕ
-leaf_place c leaf = 1 + c.seats + leaf
+leaf_place c leaf = 8 * (1 + c.seats) + leaf
 
 abbrev pub word_count : BoardCase → ℕ
-word_count c = 1 + c.seats + c.leaves
+word_count c = 8 * (1 + c.seats) + c.leaves
 
 abbrev pub cut_word : List ℕ → ℕ
 cut_word words = slice_index words 0

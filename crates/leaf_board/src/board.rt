@@ -1,4 +1,4 @@
-// The board, its seats and the passes that it hands out.
+//! The board, its seats and the passes that it hands out.
 ghost use Rattle.std.specs.Prelude.{◌≡◌, ◌≢◌, ℕ, ◌+◌, ◌-◌, ◌*◌, ◌/◌, ◌^◌, ◌<◌, ◌≤◌, ◌↔◌, min, slice_index, [], ◌∷◌, ◌++◌, IsTrue, IfOk, IfSome, IfNone, MatchOption, MatchResult};
 ghost use Rattle.barriers.specs.Needs.{need_of, IsBelow};
 ghost use Rattle.leaf_board.specs.Case.{share_end, ring, IsJustified, IsLawful};
@@ -20,7 +20,9 @@ use spliterator::NoMemory;
 use std::alloc::Global;
 use std::marker::{Brand, Model, PhantomData};
 
-/// The right to run one leaf. It has no `Drop`, so it ends in `publish`, `skip` or `give_up`.
+/// The right to run one leaf, and the duty to end it: by [`Board::publish`], [`Board::skip`] or [`Board::give_up`].
+///
+/// It has no `Drop`, so a program that lets it go is refused. Contracts see the leaf's number.
 pub struct LeafPass {
     leaf: usize,
 }
@@ -34,14 +36,18 @@ impl Model for LeafPass {
 }
 
 impl LeafPass {
+    /// Leaves are numbered from 0, in encounter order.
     pub fn leaf(&self) -> usize
         ensures { result ≡ self.now }
     {
-        self.leaf
+        let LeafPass { leaf } = self;
+        *leaf
     }
 }
 
 /// What one thread steps with.
+///
+/// Contracts see its board, its number and what it knows, as plain data. It may go to another thread.
 #[derive(Drop)]
 pub struct BoardSeat<C: Case> {
     seat: Seat<(), View>,
@@ -61,7 +67,7 @@ impl<C: Case> Model for BoardSeat<C> {
 }
 
 impl<C: Case> BoardSeat<C> {
-    /// Seats are numbered from 0.
+    /// Seats are numbered from 0, so a number is at most 63.
     pub fn number(&self) -> u32
         ensures { result ≡ self.now.number }
     {
@@ -78,7 +84,29 @@ impl<C: Case> BoardSeat<C> {
     }
 }
 
-/// Leaves to hand out, their counts and the cut.
+/// Hands out leaves, keeps their counts, and cuts off the leaves that can no longer matter.
+///
+/// Its words, in one table: the cut, which is the number of leaves where there is none; a ticket for each seat's share of the
+/// leaves; and a word for each leaf, which is 0, or 1 more than its count. Each call is made of single atomic steps on one word.
+/// It takes no lock and no memory, tries no step again and waits for nobody.
+///
+/// ```text
+/// let (board, mut seats) = Board::<C>::new(alloc, 1000, Need::Reach(10), 4)?;
+/// // in a thread of its own for each seat:
+/// while let Draw::Leaf(pass) = board.draw(seat) {
+///     match board.skip(seat, pass) {
+///         Ok(()) => {}
+///         Err(pass) => {
+///             let leaf = pass.leaf();
+///             let count = run(leaf);
+///             board.publish(seat, pass, count);
+///             board.settle(seat, leaf);
+///         }
+///     }
+/// }
+/// // and once all of them have ended:
+/// let record = board.close(seats);
+/// ```
 #[derive(Drop)]
 pub struct Board<C: Case> {
     table: Table<(), View, (), Order<C>, Global>,
@@ -113,19 +141,19 @@ fn add(sum: u64, count: u64) -> u64
     sum.saturating_add(count)
 }
 
+// The cut and the tickets lie on cache lines of their own, since each is changed by many threads or often.
+const WORDS_A_LINE: usize = 8;
+
 // The words at the start.
 fn opening_words<C: Case>(alloc: Global, leaves: usize, seats: usize) -> Result<Vec<u64>, NoMemory>
     requires case { (leaves ≡ C.case.leaves) × (seats ≡ C.case.seats) }
     requires limits { (leaves ≤ 65536) × (0 < seats) × (seats ≤ 64) }
     ensures { IfOk result (λ words. IsOpening C.case words.items) }
 {
-    let mut words = Vec::new(alloc);
-    words.push(leaves as u64)?;
+    let mut words = vec![in alloc; 0; WORDS_A_LINE * (1 + seats) + leaves]?;
+    words[0] = leaves as u64;
     for share in 0..seats {
-        words.push((share * leaves / seats) as u64)?;
-    }
-    for _leaf in 0..leaves {
-        words.push(0)?;
+        words[WORDS_A_LINE * (1 + share)] = (share * leaves / seats) as u64;
     }
     Ok(words)
 }
@@ -161,7 +189,9 @@ fn gather<C: Case>(
 }
 
 impl<C: Case> Board<C> {
-    /// A board of leaves that all are there to be given out, and its seats.
+    /// A board of 1 to 65,536 leaves of which none is given out, and its 1 to 64 seats, which know nothing.
+    ///
+    /// The need is below 2^63. Refused by `NoMemory` where the words or the seats find no memory.
     pub fn new(
         alloc: Global,
         leaves: usize,
@@ -193,9 +223,10 @@ impl<C: Case> Board<C> {
         Ok((board, dealt))
     }
 
-    /// Ends the board, with all its seats.
+    /// Ends the board, with all its seats in any order, and keeps what they did.
     pub fn close(self, mut seats: Vec<BoardSeat<C>>) -> Record
-        requires { AreOf self seats.items × AreAll C.case seats.items }
+        requires own { AreOf self seats.items }
+        requires all { AreAll C.case seats.items }
         ensures { IsRecordOf C.case seats.items result }
     {
         let Board {
@@ -244,7 +275,7 @@ impl<C: Case> Board<C> {
         let found = self
             .table
             .shared
-            .fetch_add::<Draws<C>>(&mut seat.seat, 1 + share, 1);
+            .fetch_add::<Draws<C>>(&mut seat.seat, WORDS_A_LINE * (1 + share), 1);
         if found < end {
             return Some(found as usize);
         }
@@ -252,7 +283,8 @@ impl<C: Case> Board<C> {
         None
     }
 
-    /// A leaf that no one else gets.
+    /// A leaf that no one else gets: the next one of the seat's own share, and where that is empty, of the next shares round the
+    /// ring. `Drained` where all leaves were given out; from then on the seat is told so without a step.
     pub fn draw(&self, seat: &mut BoardSeat<C>) -> Draw<LeafPass>
         requires { seat.old.board ≡ self.now }
         ensures seat { SameSeat seat.old seat.new }
@@ -271,10 +303,12 @@ impl<C: Case> Board<C> {
         Draw::Drained
     }
 
-    /// The leaf's count, for good.
+    /// Spends the pass, and makes the leaf's count known for good.
+    ///
+    /// The count is the leaf's full one, or a smaller one that is enough by itself. It is below 2^63.
     pub fn publish(&self, seat: &mut BoardSeat<C>, pass: LeafPass, count: u64)
         requires own { seat.old.board ≡ self.now }
-        requires pass { IsHeld seat.old.knows pass }
+        requires held { IsHeld seat.old.knows pass }
         requires count { IsLawful C.case.need (C.case.full pass) count × (count < 2 ^ 63) }
         ensures seat { SameSeat seat.old seat.new }
         ensures knows { seat.new.knows ≡ after_publish seat.old.knows pass count }
@@ -282,18 +316,18 @@ impl<C: Case> Board<C> {
     {
         let LeafPass { leaf } = pass;
         let seat = &mut seat.seat;
-        let place = 1 + self.seats + leaf;
+        let place = WORDS_A_LINE * (1 + self.seats) + leaf;
         self.table
             .shared
             .swap::<Publishes<C>>(seat, place, count + 1);
     }
 
-    /// Ends the pass of a leaf that was refused memory.
+    /// Spends the pass of a leaf that was refused memory, which stays without a count. It makes no step.
     pub fn give_up(&self, _seat: &mut BoardSeat<C>, pass: LeafPass)
         requires { (_seat.old.board ≡ self.now) × IsHeld _seat.old.knows pass }
         ensures { _seat.new ≡ _seat.old }
     {
-        let LeafPass { leaf: _ } = pass;
+        let LeafPass { leaf: _given_up } = pass;
     }
 
     // One look at a leaf's word.
@@ -304,7 +338,7 @@ impl<C: Case> Board<C> {
         ensures count { known_count seat.new.knows leaf ≡ result - 1 }
         ensures stays { slice_index seat.old.knows.counts leaf ≢ 0 → result ≡ slice_index seat.old.knows.counts leaf }
     {
-        let place = 1 + self.seats + leaf;
+        let place = WORDS_A_LINE * (1 + self.seats) + leaf;
         self.table.shared.load::<Looks<C>>(&mut seat.seat, place)
     }
 
@@ -321,7 +355,9 @@ impl<C: Case> Board<C> {
             .fetch_min::<Cuts<C>>(&mut seat.seat, 0, leaf as u64);
     }
 
-    /// Looks at the counts of leaves 0 to this one, and cuts where those so far are enough.
+    /// Looks at the counts of leaves 0 to this one, in order, and cuts at the first place where those so far reach the need.
+    ///
+    /// A leaf without a count adds nothing and is no bar to a cut. With `Need::Never` it makes no step.
     pub fn settle(&self, seat: &mut BoardSeat<C>, leaf: usize)
         requires { (seat.old.board ≡ self.now) × (leaf < C.case.leaves) }
         ensures seat { SameSeat seat.old seat.new }
@@ -354,7 +390,7 @@ impl<C: Case> Board<C> {
         self.table.shared.load::<Reads<C>>(&mut seat.seat, 0)
     }
 
-    /// Whether the leaf lies right of a cut.
+    /// Whether a cut left of the leaf is found, by one read.
     pub fn is_cut(&self, seat: &mut BoardSeat<C>, leaf: usize) -> bool
         requires { (seat.old.board ≡ self.now) × (leaf < C.case.leaves) }
         ensures seat { SameSeat seat.old seat.new }
@@ -366,7 +402,7 @@ impl<C: Case> Board<C> {
         self.read(seat) < leaf as u64
     }
 
-    /// Spends the pass where its leaf lies right of a cut.
+    /// Spends the pass where a cut left of its leaf is found, by one read; else gives it back.
     pub fn skip(&self, seat: &mut BoardSeat<C>, pass: LeafPass) -> Result<(), LeafPass>
         requires { (seat.old.board ≡ self.now) × IsHeld seat.old.knows pass }
         ensures seat { SameSeat seat.old seat.new }

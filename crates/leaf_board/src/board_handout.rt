@@ -1,4 +1,4 @@
-// The board as one that hands out leaves to workers.
+//! The board as one that hands out leaves to workers.
 ghost use Rattle.leaf_board.specs.Statuses.{AreSeats};
 ghost use Rattle.leaf_board.specs.Records.{Closes};
 ghost use Rattle.leaf_board.specs.Closing.{leaves_of, cut_of, count_of};

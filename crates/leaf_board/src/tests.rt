@@ -6,11 +6,13 @@ ghost use Rattle.leaf_board.specs.Seats.{SameSeat, Gained, OnlyDraws};
 ghost use Rattle.leaf_board.specs.Boards.{case_of};
 ghost use Rattle.std.specs.Prelude.{None, Some};
 
+mod plain;
 mod seats;
+mod shares;
+mod simulation;
+mod threads;
 
-use crate::record::Record;
-use crate::rule::Case;
-use crate::{Board, BoardSeat, Draw, LeafPass};
+use crate::{Board, BoardSeat, Case, Draw, LeafBoard, LeafPass, Record};
 use barriers::Need;
 use std::alloc::Global;
 use std::marker::Brand;
@@ -74,7 +76,7 @@ fn close_one<C: Case>(
     ensures { IfOk result (λ r. r.leaves ≡ C.case.leaves) }
 {
     seats.push(seat)?;
-    Ok(board.close(seats))
+    Ok(LeafBoard::close(board, seats))
 }
 
 fn two_leaves<C: Case, R: Abort>(rt: &R, alloc: Global) -> Result<(), Fail>

@@ -1,16 +1,16 @@
 -- An argument with a default always has a value, and the value passed the argument's parser.
-use Rattle.std.proofs.Common.{◌≡◌, ◌⊎◌, ◌∙◌, ◌++◌, ◌<◌, ◌≤◌, ℕ, zero, suc, Bool, true, false, List, [], ◌∷◌, length, is_some, Option, Some, None, refl, sym, ap, subst, inl, inr, arith, append_assoc}
+use Rattle.std.proofs.Common.{◌≡◌, ◌∙◌, ◌++◌, ◌<◌, ◌≤◌, ℕ, zero, suc, Bool, true, false, List, [], ◌∷◌, length, is_some, Option, Some, None, refl, sym, ap, subst, inl, inr, arith, append_assoc}
 use Rattle.std.specs.List.{All, slice_index_or}
 use Rattle.std.specs.Str.{bytes_eq}
 use Rattle.std.specs.Borrow.{Bor}
-use Rattle.std.specs.Prelude.{find, option_map, slice_get, Result, Ok, Err, ◌^◌, codes, ℤ, pos}
+use Rattle.std.specs.Prelude.{find, option_map, slice_get, Result, Ok, Err, codes, ℤ, pos}
 use Rattle.std.specs.Str.Parse.{ParsesUnsigned}
 use Rattle.std.proofs.lemmas.Bool.{false≢true}
 use Rattle.std.proofs.lemmas.List.{append-nil}
 use Rattle.std.proofs.lemmas.Slice.Eq.{bytes_eq-Decides}
-use Rattle.clap.specs.Facts.{args_of, groups_of, Entry, EntryPasses, HasId, HasIn, HasReading, IsParsed, PassesArg, WantsDefault, least_values, parser_of, parser_of_value}
+use Rattle.clap.specs.Facts.{args_of, groups_of, Entry, EntryPasses, HasIn, HasReading, PassesArg, WantsDefault, least_values, parser_of, parser_of_value}
 use Rattle.clap.specs.Built.{AddsArg, AddsInTurn, FitsChain, HasDistinctIds, IsAuto, IsParsedFrom, IsPlain, IsPlainArg, KeepsList, SameRules}
-use Rattle.clap.specs.Matches.{ReadsOne, first_value, found_of, has_subcommand, matched_of, one_text}
+use Rattle.clap.specs.Matches.{ReadsOne, first_value, found_of, matched_of, one_text}
 use Rattle.std.specs.Int.{saturate_unsigned, w64}
 use Rattle.std.specs.Ordering.{nat_cmp, ord_max}
 use Rattle.clap.specs.Values.{unsigned_up_to, Accepts, IsUnsignedIn, read_as, reading_of}
@@ -18,7 +18,6 @@ use Rattle.clap.specs.declared.builder.action.ArgAction.TheVariants.{Count, Set}
 use Rattle.clap.specs.declared.builder.arg.Arg.{Arg}
 use Rattle.clap.specs.declared.builder.command.Command.{Command}
 use Rattle.clap.specs.declared.builder.command.Command.TheViews.{out-Command}
-use Rattle.clap.specs.declared.builder.value_parser.Reading.{Reading}
 use Rattle.clap.specs.declared.builder.value_parser.ValueParser.{ValueParser}
 use Rattle.clap.specs.declared.parser.matches.ArgMatches.{ArgMatches}
 use Rattle.clap.specs.declared.parser.matches.MatchedArg.{MatchedArg}

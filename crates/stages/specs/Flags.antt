@@ -22,10 +22,12 @@ abbrev pub is_short_circuit : StreamFlags → Bool
 is_short_circuit flags = flags.short_circuit
 
 -- a source tells what its characteristics tell
+-- java.util.Spliterator, characteristics
 abbrev pub flags_of : ℕ → StreamFlags
 flags_of told = record { distinct = tells told DISTINCT; sorted = tells told SORTED; sized = tells told SIZED; short_circuit = false }
 
--- The table of the flags: what an operation doesn't name here it keeps.
+-- The table of the flags: what a row doesn't name it keeps. A short circuit is that of
+-- java.util.stream, package summary, Stream operations and pipelines.
 abbrev pub after : StreamFlags → Operation → StreamFlags
 after flags Map = record flags { distinct = false; sorted = false }
 after flags Filter = record flags { sized = false }

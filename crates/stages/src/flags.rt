@@ -1,7 +1,9 @@
 //! What a stream tells of its items before any of them is read.
-ghost use Rattle.std.specs.Prelude.{◌≡◌};
-ghost use Rattle.stages.specs.Flags.{flags_of, after, is_distinct, is_sorted, is_sized, is_short_circuit};
+ghost use Rattle.std.specs.Prelude.{◌≡◌, Some, None, if◌then◌else◌};
+ghost use Rattle.spliterator.specs.Characteristics.{tells};
+ghost use Rattle.stages.specs.Flags.{IsSound, flags_of, after, is_distinct, is_sorted, is_sized, is_short_circuit};
 
+use spliterator::Spliterator;
 use spliterator::characteristics::{DISTINCT, SIZED, SORTED};
 
 /// An intermediate operation, as far as the flags of a stream go by it.
@@ -38,6 +40,14 @@ impl StreamFlags {
             sized: characteristics & SIZED == SIZED,
             short_circuit: false,
         }
+    }
+
+    /// The flags of a source, which are sound with its exact size.
+    pub fn of_source<S: Spliterator>(source: &S) -> StreamFlags
+        ensures of { result ≡ flags_of (S.told source.now) }
+        ensures sound { IsSound S.Item.order result (if tells (S.told source.now) SIZED then Some (S.estimate source.now) else None) (S.items source.now) }
+    {
+        StreamFlags::of(source.characteristics())
     }
 
     /// The flags of the stream that the operation makes of one with these flags.

@@ -69,8 +69,8 @@ impl<T: Value + Drop> Sink<T> for Vec<T> {
 /// A sink that passes what it takes through a stage.
 #[derive(Drop)]
 pub struct Onward<'a, B, K> {
-    next: &'a B,
-    sink: &'a mut K,
+    pub next: &'a B,
+    pub sink: &'a mut K,
 }
 
 impl<'a, B, K> Onward<'a, B, K> {

@@ -7,10 +7,10 @@ use crate::{ListValue, Mapping, Onward, Operation, Sink, Stage, Test};
 use spliterator::{NoMemory, OrderedValue, Value};
 use std::marker::PhantomData;
 
-/// One image an item.
+/// One image an item (`java.util.stream.Stream`, `map`).
 #[derive(Drop)]
 pub struct Map<T, M> {
-    mapping: M,
+    pub mapping: M,
     items: PhantomData<T>,
 }
 
@@ -56,10 +56,10 @@ where
     }
 }
 
-/// The items that meet a test.
+/// The items that meet a test (`java.util.stream.Stream`, `filter`).
 #[derive(Drop)]
 pub struct Filter<T, P> {
-    test: P,
+    pub test: P,
     items: PhantomData<T>,
 }
 
@@ -121,10 +121,11 @@ fn take_each<T: Value + Drop, K: Sink<T>>(items: Vec<T>, sink: &mut K) -> Result
     Ok(())
 }
 
-/// The items of a list of images in the place of each item.
+/// The items of a list in the place of each item (`java.util.stream.Stream`, `flatMap`): the image of an item is a `Vec`, or another
+/// `ListValue`.
 #[derive(Drop)]
 pub struct FlatMap<T, M> {
-    mapping: M,
+    pub mapping: M,
     items: PhantomData<T>,
 }
 
@@ -212,11 +213,11 @@ impl<T: OrderedValue + Drop> Stage for Nothing<T> {
     }
 }
 
-/// One stage after another.
+/// One stage after another: the second's expansions of what the first gives.
 #[derive(Drop)]
 pub struct Then<A, B> {
-    first: A,
-    second: B,
+    pub first: A,
+    pub second: B,
 }
 
 impl<A, B> Then<A, B> {

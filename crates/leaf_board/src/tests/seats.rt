@@ -4,9 +4,7 @@ ghost use Rattle.leaf_board.specs.Boards.{case_of};
 ghost use Rattle.std.specs.Prelude.{None, Some};
 
 use super::{drained, leaf, skipped};
-use crate::record::Record;
-use crate::rule::Case;
-use crate::{Board, BoardSeat, Draw};
+use crate::{Board, BoardSeat, Case, Draw, LeafBoard, Record};
 use barriers::Need;
 use std::alloc::{AllocError, Global};
 use std::marker::Brand;
@@ -29,7 +27,7 @@ fn close_two<C: Case>(
 {
     seats.push(first)?;
     seats.push(second)?;
-    Ok(board.close(seats))
+    Ok(LeafBoard::close(board, seats))
 }
 
 // The second seat's settle sees what the first published.

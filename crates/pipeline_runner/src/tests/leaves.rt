@@ -6,8 +6,9 @@ use crate::{Counted, Gate, Settings, run};
 use std::alloc::Global;
 use std::sync::atomic::{AtomicU64, Ordering};
 use std::test::Fail;
+use std::thread::Threads;
 
-/// Counts the leaves that were entered and ended, and the calls that came out of turn.
+/// Counts the leaves that were entered and ended, and the calls of no worker.
 #[derive(Drop)]
 struct Counting {
     entered: AtomicU64,
@@ -24,26 +25,33 @@ impl Counting {
         }
     }
 
-    /// Counts a call of the leaf, which has to be the next one and worker 0's.
-    fn count(&self, calls: &AtomicU64, worker: u32, leaf: usize) {
-        if worker != 0 || calls.fetch_add(1, Ordering::SeqCst) != leaf as u64 {
+    /// Counts a call of a worker, which has to be one of the 64.
+    fn count(&self, calls: &AtomicU64, worker: u32) {
+        calls.fetch_add(1, Ordering::SeqCst);
+        if worker >= 64 {
             self.strays.fetch_add(1, Ordering::SeqCst);
         }
     }
 }
 
 impl Gate for Counting {
-    fn before_leaf(&self, worker: u32, leaf: usize) {
-        self.count(&self.entered, worker, leaf);
+    fn before_leaf(&self, worker: u32, _leaf: usize) {
+        self.count(&self.entered, worker);
     }
 
-    fn after_leaf(&self, worker: u32, leaf: usize) {
-        self.count(&self.ended, worker, leaf);
+    fn after_leaf(&self, worker: u32, _leaf: usize) {
+        self.count(&self.ended, worker);
     }
 }
 
-/// How many leaves a run enters and ends, and how many calls were out of turn.
-fn leaves(alloc: Global, file: &[u8], workers: u32, target: u64) -> (u64, u64, u64)
+/// How many leaves a run enters and ends, and how many calls were no worker's.
+fn leaves<R: Threads + Sync>(
+    rt: &R,
+    alloc: Global,
+    file: &[u8],
+    workers: u32,
+    target: u64,
+) -> (u64, u64, u64)
     requires workers { (1 ≤ workers) × (workers ≤ 64) }
     requires target { target ≤ 2 ^ 62 }
 {
@@ -51,7 +59,7 @@ fn leaves(alloc: Global, file: &[u8], workers: u32, target: u64) -> (u64, u64, u
     let gate = Counting::new();
     let mut input = Counted::new(file);
     let mut output = Counted::new(Vec::new(alloc));
-    let _ = run(alloc, &mut input, &mut output, &settings, &gate);
+    let _ = run(rt, alloc, &mut input, &mut output, &settings, &gate);
     (
         gate.entered.load(Ordering::SeqCst),
         gate.ended.load(Ordering::SeqCst),
@@ -72,7 +80,7 @@ fn a_sum_runs_the_leaves_of_the_split_rule(rt: HostRuntime) -> Result<(), Fail> 
     for (file, workers, target, wanted) in cases {
         assert!(rt; (1..=64).contains(&workers) && target <= 1 << 62);
         assert_eq!(rt;
-            leaves(rt.alloc(), file, workers, target),
+            leaves(&rt, rt.alloc(), file, workers, target),
             (wanted, wanted, 0)
         );
     }
@@ -82,7 +90,7 @@ fn a_sum_runs_the_leaves_of_the_split_rule(rt: HostRuntime) -> Result<(), Fail> 
 #[test]
 fn a_count_runs_no_leaf(rt: HostRuntime) -> Result<(), Fail> {
     let file = b"pipeline 1\nrange 0 4611686018427387904\ncount\n";
-    assert_eq!(rt; leaves(rt.alloc(), file, 4, 0), (0, 0, 0));
-    assert_eq!(rt; leaves(rt.alloc(), file, 4, 1), (0, 0, 0));
+    assert_eq!(rt; leaves(&rt, rt.alloc(), file, 4, 0), (0, 0, 0));
+    assert_eq!(rt; leaves(&rt, rt.alloc(), file, 4, 1), (0, 0, 0));
     Ok(())
 }

@@ -4,6 +4,7 @@ use super::Script;
 use crate::{Counted, command};
 use std::alloc::{AllocError, Global};
 use std::test::Fail;
+use std::thread::Threads;
 
 const HELP: &str = "Runs a pipeline file
 
@@ -27,7 +28,12 @@ struct End {
 }
 
 /// How the program ends, with an output that fails at one call.
-fn program(alloc: Global, words: &[&str], write_fails: u64) -> Result<End, AllocError> {
+fn program<R: Threads + Sync>(
+    rt: &R,
+    alloc: Global,
+    words: &[&str],
+    write_fails: u64,
+) -> Result<End, AllocError> {
     let mut output = Counted::new(Script::new(alloc, b"", 100, write_fails));
     let mut error = Vec::new(alloc);
     let row: &[u8] = b"pipeline 1\nrange 1 6\nsum\n";
@@ -37,7 +43,7 @@ fn program(alloc: Global, words: &[&str], write_fails: u64) -> Result<End, Alloc
         "bad" => Some(Counted::new(Script::new(alloc, b"pipeline 2\n", 100, 0))),
         _ => None,
     };
-    let status = command(alloc, words, opener, &mut output, &mut error);
+    let status = command(rt, alloc, words, opener, &mut output, &mut error);
     let written = String::from_utf8_lossy(alloc, output.get_ref().written.as_slice())?;
     let told = String::from_utf8_lossy(alloc, error.as_slice())?;
     Ok(End {
@@ -73,7 +79,7 @@ fn ends_as_the_run_does(rt: HostRuntime) -> Result<(), Fail> {
         (&["row"], 2, 3, "15\n", "write failed\n"),
     ];
     for (words, write_fails, status, written, told) in cases {
-        let end = program(rt.alloc(), words, write_fails)?;
+        let end = program(&rt, rt.alloc(), words, write_fails)?;
         assert_eq!(rt; end.status, status, "{end:?}");
         assert_eq!(rt; end.written.as_str(), written);
         assert_eq!(rt; end.told.as_str(), told);
@@ -110,7 +116,7 @@ fn tells_a_fault_of_the_command_line(rt: HostRuntime) -> Result<(), Fail> {
         ),
     ];
     for (words, wanted) in cases {
-        let end = program(rt.alloc(), words, 0)?;
+        let end = program(&rt, rt.alloc(), words, 0)?;
         let text = format!(in rt.alloc(); "{wanted}{tail}")?;
         assert_eq!(rt; end.told.as_str(), text.as_str());
         assert_eq!(rt; end.status, 2);
@@ -122,12 +128,12 @@ fn tells_a_fault_of_the_command_line(rt: HostRuntime) -> Result<(), Fail> {
 #[test]
 fn shows_its_help(rt: HostRuntime) -> Result<(), Fail> {
     for word in ["--help", "-h"] {
-        let end = program(rt.alloc(), [word].as_slice(), 0)?;
+        let end = program(&rt, rt.alloc(), [word].as_slice(), 0)?;
         assert_eq!(rt; end.written.as_str(), HELP);
         assert_eq!(rt; end.status, 0);
         assert_eq!(rt; end.told.as_str(), "");
     }
-    let end = program(rt.alloc(), ["--help"].as_slice(), 1)?;
+    let end = program(&rt, rt.alloc(), ["--help"].as_slice(), 1)?;
     assert_eq!(rt; end.status, 3);
     assert_eq!(rt; end.told.as_str(), "write failed\n");
     Ok(())

@@ -6,12 +6,13 @@ use std::alloc::{AllocError, Global};
 use std::io;
 use std::io::{ErrorKind, Read};
 use std::test::Fail;
+use std::thread::Threads;
 
 /// What a run on the file writes, or the line that it tells.
-fn answer(alloc: Global, file: &[u8]) -> Result<String, AllocError> {
+fn answer<R: Threads + Sync>(rt: &R, alloc: Global, file: &[u8]) -> Result<String, AllocError> {
     let mut input = Counted::new(file);
     let mut output = Counted::new(Vec::new(alloc));
-    match run(alloc, &mut input, &mut output, &SETTINGS, &NoGate) {
+    match run(rt, alloc, &mut input, &mut output, &SETTINGS, &NoGate) {
         Ok(()) => String::from_utf8_lossy(alloc, output.get_ref().as_slice()),
         Err(e) => format!(in alloc; "{e}"),
     }
@@ -63,7 +64,7 @@ const ROWS: [(&[u8], &str); 17] = [
 fn answers_the_rows(rt: HostRuntime) -> Result<(), Fail> {
     let alloc = rt.alloc();
     for (file, wanted) in ROWS {
-        assert_eq!(rt; answer(alloc, file)?.as_str(), wanted);
+        assert_eq!(rt; answer(&rt, alloc, file)?.as_str(), wanted);
     }
     Ok(())
 }
@@ -85,7 +86,7 @@ fn answers_each_beginning(rt: HostRuntime) -> Result<(), Fail> {
     ];
     for (size, wanted) in beginnings {
         assert!(rt; size <= file.len());
-        assert_eq!(rt; answer(alloc, &file[..size])?.as_str(), wanted);
+        assert_eq!(rt; answer(&rt, alloc, &file[..size])?.as_str(), wanted);
     }
     Ok(())
 }
@@ -114,12 +115,12 @@ fn reads_to_the_limit(rt: HostRuntime) -> Result<(), Fail> {
     let mut file = Vec::new(alloc);
     file.resize(1_048_576, b'\n')?;
     assert_eq!(rt;
-        answer(alloc, file.as_slice())?.as_str(),
+        answer(&rt, alloc, file.as_slice())?.as_str(),
         "line 1: BAD_VERSION"
     );
     file.push(b'\n')?;
     assert_eq!(rt;
-        answer(alloc, file.as_slice())?.as_str(),
+        answer(&rt, alloc, file.as_slice())?.as_str(),
         "line 0: TOO_LARGE"
     );
     Ok(())
@@ -137,7 +138,7 @@ fn reads_no_further(rt: HostRuntime) -> Result<(), Fail> {
     for (left, wanted) in cases {
         let mut input = Counted::new(LineEnds { left });
         let mut output = Counted::new(Vec::new(alloc));
-        let end = run(alloc, &mut input, &mut output, &SETTINGS, &NoGate);
+        let end = run(&rt, alloc, &mut input, &mut output, &SETTINGS, &NoGate);
         let Err(error) = end else {
             return Err(Fail::from("a file of line ends has an answer"));
         };

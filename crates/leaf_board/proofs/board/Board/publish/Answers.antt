@@ -1,6 +1,6 @@
 use Rattle.std.specs.Prelude.{slice_index}
 use Rattle.std.proofs.lemmas.List.{get_or-set_same}
-use Rattle.std.proofs.Common.{◌-◌, ◌+◌, ◌≡◌, ◌<◌, length, arith, ap, sym, subst, length-set, ◌∙◌}
+use Rattle.std.proofs.Common.{◌-◌, ◌+◌, ◌*◌, ◌≡◌, ◌<◌, length, arith, ap, sym, subst, length-set, ◌∙◌}
 use Rattle.leaf_board.specs.Case.{IsLawful}
 use Rattle.leaf_board.specs.Knowledge.{Knowledge, IsHeld, after_publish}
 use Rattle.leaf_board.specs.Rule.{leaf_place}
@@ -11,13 +11,13 @@ use Rattle.leaf_board.proofs.board.Board.publish.Goals as goal
 
 pub overflow_add-place-2 : goal.overflow_add-place-2
 overflow_add-place-2 g c =
-    let held = subst (λ (h : Holder). IsHeld h.knows c.pass.inside.leaf) (sym c.seat.view_is) (subst (λ n. IsHeld c.args.seat.now.knows n) (sym c.pass.view_is) c.requires.pass) in
+    let held = subst (λ (h : Holder). IsHeld h.knows c.pass.inside.leaf) (sym c.seat.view_is) (subst (λ n. IsHeld c.args.seat.now.knows n) (sym c.pass.view_is) c.requires.held) in
     let at = held_there (knowledge_in c.seat.inside.seat.me.0) c.pass.inside.leaf held in
     omega arith
 
 pub swap-requires : goal.swap-requires
 swap-requires g c =
-    let held = subst (λ (h : Holder). IsHeld h.knows c.pass.inside.leaf) (sym c.seat.view_is) (subst (λ n. IsHeld c.args.seat.now.knows n) (sym c.pass.view_is) c.requires.pass) in
+    let held = subst (λ (h : Holder). IsHeld h.knows c.pass.inside.leaf) (sym c.seat.view_is) (subst (λ n. IsHeld c.args.seat.now.knows n) (sym c.pass.view_is) c.requires.held) in
     let at = held_there (knowledge_in c.seat.inside.seat.me.0) c.pass.inside.leaf held in (
       ap (λ (h : Holder). h.board) c.seat.view_is ∙ c.requires.own ∙ sym c.self.view_is,
       omega arith,
@@ -30,12 +30,12 @@ invariant_of-seat g c =
 
 pub returns-clause-knows : goal.returns-clause-knows
 returns-clause-knows g c =
-    step_knows (λ k. after_publish k (1 + c.self.inside.seats + c.pass.inside.leaf - leaf_place g.C.Case.case 0) (c.args.count + 1 - 1)) c.seat.inside.seat.me _ c.seat.inside.number _ (ap (λ (h : Holder). h.knows) c.seat.view_is) (c.swap.ensures.2 _ _ c.seat.invariant.0).0
+    step_knows (λ k. after_publish k (8 * (1 + c.self.inside.seats) + c.pass.inside.leaf - leaf_place g.C.Case.case 0) (c.args.count + 1 - 1)) c.seat.inside.seat.me _ c.seat.inside.number _ (ap (λ (h : Holder). h.knows) c.seat.view_is) (c.swap.ensures.2 _ _ c.seat.invariant.0).0
     ∙ (let e = leaf_of_place g.C.Case.case c.self.inside.seats c.pass.inside.leaf c.self.invariant.2 ∙ c.pass.view_is in let d : c.args.count + 1 - 1 ≡ c.args.count = omega arith in λ i. after_publish c.args.seat.now.knows (e i) (d i))
 
 pub returns-clause-counts : goal.returns-clause-counts
 returns-clause-counts g c =
-    let held = subst (λ (h : Holder). IsHeld h.knows c.pass.inside.leaf) (sym c.seat.view_is) (subst (λ n. IsHeld c.args.seat.now.knows n) (sym c.pass.view_is) c.requires.pass) in
+    let held = subst (λ (h : Holder). IsHeld h.knows c.pass.inside.leaf) (sym c.seat.view_is) (subst (λ n. IsHeld c.args.seat.now.knows n) (sym c.pass.view_is) c.requires.held) in
     let at = held_there (knowledge_in c.seat.inside.seat.me.0) c.pass.inside.leaf held in
     let there : c.pass.inside.leaf < length (knowledge_in c.seat.inside.seat.me.0).counts = (let a = c.seat.invariant.4 in let b = c.seat.invariant.6 in omega arith) in
     let known : c.args.pass < length c.args.seat.now.knows.counts = subst (λ n. n < length c.args.seat.now.knows.counts) c.pass.view_is (subst (λ (h : Holder). c.pass.inside.leaf < length h.knows.counts) c.seat.view_is there) in

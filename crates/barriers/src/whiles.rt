@@ -1,0 +1,150 @@
+//! The longest front whose items all meet a test, and what follows it.
+ghost use Rattle.std.specs.Prelude.{◌≡◌, ◌≤◌, length, Some, None, not, IsOk, IfOk, map, take_while};
+ghost use Rattle.std.specs.List.{prefix_len};
+ghost use Rattle.stages.specs.declared.flags.Operation.TheVariants.{TakeWhile as take_while_row, DropWhile as drop_while_row};
+ghost use Rattle.barriers.specs.Whiles.{drop_while};
+ghost use Rattle.barriers.specs.Needs.{no_item};
+ghost use Rattle.barriers.specs.NeedLaws.{KeepsEnough-never, KeepsEnough-take_while};
+ghost use Rattle.barriers.specs.BarrierFlags.{KeepsSound-take_while, KeepsSound-drop_while};
+
+use crate::skip::drop_front;
+use crate::{Barrier, Demand, Need};
+use spliterator::{NoMemory, OrderedValue, Value};
+use stages::{Operation, Test};
+
+// The number of items in front that all meet the test.
+fn length_of_front<T: Value, P: Test<T>>(items: &[T], test: &P) -> usize
+    requires { P.ready test.now }
+    ensures front { result ≡ prefix_len (P.holds test.now) (map T.content items.now) }
+    ensures within { result ≤ length items.now }
+{
+    for (place, item) in items.iter().enumerate() {
+        if !test.holds(item) {
+            return place;
+        }
+    }
+    items.len()
+}
+
+/// The longest front whose items all meet a test (`java.util.stream.Stream`, `takeWhile`). One item that fails it is enough.
+#[derive(Drop)]
+pub struct TakeWhile<P> {
+    pub test: P,
+}
+
+impl<P> TakeWhile<P> {
+    pub fn new(test: P) -> TakeWhile<P>
+        ensures { result.test ≡ test }
+    {
+        TakeWhile { test }
+    }
+}
+
+impl<T: Value, P: Test<T>> Demand<T> for TakeWhile<P> {
+    ghost ready = { λ b. P.ready b.test };
+
+    ghost needed = { λ _. Some 1 };
+
+    ghost counted = { λ b x. not (P.holds b.test x) };
+
+    fn need(&self) -> Need {
+        Need::Reach(1)
+    }
+
+    fn counts(&self, x: &T) -> bool {
+        !self.test.holds(x)
+    }
+}
+
+impl<T: OrderedValue + Drop, P: Test<T>> Barrier<T> for TakeWhile<P> {
+    ghost value = { λ b. take_while (P.holds b.test) };
+
+    ghost operation = { λ _. take_while_row };
+
+    ghost size_after = { λ _ _. None };
+
+    ghost enough_law = { λ b. KeepsEnough-take_while (P.holds b.test) };
+
+    ghost flag_law = { λ b. KeepsSound-take_while T.order (P.holds b.test) };
+
+    fn apply(&self, mut items: Vec<T>) -> Result<Vec<T>, NoMemory>
+        requires { P.ready self.now.test }
+        ensures value { IfOk result (λ kept. map T.content kept.items ≡ take_while (P.holds self.now.test) (map T.content items.items)) }
+        ensures answered { IsOk result }
+    {
+        items.truncate(length_of_front(&items, &self.test));
+        Ok(items)
+    }
+
+    fn operation(&self) -> Operation {
+        Operation::TakeWhile
+    }
+
+    fn size_after(&self, _size: Option<u64>) -> Option<u64>
+        ensures { result ≡ None }
+    {
+        None
+    }
+}
+
+/// What follows the longest front whose items all meet a test (`java.util.stream.Stream`, `dropWhile`).
+#[derive(Drop)]
+pub struct DropWhile<P> {
+    pub test: P,
+}
+
+impl<P> DropWhile<P> {
+    pub fn new(test: P) -> DropWhile<P>
+        ensures { result.test ≡ test }
+    {
+        DropWhile { test }
+    }
+}
+
+impl<T: Value, P: Test<T>> Demand<T> for DropWhile<P> {
+    ghost ready = { λ b. P.ready b.test };
+
+    ghost needed = { λ _. None };
+
+    ghost counted = { λ _. no_item };
+
+    fn need(&self) -> Need {
+        Need::Never
+    }
+
+    fn counts(&self, _x: &T) -> bool {
+        false
+    }
+}
+
+impl<T: OrderedValue + Drop, P: Test<T>> Barrier<T> for DropWhile<P> {
+    ghost value = { λ b. drop_while (P.holds b.test) };
+
+    ghost operation = { λ _. drop_while_row };
+
+    ghost size_after = { λ _ _. None };
+
+    ghost enough_law = { λ b. KeepsEnough-never no_item (drop_while (P.holds b.test)) };
+
+    ghost flag_law = { λ b. KeepsSound-drop_while T.order (P.holds b.test) };
+
+    fn apply(&self, mut items: Vec<T>) -> Result<Vec<T>, NoMemory>
+        requires { P.ready self.now.test }
+        ensures value { IfOk result (λ kept. map T.content kept.items ≡ drop_while (P.holds self.now.test) (map T.content items.items)) }
+        ensures answered { IsOk result }
+    {
+        let length = length_of_front(&items, &self.test);
+        drop_front(&mut items, length);
+        Ok(items)
+    }
+
+    fn operation(&self) -> Operation {
+        Operation::DropWhile
+    }
+
+    fn size_after(&self, _size: Option<u64>) -> Option<u64>
+        ensures { result ≡ None }
+    {
+        None
+    }
+}
