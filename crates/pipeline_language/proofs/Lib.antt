@@ -1,0 +1,10 @@
+pub mod BodyLemmas
+pub mod FileLemmas
+pub mod FormLemmas
+pub mod LineAnswers
+pub mod LineLemmas
+pub mod NumberLemmas
+pub mod NumberPhrases
+pub mod NumbersLemmas
+pub mod PhraseLemmas
+pub mod SyntaxLemmas

@@ -1,0 +1,10 @@
+pub mod Content
+pub mod Faults
+pub mod FileReading
+pub mod Form
+pub mod Language
+pub mod Reading
+pub mod Steps
+pub mod Syntax
+pub mod SyntaxReading
+pub mod Words
