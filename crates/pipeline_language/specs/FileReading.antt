@@ -1,5 +1,5 @@
 -- Reading a file, line by line.
-use Rattle.std.specs.Prelude.{◌≡◌, ℕ, ◌+◌, List, [], ◌∷◌, ◌++◌, length, nat_lt, Result, Ok, Err, if◌then◌else◌}
+use Rattle.std.specs.Prelude.{◌≡◌, ℕ, zero, suc, ◌+◌, List, [], ◌∷◌, ◌++◌, length, nat_lt, Result, Ok, Err, if◌then◌else◌}
 use Rattle.std.specs.Str.{is_utf8, bytes_eq}
 use Rattle.pipeline_language.specs.declared.fault.FileError.{FileError}
 use Rattle.pipeline_language.specs.declared.fault.FileError.TheVariants.{BadText, TooLarge, BadVersion, MissingTerminal, AfterTerminal}
@@ -8,11 +8,10 @@ use Rattle.pipeline_language.specs.declared.fault.ReadError.{ReadError}
 use Rattle.pipeline_language.specs.declared.fault.ReadError.TheVariants as errors
 use Rattle.pipeline_language.specs.declared.fault.LineError.{LineError}
 use Rattle.pipeline_language.specs.declared.fault.LineError.TheVariants as line_errors
-use Rattle.pipeline_language.specs.declared.pipeline.NumberStage.{NumberStage}
-use Rattle.pipeline_language.specs.declared.pipeline.NumberTerminal.{NumberTerminal}
+use Rattle.pipeline_language.specs.Content.{Body}
 use Rattle.pipeline_language.specs.Words.{lines_of}
-use Rattle.pipeline_language.specs.Syntax.{origins, BodyLine, StageLine, TerminalLine, bodies, Program}
-use Rattle.pipeline_language.specs.Language.{most_bytes, version}
+use Rattle.pipeline_language.specs.Syntax.{Origin, origins, text_count, Stage, BodyLine, StageLine, TerminalLine, Coming, after_stage, bodies, Program}
+use Rattle.pipeline_language.specs.Language.{most_bytes, version, from_origin}
 use Rattle.pipeline_language.specs.Reading.{◌>>=◌, Left, line_of}
 use Rattle.pipeline_language.specs.SyntaxReading.{body_of, origin_words}
 
@@ -33,36 +32,53 @@ unfoldable pub no_more : ℕ → List (List ℕ) → Result (Unit {0}) FileFault
 no_more n [] = Ok tt
 no_more n (line ∷ lines) = Err (record { line = n; kind = after_end line })
 
--- the stages and the terminal of a body
-abbrev pub Body : Type 0
-Body = List NumberStage × NumberTerminal
-
-abbrev pub with_stages : List NumberStage → Result Body FileFault → Result Body FileFault
+abbrev pub with_stages : List Stage → Result Body FileFault → Result Body FileFault
 with_stages stages (Ok body) = Ok (stages ++ body.0, body.1)
 with_stages stages (Err fault) = Err fault
 
-abbrev pub after_line : BodyLine → Result (Unit {0}) FileFault → Result Body FileFault → Result Body FileFault
-after_line (StageLine stage) ending rest = with_stages (stage ∷ []) rest
+abbrev pub after_line : BodyLine → Result (Unit {0}) FileFault → (Stage → Result Body FileFault) → Result Body FileFault
+after_line (StageLine stage) ending rest = with_stages (stage ∷ []) (rest stage)
 after_line (TerminalLine terminal) ending rest = ending >>= λ _. let body : Body = ([], terminal) in Ok body
 
--- The lines of a body, where so many stages were before, and the first of them has number n.
-abbrev pub body_from : ℕ → ℕ → List (List ℕ) → Result Body FileFault
-body_from before n [] = Err (record { line = n; kind = MissingTerminal })
-body_from before n (line ∷ lines) = at_line n (line_of (bodies before) body_of line) >>= λ b. after_line b (no_more (n + 1) lines) (body_from (before + 1) (n + 1) lines)
+-- The lines of a body, to which something comes, and of which the first has number n.
+abbrev pub body_from : Coming → ℕ → List (List ℕ) → Result Body FileFault
+body_from coming n [] = Err (record { line = n; kind = MissingTerminal })
+body_from coming n (line ∷ lines) = at_line n (line_of (bodies coming) body_of line) >>= λ b. after_line b (no_more (n + 1) lines) (λ stage. body_from (after_stage coming stage) (n + 1) lines)
 
 -- the first of them alone, behind which nothing may stand where it is the terminal
 abbrev pub ending_with : BodyLine → Result (Unit {0}) FileFault → Result BodyLine FileFault
 ending_with (StageLine stage) ending = Ok (StageLine stage)
 ending_with (TerminalLine terminal) ending = ending >>= λ _. Ok (TerminalLine terminal)
 
-unfoldable pub first_of : ℕ → ℕ → List (List ℕ) → Result BodyLine FileFault
-first_of before n [] = Err (record { line = n; kind = MissingTerminal })
-first_of before n (line ∷ lines) = at_line n (line_of (bodies before) body_of line) >>= λ b. ending_with b (no_more (n + 1) lines)
+unfoldable pub first_of : Coming → ℕ → List (List ℕ) → Result BodyLine FileFault
+first_of coming n [] = Err (record { line = n; kind = MissingTerminal })
+first_of coming n (line ∷ lines) = at_line n (line_of (bodies coming) body_of line) >>= λ b. ending_with b (no_more (n + 1) lines)
 
--- the lines from the source on, and all of them
+-- so many texts, of which the first has number n, and what is left of the lines
+abbrev pub Texts : Type 0
+Texts = List (List ℕ) × List (List ℕ)
+
+abbrev pub with_texts : List (List ℕ) → Result Texts FileFault → Result Texts FileFault
+with_texts texts (Ok more) = Ok (texts ++ more.0, more.1)
+with_texts texts (Err fault) = Err fault
+
+abbrev pub texts_from : ℕ → ℕ → List (List ℕ) → Result Texts FileFault
+texts_from zero n lines = Ok ([], lines)
+texts_from (suc count) n [] = Err (record { line = n; kind = MissingTerminal })
+texts_from (suc count) n (line ∷ lines) = if is_utf8 line then with_texts (line ∷ []) (texts_from count (n + 1) lines) else Err (record { line = n; kind = BadText })
+
+-- the first of them
+unfoldable pub first_text : ℕ → List (List ℕ) → Result (List ℕ) FileFault
+first_text n [] = Err (record { line = n; kind = MissingTerminal })
+first_text n (line ∷ lines) = if is_utf8 line then Ok line else Err (record { line = n; kind = BadText })
+
+-- the lines from the texts on, from the source on, and all of them
+abbrev pub from_texts : Origin → List (List ℕ) → Result Program FileFault
+from_texts origin lines = texts_from (text_count origin) 3 lines >>= λ texts. body_from (from_origin origin) (3 + length texts.0) texts.1 >>= λ body. Ok (record { origin = origin; texts = texts.0; stages = body.0; terminal = body.1 })
+
 abbrev pub from_source : List (List ℕ) → Result Program FileFault
 from_source [] = Err (record { line = 2; kind = MissingTerminal })
-from_source (line ∷ lines) = at_line 2 (line_of origins origin_words line) >>= λ origin. body_from 0 3 lines >>= λ body. Ok (record { origin = origin; stages = body.0; terminal = body.1 })
+from_source (line ∷ lines) = at_line 2 (line_of origins origin_words line) >>= λ origin. from_texts origin lines
 
 unfoldable pub program_from : List (List ℕ) → Result Program FileFault
 program_from [] = Err (record { line = 1; kind = BadVersion })

@@ -71,6 +71,11 @@ numbers_from (word ∷ words) good = with_first (number_of word) good (numbers_f
 unfoldable pub all_numbers : Reader (List ℤ)
 all_numbers left = Ok (numbers_from left.words left.good)
 
+-- no word is left
+abbrev pub is_done : List (List ℕ) → Bool
+is_done [] = true
+is_done (word ∷ words) = false
+
 -- nothing at all
 abbrev pub nothing : Reader (Unit {0})
 nothing left = Ok (tt, left)

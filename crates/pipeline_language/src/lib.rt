@@ -2,6 +2,7 @@
 #![tactic(auto)]
 
 mod fault;
+mod kinds;
 mod lines;
 mod number;
 mod pipeline;
@@ -11,8 +12,9 @@ mod words;
 
 pub use fault::{FileError, FileFault, ReadError};
 pub use pipeline::{
-    Expansion, NumberCollector, NumberFunction, NumberMerge, NumberSource, NumberStage,
-    NumberTerminal, NumberTest, Pipeline,
+    NumberBody, NumberCollector, NumberFunction, NumberMerge, NumberSource, NumberStage,
+    NumberTerminal, NumberTest, Pipeline, TextBody, TextCollector, TextEnd, TextFunction,
+    TextMerge, TextStage, TextTerminal, TextTest, TextValue,
 };
 pub use reading::{MOST_BYTES, MOST_STAGES, one_reading, read_pipeline};
 

@@ -1,17 +1,39 @@
-//! A pipeline, as a file names it.
+//! A pipeline, as a file names it. Pipelines of numbers and of texts are different types, so that each stage, terminal and
+//! collector takes the items that come to it; the stage `map length` alone leads from texts to numbers.
 
 ghost use Rattle.std.specs.Prelude.{◌≡◌, ◌≤◌, ◌<◌, ◌-ℤ◌, MatchOption};
 ghost use Rattle.pipeline_language.specs.Steps.{steps_up};
 
-/// A whole pipeline: a source, the stages in their order, and what is made of the items.
+/// A whole pipeline. Texts borrow from the file's bytes.
 #[derive(Debug, Drop)]
-pub struct Pipeline {
-    pub source: NumberSource,
+pub enum Pipeline<'a> {
+    Numbers(NumberSource, NumberBody),
+    Texts(Vec<&'a str>, TextBody<'a>),
+}
+
+/// Stages over numbers in their order, and what is made of their items.
+#[derive(Debug, Drop)]
+pub struct NumberBody {
     pub stages: Vec<NumberStage>,
     pub terminal: NumberTerminal,
 }
 
-/// Where the items come from.
+/// Stages over texts in their order, and what follows them.
+#[derive(Debug, Drop)]
+pub struct TextBody<'a> {
+    pub stages: Vec<TextStage<'a>>,
+    pub end: TextEnd<'a>,
+}
+
+/// What follows stages over texts.
+#[derive(Debug, Drop)]
+pub enum TextEnd<'a> {
+    Terminal(TextTerminal<'a>),
+    /// `map length`: the texts' lengths, and what follows over numbers.
+    Lengths(NumberBody),
+}
+
+/// Where numbers come from.
 #[derive(Debug, Drop)]
 pub enum NumberSource {
     /// `range A B`: A, A + 1, .., B - 1.
@@ -34,6 +56,15 @@ pub enum NumberFunction {
     Itself,
 }
 
+/// What one text is mapped to.
+#[derive(Clone, Copy, Debug, PartialEq, Eq)]
+pub enum TextFunction {
+    /// The number of its bytes.
+    Length,
+    /// The text itself.
+    Itself,
+}
+
 /// What is asked of one number.
 #[derive(Clone, Copy, Debug, PartialEq, Eq)]
 pub enum NumberTest {
@@ -44,12 +75,22 @@ pub enum NumberTest {
     Divisible(i64),
 }
 
+/// What is asked of one text.
+#[derive(Clone, Copy, Debug, PartialEq, Eq)]
+pub enum TextTest<'a> {
+    Empty,
+    Starts(&'a str),
+    /// Its length is above the number.
+    Longer(u64),
+}
+
 /// A stage over numbers.
 #[derive(Clone, Copy, Debug, PartialEq, Eq)]
 pub enum NumberStage {
     Map(NumberFunction),
     Filter(NumberTest),
-    FlatMap(Expansion),
+    /// So many copies of each item, at most 1,000.
+    Repeat(u64),
     Distinct,
     Limit(u64),
     Skip(u64),
@@ -57,11 +98,21 @@ pub enum NumberStage {
     DropWhile(NumberTest),
 }
 
-/// What an item is replaced by.
+/// A stage over texts that gives texts.
 #[derive(Clone, Copy, Debug, PartialEq, Eq)]
-pub enum Expansion {
-    /// So many copies of the item, at most 1,000.
+pub enum TextStage<'a> {
+    /// `map self`.
+    MapItself,
+    Filter(TextTest<'a>),
+    /// So many copies of each item, at most 1,000.
     Repeat(u64),
+    /// The pieces between the text's spaces.
+    Words,
+    Distinct,
+    Limit(u64),
+    Skip(u64),
+    TakeWhile(TextTest<'a>),
+    DropWhile(TextTest<'a>),
 }
 
 /// What is made of some of the numbers.
@@ -76,7 +127,18 @@ pub enum NumberCollector {
     ToList,
 }
 
-/// What becomes of two values of one key.
+/// What is made of some of the texts.
+#[derive(Clone, Copy, Debug, PartialEq, Eq)]
+pub enum TextCollector<'a> {
+    /// `count`, or `counting`.
+    Count,
+    First,
+    ToList,
+    /// The texts with this one between neighbours.
+    Joining(&'a str),
+}
+
+/// What becomes of two numbers of one key.
 #[derive(Clone, Copy, Debug, PartialEq, Eq)]
 pub enum NumberMerge {
     First,
@@ -86,7 +148,21 @@ pub enum NumberMerge {
     Min,
 }
 
-/// What is made of all the items.
+/// What becomes of two texts of one key.
+#[derive(Clone, Copy, Debug, PartialEq, Eq)]
+pub enum TextMerge {
+    First,
+    Last,
+}
+
+/// The value that a text has in a map, and what becomes of two values of one key.
+#[derive(Clone, Copy, Debug, PartialEq, Eq)]
+pub enum TextValue {
+    Length(NumberMerge),
+    Itself(TextMerge),
+}
+
+/// What is made of all the numbers.
 #[derive(Clone, Copy, Debug, PartialEq, Eq)]
 pub enum NumberTerminal {
     Sum,
@@ -107,18 +183,40 @@ pub enum NumberTerminal {
     Teeing(NumberCollector, NumberCollector),
 }
 
+/// What is made of all the texts.
+#[derive(Clone, Copy, Debug, PartialEq, Eq)]
+pub enum TextTerminal<'a> {
+    Count,
+    FindFirst,
+    ToList,
+    AllMatch(TextTest<'a>),
+    AnyMatch(TextTest<'a>),
+    NoneMatch(TextTest<'a>),
+    /// The texts with this one between neighbours.
+    Joining(&'a str),
+    /// The same between a front and a back: `joining D P S`.
+    JoiningWithin(&'a str, &'a str, &'a str),
+    /// The groups of one key, each collected.
+    GroupBy(TextFunction, TextCollector<'a>),
+    Partition(TextTest<'a>, TextCollector<'a>),
+    /// The key, and the value with what becomes of two values of one key.
+    ToMap(TextFunction, TextValue),
+    Teeing(TextCollector<'a>, TextCollector<'a>),
+}
+
 impl NumberSource {
-    ghost use Rattle.pipeline_language.specs.Content.{origin_of};
+    ghost use Rattle.pipeline_language.specs.Content.{number_origin};
     ghost use Rattle.pipeline_language.specs.Syntax.{is_short};
 
     /// Whether the range has no more items than a source may have.
     pub(crate) fn is_within_limit(&self) -> bool
-        ensures { result ≡ is_short (origin_of self.now) }
+        ensures { result ≡ is_short (number_origin self.now) }
     {
         match self {
             NumberSource::Range(start, end) => steps_up(*start, *end) <= MOST_ITEMS,
-            NumberSource::Closed(start, end) => *start > *end
-                || steps_up(*start, *end) < MOST_ITEMS,
+            NumberSource::Closed(start, end) => {
+                *start > *end || steps_up(*start, *end) < MOST_ITEMS
+            }
             NumberSource::Numbers(_) => true,
         }
     }

@@ -1,19 +1,21 @@
 //! Reads a pipeline file, line by line.
 
-ghost use Rattle.std.specs.Prelude.{◌≡◌, ◌⊎◌, ℕ, ◌<◌, ◌+◌, ◌^◌, List, IfErr, IfOk, MatchResult, map, Ok, Err, true, false};
+ghost use Rattle.std.specs.Prelude.{◌≡◌, ◌⊎◌, ℕ, ◌<◌, ◌≤◌, ◌+◌, ◌-◌, ◌^◌, List, IfErr, IfOk, MatchResult, map, drop, length, Ok, Err, true, false};
 ghost use Rattle.std.specs.Str.{is_utf8};
 ghost use Rattle.pipeline_language.specs.declared.fault.FileFault.{FileFault};
-ghost use Rattle.pipeline_language.specs.Content.{body_line_of, origin_of, program_of};
-ghost use Rattle.pipeline_language.specs.FileReading.{IfFault, LineGets, LineReads, Reads, after_end, body_from, file_of, first_of, no_more, program_from, version_of};
+ghost use Rattle.pipeline_language.specs.Content.{number_body, number_origin, program_of, text_body};
+ghost use Rattle.pipeline_language.specs.FileReading.{IfFault, LineGets, LineReads, Reads, after_end, body_from, file_of, first_of, first_text, no_more, program_from, texts_from, version_of};
+ghost use Rattle.pipeline_language.specs.Kinds.{number_line_content, text_line_content, source_content};
 ghost use Rattle.pipeline_language.specs.Language.{HasFault, Means};
 ghost use Rattle.pipeline_language.specs.Reading.{line_of};
-ghost use Rattle.pipeline_language.specs.Syntax.{Program, bodies, origins};
+ghost use Rattle.pipeline_language.specs.Syntax.{NumberKind, Program, TextKind, bodies, origins};
 ghost use Rattle.pipeline_language.specs.SyntaxReading.{body_of, origin_words};
 
 use crate::fault::{FileError, FileFault, LineError, ReadError};
+use crate::kinds::{NumberLine, TextLine, number_line, text_line};
 use crate::lines::{lines, words};
-use crate::pipeline::{NumberSource, NumberStage, NumberTerminal, Pipeline};
-use crate::syntax::{BodyLine, read_body};
+use crate::pipeline::{NumberBody, NumberSource, Pipeline, TextBody, TextEnd};
+use crate::syntax::read_body;
 use crate::words::Words;
 use std::alloc::Global;
 use std::str;
@@ -24,8 +26,8 @@ pub const MOST_BYTES: usize = 1_048_576;
 /// The most stage lines of a file.
 pub const MOST_STAGES: usize = 32;
 
-/// Reads a whole file.
-pub fn read_pipeline(alloc: Global, file: &[u8]) -> Result<Pipeline, ReadError>
+/// Reads a whole file. Its texts borrow from the bytes.
+pub fn read_pipeline(alloc: Global, file: &[u8]) -> Result<Pipeline<'_>, ReadError>
     // What is read is what the file means, and a fault that is told is the file's.
     ensures meaning { IfOk result (λ pipeline. Means file.now (program_of pipeline)) }
     ensures fault { IfErr result (IfFault (HasFault file.now)) }
@@ -47,7 +49,7 @@ pub fn one_reading()
 
 /// The same as `read_pipeline`, as a function of the bytes.
 #[tactic(auto, unfolding(crate::specs::FileReading::file_of))]
-fn read_bytes(alloc: Global, file: &[u8]) -> Result<Pipeline, ReadError>
+fn read_bytes(alloc: Global, file: &[u8]) -> Result<Pipeline<'_>, ReadError>
     ensures { Reads program_of result (file_of file.now) }
 {
     if file.len() > MOST_BYTES {
@@ -57,9 +59,16 @@ fn read_bytes(alloc: Global, file: &[u8]) -> Result<Pipeline, ReadError>
     read_lines(alloc, lines.as_slice())
 }
 
-/// The lines of a file: its version, a source line and a body.
+/// Where items come from: numbers of their own, or so many lines.
+#[derive(Debug, Drop)]
+pub(crate) enum Source {
+    Numbers(NumberSource),
+    Lines(u64),
+}
+
+/// The lines of a file: its version, a source line with its texts, and a body.
 #[tactic(auto, unfolding(crate::specs::FileReading::program_from))]
-fn read_lines(alloc: Global, lines: &[&[u8]]) -> Result<Pipeline, ReadError>
+fn read_lines<'a>(alloc: Global, lines: &[&'a [u8]]) -> Result<Pipeline<'a>, ReadError>
     ensures { Reads program_of result (program_from (map (λ line. line.now) lines.now)) }
 {
     let [version, lines @ ..] = lines else {
@@ -69,13 +78,17 @@ fn read_lines(alloc: Global, lines: &[&[u8]]) -> Result<Pipeline, ReadError>
     let [line, lines @ ..] = lines else {
         return Err(LineError::Fault(FileError::MissingTerminal).at(2));
     };
-    let source = read_source(alloc, line).map_err(|e| e.at(2))?;
-    let (stages, terminal) = read_body_lines(alloc, lines)?;
-    Ok(Pipeline {
-        source,
-        stages,
-        terminal,
-    })
+    match read_source(alloc, line).map_err(|e| e.at(2))? {
+        Source::Numbers(source) => {
+            let body = read_number_body(alloc, lines, 0, 0)?;
+            Ok(Pipeline::Numbers(source, body))
+        }
+        Source::Lines(count) => {
+            let texts = read_texts(alloc, lines, count)?;
+            let body = read_text_body(alloc, lines, texts.len())?;
+            Ok(Pipeline::Texts(texts, body))
+        }
+    }
 }
 
 /// The first line.
@@ -92,84 +105,192 @@ fn read_version(line: &[u8]) -> Result<(), FileError>
 
 /// A source line.
 #[tactic(auto, unfolding(crate::specs::Reading::line_of, crate::specs::Reading::whole))]
-fn read_source(alloc: Global, line: &[u8]) -> Result<NumberSource, LineError>
-    ensures { LineReads origin_of result (line_of origins origin_words line.now) }
+fn read_source(alloc: Global, line: &[u8]) -> Result<Source, LineError>
+    ensures { LineReads source_content result (line_of origins origin_words line.now) }
 {
     let all = words(alloc, text_of(line)?)?;
     let mut words = Words::new(all.as_slice());
     let source = read_source_words(alloc, &mut words)?;
     words.end()?;
-    if source.is_within_limit() {
-        Ok(source)
-    } else {
-        Err(LineError::Fault(FileError::RangeTooLong))
+    match source {
+        Source::Numbers(source) if !source.is_within_limit() => {
+            Err(LineError::Fault(FileError::RangeTooLong))
+        }
+        source => Ok(source),
     }
 }
 
 /// The words of a source.
 #[tactic(auto, unfolding(crate::specs::SyntaxReading::origin_words))]
-fn read_source_words(alloc: Global, words: &mut Words<'_, '_>) -> Result<NumberSource, LineError>
-    ensures { LineGets origin_of (origin_words words.old) result words.new }
+fn read_source_words(alloc: Global, words: &mut Words<'_, '_>) -> Result<Source, LineError>
+    ensures { LineGets source_content (origin_words words.old) result words.new }
 {
     match words.any()? {
-        "range" => Ok(NumberSource::Range(
+        "range" => Ok(Source::Numbers(NumberSource::Range(
             words.number(i64::MIN, i64::MAX)?,
             words.number(i64::MIN, i64::MAX)?,
-        )),
-        "closed" => Ok(NumberSource::Closed(
+        ))),
+        "closed" => Ok(Source::Numbers(NumberSource::Closed(
             words.number(i64::MIN, i64::MAX)?,
             words.number(i64::MIN, i64::MAX)?,
-        )),
-        "numbers" => Ok(NumberSource::Numbers(words.numbers(alloc)?)),
+        ))),
+        "numbers" => Ok(Source::Numbers(NumberSource::Numbers(words.numbers(alloc)?))),
+        "lines" => Ok(Source::Lines(words.natural(1_000_000)?)),
         _ => Err(LineError::Fault(FileError::UnknownWord)),
     }
 }
 
-/// The lines of the stages, the terminal line, and nothing after it. The first of them is the third of the file.
-fn read_body_lines(
+/// The first `count` of the lines behind the source line, which is the second of the file.
+fn read_texts<'a>(alloc: Global, lines: &[&'a [u8]], count: u64) -> Result<Vec<&'a str>, ReadError>
+    ensures texts { Reads (λ texts. (map (λ text. text.now) texts.items, map (λ line. line.now) (drop (length texts.items) lines.now))) result (texts_from count 3 (map (λ line. line.now) lines.now)) }
+    ensures within { IfOk result (λ texts. length texts.items ≤ length lines.now) }
+    ensures number { IfOk result (λ texts. length texts.items ≡ count) }
+{
+    let mut texts = Vec::new(alloc);
+    for index in 0..lines.len() {
+        if index as u64 == count {
+            return Ok(texts);
+        }
+        texts.push(first_text(&lines[index..], index as u64 + 3)?)?;
+    }
+    if lines.len() as u64 == count {
+        Ok(texts)
+    } else {
+        Err(LineError::Fault(FileError::MissingTerminal).at(lines.len() as u64 + 3))
+    }
+}
+
+/// The first of the lines, as a text; it has the number.
+#[tactic(auto, unfolding(crate::specs::FileReading::first_text))]
+fn first_text<'a>(lines: &[&'a [u8]], number: u64) -> Result<&'a str, ReadError>
+    ensures { Reads (λ text. text.now) result (first_text number (map (λ line. line.now) lines.now)) }
+{
+    match lines {
+        [line, ..] => text_of(line).map_err(|e| LineError::Fault(e).at(number)),
+        [] => Err(LineError::Fault(FileError::MissingTerminal).at(number)),
+    }
+}
+
+/// The lines of a body over texts, of which the first is the line at `first`, and nothing after them.
+fn read_text_body<'a>(
     alloc: Global,
-    lines: &[&[u8]],
-) -> Result<(Vec<NumberStage>, NumberTerminal), ReadError>
-    ensures { Reads (λ body. (body.0.items, body.1)) result (body_from 0 3 (map (λ line. line.now) lines.now)) }
+    lines: &[&'a [u8]],
+    first: usize,
+) -> Result<TextBody<'a>, ReadError>
+    requires { first ≤ length lines.now }
+    ensures { Reads text_body result (body_from (record { kind = TextKind; stages = 0 }) (3 + first) (map (λ line. line.now) (drop first lines.now))) }
 {
     let mut stages = Vec::new(alloc);
-    for before in 0..lines.len() {
-        match read_first(alloc, &lines[before..], before)? {
-            BodyLine::Stage(stage) => stages.push(stage)?,
-            BodyLine::Terminal(terminal) => return Ok((stages, terminal)),
+    for at in first..lines.len() {
+        match read_text_first(alloc, &lines[at..], at - first, at as u64 + 3)? {
+            TextLine::Stage(stage) => stages.push(stage)?,
+            TextLine::Lengths => {
+                let end = TextEnd::Lengths(read_number_body(alloc, lines, first, at + 1)?);
+                return Ok(TextBody { stages, end });
+            }
+            TextLine::Terminal(terminal) => {
+                let end = TextEnd::Terminal(terminal);
+                return Ok(TextBody { stages, end });
+            }
         }
     }
     Err(LineError::Fault(FileError::MissingTerminal).at(lines.len() as u64 + 3))
 }
 
-/// The first of the lines, with so many stages before it. Nothing follows where it is the terminal.
-#[tactic(auto, unfolding(crate::specs::FileReading::first_of))]
-fn read_first(alloc: Global, lines: &[&[u8]], before: usize) -> Result<BodyLine, ReadError>
-    requires { before < 2 ^ 63 }
-    ensures { Reads body_line_of result (first_of before (before + 3) (map (λ line. line.now) lines.now)) }
+/// The lines of a body over numbers, from the line at `from` on, where the body's first line is at `first`.
+fn read_number_body(
+    alloc: Global,
+    lines: &[&[u8]],
+    first: usize,
+    from: usize,
+) -> Result<NumberBody, ReadError>
+    requires order { first ≤ from }
+    requires within { from ≤ length lines.now }
+    ensures { Reads number_body result (body_from (record { kind = NumberKind; stages = from - first }) (3 + from) (map (λ line. line.now) (drop from lines.now))) }
 {
-    let number = before as u64 + 3;
+    let mut stages = Vec::new(alloc);
+    for at in from..lines.len() {
+        match read_number_first(alloc, &lines[at..], at - first, at as u64 + 3)? {
+            NumberLine::Stage(stage) => stages.push(stage)?,
+            NumberLine::Terminal(terminal) => return Ok(NumberBody { stages, terminal }),
+        }
+    }
+    Err(LineError::Fault(FileError::MissingTerminal).at(lines.len() as u64 + 3))
+}
+
+/// The first of the lines, over texts, with so many stages before it. Nothing follows where it is the terminal.
+#[tactic(auto, unfolding(crate::specs::FileReading::first_of))]
+fn read_text_first<'a>(
+    alloc: Global,
+    lines: &[&'a [u8]],
+    before: usize,
+    number: u64,
+) -> Result<TextLine<'a>, ReadError>
+    requires { number < 2 ^ 64 - 1 }
+    ensures { Reads text_line_content result (first_of (record { kind = TextKind; stages = before }) number (map (λ line. line.now) lines.now)) }
+{
     let [line, rest @ ..] = lines else {
         return Err(LineError::Fault(FileError::MissingTerminal).at(number));
     };
-    let body = read_body_line(alloc, line, before).map_err(|e| e.at(number))?;
-    if let BodyLine::Terminal(_) = body {
+    let body = read_text_line(alloc, line, before).map_err(|e| e.at(number))?;
+    if let TextLine::Terminal(_) = body {
         no_more(rest, number + 1)?;
     }
     Ok(body)
 }
 
-/// A line with so many stages before it.
+/// The same over numbers.
+#[tactic(auto, unfolding(crate::specs::FileReading::first_of))]
+fn read_number_first(
+    alloc: Global,
+    lines: &[&[u8]],
+    before: usize,
+    number: u64,
+) -> Result<NumberLine, ReadError>
+    requires { number < 2 ^ 64 - 1 }
+    ensures { Reads number_line_content result (first_of (record { kind = NumberKind; stages = before }) number (map (λ line. line.now) lines.now)) }
+{
+    let [line, rest @ ..] = lines else {
+        return Err(LineError::Fault(FileError::MissingTerminal).at(number));
+    };
+    let body = read_number_line(alloc, line, before).map_err(|e| e.at(number))?;
+    if let NumberLine::Terminal(_) = body {
+        no_more(rest, number + 1)?;
+    }
+    Ok(body)
+}
+
+/// A line over texts with so many stages before it.
 #[tactic(auto, unfolding(crate::specs::Reading::line_of, crate::specs::Reading::whole))]
-fn read_body_line(alloc: Global, line: &[u8], before: usize) -> Result<BodyLine, LineError>
-    ensures { LineReads body_line_of result (line_of (bodies before) body_of line.now) }
+fn read_text_line<'a>(
+    alloc: Global,
+    line: &'a [u8],
+    before: usize,
+) -> Result<TextLine<'a>, LineError>
+    ensures { LineReads text_line_content result (line_of (bodies (record { kind = TextKind; stages = before })) body_of line.now) }
 {
     let all = words(alloc, text_of(line)?)?;
     let mut words = Words::new(all.as_slice());
     let body = read_body(&mut words)?;
     words.end()?;
-    match body {
-        BodyLine::Stage(_) if before >= MOST_STAGES => Err(LineError::Fault(
+    match text_line(body)? {
+        TextLine::Terminal(terminal) => Ok(TextLine::Terminal(terminal)),
+        _ if before >= MOST_STAGES => Err(LineError::Fault(FileError::TooManyStages)),
+        body => Ok(body),
+    }
+}
+
+/// The same over numbers.
+#[tactic(auto, unfolding(crate::specs::Reading::line_of, crate::specs::Reading::whole))]
+fn read_number_line(alloc: Global, line: &[u8], before: usize) -> Result<NumberLine, LineError>
+    ensures { LineReads number_line_content result (line_of (bodies (record { kind = NumberKind; stages = before })) body_of line.now) }
+{
+    let all = words(alloc, text_of(line)?)?;
+    let mut words = Words::new(all.as_slice());
+    let body = read_body(&mut words)?;
+    words.end()?;
+    match number_line(body)? {
+        NumberLine::Stage(_) if before >= MOST_STAGES => Err(LineError::Fault(
             FileError::TooManyStages,
         )),
         body => Ok(body),

@@ -1,7 +1,7 @@
 //! Words.
 
 ghost use Rattle.std.specs.Prelude.{◌≡◌, ℕ, ℤ, List, Bool, map, Result, Option, Ok, Err, MatchResult, IfOk, true};
-ghost use Rattle.pipeline_language.specs.Reading.{Left, Gets, next_word, next_number, next_natural, all_numbers, ended};
+ghost use Rattle.pipeline_language.specs.Reading.{Left, Gets, next_word, next_number, next_natural, all_numbers, ended, is_done};
 
 use crate::fault::FileError;
 use crate::number::parse_number;
@@ -77,6 +77,13 @@ impl<'w, 'a> Words<'w, 'a> {
         }
         self.rest = &[];
         Ok(numbers)
+    }
+
+    /// Whether no word is left.
+    pub(crate) fn is_empty(&self) -> bool
+        ensures { result ≡ is_done self.now.words }
+    {
+        matches!(self.rest, [])
     }
 
     /// The end of the line.
