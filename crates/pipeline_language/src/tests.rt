@@ -181,15 +181,16 @@ fn is_of_numbers(
     numbers: &[i64],
     stages: &[NumberStage],
     terminal: NumberTerminal,
-) -> bool {
+) -> Result<bool, AllocError> {
     match read_pipeline(alloc, file) {
         Ok(Pipeline::Numbers(source, body)) => {
             let same_source =
                 matches!(&source, NumberSource::Numbers(read) if read.as_slice() == numbers);
-            same_source && body.stages.as_slice() == stages && body.terminal == terminal
+            Ok(same_source && body.stages.as_slice() == stages && body.terminal == terminal)
         }
-        Ok(Pipeline::Texts(_texts, _body)) => false,
-        Err(_error) => false,
+        Ok(Pipeline::Texts(_texts, _body)) => Ok(false),
+        Err(ReadError::Fault(_)) => Ok(false),
+        Err(ReadError::NoMemory) => Err(AllocError),
     }
 }
 
@@ -221,7 +222,7 @@ fn reads_stages_over_numbers(rt: HostRuntime) -> Result<(), Fail> {
         NumberFunction::Negate,
         NumberMerge::Last,
     );
-    assert!(rt; is_of_numbers(rt.alloc(), file, &[5, -2, i64::MAX], &stages, terminal));
+    assert!(rt; is_of_numbers(rt.alloc(), file, &[5, -2, i64::MAX], &stages, terminal)?);
     Ok(())
 }
 
@@ -231,7 +232,7 @@ fn is_of_texts<'a>(
     file: &'a [u8],
     lengths: (usize, usize),
     stages: &[TextStage<'a>],
-) -> bool {
+) -> Result<bool, AllocError> {
     match read_pipeline(alloc, file) {
         Ok(Pipeline::Texts(texts, body)) => {
             let same_texts = texts.len() == 2
@@ -245,10 +246,11 @@ fn is_of_texts<'a>(
                 }
                 TextEnd::Terminal(_) => false,
             };
-            same_texts && body.stages.as_slice() == stages && same_end
+            Ok(same_texts && body.stages.as_slice() == stages && same_end)
         }
-        Ok(Pipeline::Numbers(_source, _body)) => false,
-        Err(_error) => false,
+        Ok(Pipeline::Numbers(_source, _body)) => Ok(false),
+        Err(ReadError::Fault(_)) => Ok(false),
+        Err(ReadError::NoMemory) => Err(AllocError),
     }
 }
 
@@ -270,7 +272,7 @@ fn reads_stages_over_texts(rt: HostRuntime) -> Result<(), Fail> {
         TextStage::TakeWhile(TextTest::Empty),
         TextStage::DropWhile(TextTest::Starts("a")),
     ];
-    assert!(rt; is_of_texts(rt.alloc(), file, (3, 0), &stages));
+    assert!(rt; is_of_texts(rt.alloc(), file, (3, 0), &stages)?);
     Ok(())
 }
 
@@ -280,7 +282,8 @@ fn number_terminal(alloc: Global, line: &str) -> Result<Option<NumberTerminal>, 
     match read_pipeline(alloc, file.as_bytes()) {
         Ok(Pipeline::Numbers(_source, body)) => Ok(Some(body.terminal)),
         Ok(Pipeline::Texts(_texts, _body)) => Ok(None),
-        Err(_error) => Ok(None),
+        Err(ReadError::Fault(_)) => Ok(None),
+        Err(ReadError::NoMemory) => Err(AllocError),
     }
 }
 
@@ -331,13 +334,18 @@ fn reads_terminals_of_numbers(rt: HostRuntime) -> Result<(), Fail> {
 }
 
 /// Whether a file is a pipeline of no texts with the terminal.
-fn ends_with<'a>(alloc: Global, file: &'a [u8], wanted: TextTerminal<'a>) -> bool {
+fn ends_with<'a>(
+    alloc: Global,
+    file: &'a [u8],
+    wanted: TextTerminal<'a>,
+) -> Result<bool, AllocError> {
     match read_pipeline(alloc, file) {
         Ok(Pipeline::Texts(_texts, body)) => {
-            matches!(&body.end, TextEnd::Terminal(terminal) if *terminal == wanted)
+            Ok(matches!(&body.end, TextEnd::Terminal(terminal) if *terminal == wanted))
         }
-        Ok(Pipeline::Numbers(_source, _body)) => false,
-        Err(_error) => false,
+        Ok(Pipeline::Numbers(_source, _body)) => Ok(false),
+        Err(ReadError::Fault(_)) => Ok(false),
+        Err(ReadError::NoMemory) => Err(AllocError),
     }
 }
 
@@ -370,7 +378,7 @@ fn reads_terminals_of_texts(rt: HostRuntime) -> Result<(), Fail> {
         ),
     ];
     for (file, wanted) in rows {
-        assert!(rt; ends_with(rt.alloc(), file, wanted));
+        assert!(rt; ends_with(rt.alloc(), file, wanted)?);
     }
     Ok(())
 }
