@@ -81,96 +81,98 @@ fn tells_the_faults_of_a_source(rt: HostRuntime) -> Result<(), Fail> {
     Ok(())
 }
 
+/// Files with a fault in their stages or their terminal, and the fault.
+const BODY_FAULTS: [(&[u8], &str); 25] = [
+    (
+        b"pipeline 1\nrange 0 10\nmap mull 3\nsum\n",
+        "line 3: UNKNOWN_WORD",
+    ),
+    (
+        b"pipeline 1\nrange 0 10\nmap mul\nsum\n",
+        "line 3: BAD_ARITY",
+    ),
+    (
+        b"pipeline 1\nrange 0 10\nmap mul 03\nsum\n",
+        "line 3: BAD_NUMBER",
+    ),
+    (
+        b"pipeline 1\nrange 0 10\nflatmap repeat 1001\nsum\n",
+        "line 3: BAD_NUMBER",
+    ),
+    (
+        b"pipeline 1\nrange 0 10\nlimit -1\nsum\n",
+        "line 3: BAD_NUMBER",
+    ),
+    (
+        b"pipeline 1\nrange 0 10\nfilter divisible 0\nsum\n",
+        "line 3: BAD_NUMBER",
+    ),
+    (
+        b"pipeline 1\nnumbers 1\nmap mod 0\nsum\n",
+        "line 3: BAD_NUMBER",
+    ),
+    (
+        b"pipeline 1\nnumbers 1\ngroupby mod x counting y\n",
+        "line 3: BAD_ARITY",
+    ),
+    (
+        b"pipeline 1\nnumbers 1\ngroupby mod x average\n",
+        "line 3: UNKNOWN_WORD",
+    ),
+    (
+        b"pipeline 1\nnumbers 1\ntomap self self\n",
+        "line 3: BAD_ARITY",
+    ),
+    (
+        b"pipeline 1\nnumbers 1\nteeing joining\n",
+        "line 3: BAD_ARITY",
+    ),
+    (
+        b"pipeline 1\nnumbers 1\nteeing joining , sum\n",
+        "line 3: WRONG_KIND",
+    ),
+    (
+        b"pipeline 1\nnumbers 1\ntomapstrict self self\n",
+        "line 3: UNKNOWN_WORD",
+    ),
+    (
+        b"pipeline 1\nnumbers 1 2\nfilter less x\nmap mul\nsum\n",
+        "line 3: BAD_NUMBER",
+    ),
+    (b"pipeline 1\nlines 1\nx\nsum\n", "line 4: WRONG_KIND"),
+    (b"pipeline 1\nlines 1\nx\n", "line 4: MISSING_TERMINAL"),
+    (
+        b"pipeline 1\nlines 1\nx\njoining a b\n",
+        "line 4: BAD_ARITY",
+    ),
+    (
+        b"pipeline 1\nlines 1\nx\ntomap self self sum\n",
+        "line 4: WRONG_KIND",
+    ),
+    (
+        b"pipeline 1\nlines 1\nx\nmap length\nmap length\nsum\n",
+        "line 5: WRONG_KIND",
+    ),
+    (
+        b"pipeline 1\nnumbers 1\nflatmap words\ncount\n",
+        "line 3: WRONG_KIND",
+    ),
+    (b"pipeline 1\nrange 0 3\n", "line 3: MISSING_TERMINAL"),
+    (
+        b"pipeline 1\nrange 0 3\nsum\nsum\n",
+        "line 4: AFTER_TERMINAL",
+    ),
+    (
+        b"pipeline 1\nnumbers 1\ncount\n\n",
+        "line 4: AFTER_TERMINAL",
+    ),
+    (b"pipeline 1\nrange 0 1\nsum\n\xff", "line 4: BAD_TEXT"),
+    (b"pipeline 1\nrange 0 1\nsum\0", "line 3: UNKNOWN_WORD"),
+];
+
 #[test]
 fn tells_the_faults_of_a_body(rt: HostRuntime) -> Result<(), Fail> {
-    let rows: &[(&[u8], &str)] = &[
-        (
-            b"pipeline 1\nrange 0 10\nmap mull 3\nsum\n",
-            "line 3: UNKNOWN_WORD",
-        ),
-        (
-            b"pipeline 1\nrange 0 10\nmap mul\nsum\n",
-            "line 3: BAD_ARITY",
-        ),
-        (
-            b"pipeline 1\nrange 0 10\nmap mul 03\nsum\n",
-            "line 3: BAD_NUMBER",
-        ),
-        (
-            b"pipeline 1\nrange 0 10\nflatmap repeat 1001\nsum\n",
-            "line 3: BAD_NUMBER",
-        ),
-        (
-            b"pipeline 1\nrange 0 10\nlimit -1\nsum\n",
-            "line 3: BAD_NUMBER",
-        ),
-        (
-            b"pipeline 1\nrange 0 10\nfilter divisible 0\nsum\n",
-            "line 3: BAD_NUMBER",
-        ),
-        (
-            b"pipeline 1\nnumbers 1\nmap mod 0\nsum\n",
-            "line 3: BAD_NUMBER",
-        ),
-        (
-            b"pipeline 1\nnumbers 1\ngroupby mod x counting y\n",
-            "line 3: BAD_ARITY",
-        ),
-        (
-            b"pipeline 1\nnumbers 1\ngroupby mod x average\n",
-            "line 3: UNKNOWN_WORD",
-        ),
-        (
-            b"pipeline 1\nnumbers 1\ntomap self self\n",
-            "line 3: BAD_ARITY",
-        ),
-        (
-            b"pipeline 1\nnumbers 1\nteeing joining\n",
-            "line 3: BAD_ARITY",
-        ),
-        (
-            b"pipeline 1\nnumbers 1\nteeing joining , sum\n",
-            "line 3: WRONG_KIND",
-        ),
-        (
-            b"pipeline 1\nnumbers 1\ntomapstrict self self\n",
-            "line 3: UNKNOWN_WORD",
-        ),
-        (
-            b"pipeline 1\nnumbers 1 2\nfilter less x\nmap mul\nsum\n",
-            "line 3: BAD_NUMBER",
-        ),
-        (b"pipeline 1\nlines 1\nx\nsum\n", "line 4: WRONG_KIND"),
-        (b"pipeline 1\nlines 1\nx\n", "line 4: MISSING_TERMINAL"),
-        (
-            b"pipeline 1\nlines 1\nx\njoining a b\n",
-            "line 4: BAD_ARITY",
-        ),
-        (
-            b"pipeline 1\nlines 1\nx\ntomap self self sum\n",
-            "line 4: WRONG_KIND",
-        ),
-        (
-            b"pipeline 1\nlines 1\nx\nmap length\nmap length\nsum\n",
-            "line 5: WRONG_KIND",
-        ),
-        (
-            b"pipeline 1\nnumbers 1\nflatmap words\ncount\n",
-            "line 3: WRONG_KIND",
-        ),
-        (b"pipeline 1\nrange 0 3\n", "line 3: MISSING_TERMINAL"),
-        (
-            b"pipeline 1\nrange 0 3\nsum\nsum\n",
-            "line 4: AFTER_TERMINAL",
-        ),
-        (
-            b"pipeline 1\nnumbers 1\ncount\n\n",
-            "line 4: AFTER_TERMINAL",
-        ),
-        (b"pipeline 1\nrange 0 1\nsum\n\xff", "line 4: BAD_TEXT"),
-        (b"pipeline 1\nrange 0 1\nsum\0", "line 3: UNKNOWN_WORD"),
-    ];
-    assert_eq!(rt; first_wrong(rt.alloc(), rows)?, None);
+    assert_eq!(rt; first_wrong(rt.alloc(), BODY_FAULTS.as_slice())?, None);
     Ok(())
 }
 
@@ -290,8 +292,7 @@ fn number_terminal(alloc: Global, line: &str) -> Result<Option<NumberTerminal>, 
 #[test]
 fn reads_terminals_of_numbers(rt: HostRuntime) -> Result<(), Fail> {
     let below = NumberTest::Less(3);
-    let odd = NumberFunction::Mod(2);
-    let rows: [(&str, NumberTerminal); 16] = [
+    let rows: [(&str, NumberTerminal); 10] = [
         ("sum", NumberTerminal::Sum),
         ("product", NumberTerminal::Product),
         ("max", NumberTerminal::Max),
@@ -302,6 +303,18 @@ fn reads_terminals_of_numbers(rt: HostRuntime) -> Result<(), Fail> {
         ("allmatch less 3", NumberTerminal::AllMatch(below)),
         ("anymatch less 3", NumberTerminal::AnyMatch(below)),
         ("nonematch less 3", NumberTerminal::NoneMatch(below)),
+    ];
+    for (line, wanted) in rows {
+        assert_eq!(rt; number_terminal(rt.alloc(), line)?, Some(wanted));
+    }
+    Ok(())
+}
+
+#[test]
+fn reads_terminals_with_collectors(rt: HostRuntime) -> Result<(), Fail> {
+    let below = NumberTest::Less(3);
+    let odd = NumberFunction::Mod(2);
+    let rows: [(&str, NumberTerminal); 6] = [
         (
             "groupby mod 2 counting",
             NumberTerminal::GroupBy(odd, NumberCollector::Count),
