@@ -2,9 +2,8 @@
 //! the run took, and the sum.
 #![tactic(auto)]
 
-ghost use Rattle.std.specs.Prelude.{int_lt, pos};
-ghost use Rattle.std.specs.Int.{int_wrapping_mul, w64};
-ghost use Rattle.std.proofs.lemmas.Int.{SFits-int_wrap};
+ghost use Rattle.std.specs.Prelude.{◌*ℤ◌, int_lt, pos};
+ghost use Rattle.stages.specs.Wrapping.{wrapped, wrapped-value};
 
 use barriers::Whole;
 use collectors::SummingLong;
@@ -28,9 +27,9 @@ struct Times {
 impl Mapping<i64> for Times {
     type Out = i64;
 
-    ghost image = { λ m x. int_wrapping_mul w64 x m.factor };
+    ghost image = { λ m x. wrapped (x *ℤ m.factor) };
 
-    ghost images_are_values = { λ m x h. SFits-int_wrap w64 _ };
+    ghost images_are_values = { λ m x h. wrapped-value (x *ℤ m.factor) };
 
     fn image(&self, x: &i64) -> Result<i64, NoMemory> {
         Ok(x.wrapping_mul(self.factor))
@@ -44,7 +43,7 @@ struct Scattered {
 }
 
 impl Test<i64> for Scattered {
-    ghost holds = { λ t x. int_lt (pos 0) (int_wrapping_mul w64 x t.factor) };
+    ghost holds = { λ t x. int_lt (pos 0) (wrapped (x *ℤ t.factor)) };
 
     fn holds(&self, x: &i64) -> bool {
         0 < x.wrapping_mul(self.factor)
