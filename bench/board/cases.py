@@ -6,6 +6,7 @@ The measuring program is in Rattle: it is laid out beside the crates in bench/ou
 import pathlib
 import shutil
 import subprocess
+import sys
 
 HERE = pathlib.Path(__file__).resolve().parent
 TOP = HERE.parent.parent
@@ -60,7 +61,9 @@ def measuring_program():
     written(crate / "proofs" / "main" / "Invariants.antt", PICKS + "".join(PICK % {"name": name} for name in PICKED))
     for name in BELOW:
         copied(name)
-    subprocess.run(["rt", "run", "--", "steps", "1"], cwd=crate, check=True, stdout=subprocess.DEVNULL)
+    built = subprocess.run(["rt", "run", "--", "steps", "1"], cwd=crate, capture_output=True, text=True)
+    if built.returncode != 0:
+        sys.exit(f"{crate}: {built.stdout}{built.stderr}")
     return crate / "out" / NAME
 
 

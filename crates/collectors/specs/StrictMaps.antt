@@ -23,10 +23,10 @@ strict_merge same s t =
     let put = fold (λ u e. strict_put same u.0 u.1 e) s t.0 in
     (put.0, option_or put.1 t.1)
 
--- key k is that of the earliest place whose key came before
+-- Key k is that of the earliest place whose key came before. Which of the duplicates is told is this library's own.
 abbrev pub IsFirstRepeat : {K : Type 0} → (K → K → Bool) → List K → K → Type 0
 IsFirstRepeat same ks k = (front : List _) × (back : List _) × (ks ≡ front ++ k ∷ back) × AllApart same front × (list_any (same k) front ≡ true)
 
--- no key repeats, and each item has its entry, in the order of the items
+-- No key repeats, and each item has its entry, in the order of the items. java.util.stream.Collectors, toMap by two functions.
 abbrev pub IsStrictMap : {X K C : Type 0} → (K → K → Bool) → (X → K) → (X → C) → List X → List (K × C) → Type 0
 IsStrictMap same key value l es = AllApart same (map key l) × (es ≡ map (λ x. (key x, value x)) l)

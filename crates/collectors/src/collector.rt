@@ -9,7 +9,7 @@ use spliterator::{NoMemory, Value};
 /// Contracts see a container by its content, a plain value. The content of a container that the collector made is the left fold of
 /// `add` from `empty` over the contents of its items.
 ///
-/// After a refusal the container is only to be dropped.
+/// After a refusal the container is only to be dropped. Java's `Collector`, without its characteristics.
 pub trait Collector {
     type Item: Value;
 

@@ -24,7 +24,7 @@ pub trait CollectorDefinition<T: Value, A, R> {
     ghost laws: { CollectorLaws T.is_value empty add merge };
 }
 
-/// A collector by closures whose answers meet a definition.
+/// A collector by closures whose answers meet a definition. Java's `Collector.of`.
 #[derive(Drop)]
 pub struct CollectorOf<T, A, R, S, P, C, F, D> {
     supplier: S,

@@ -11,6 +11,11 @@ use std::alloc::Global;
 use std::hash::{BuildHasher, BuildHasherDefault, FoldHasher, Hash};
 
 /// For each key the downstream result over the items with that key. The keys stand in the order of their first item.
+///
+/// Java's `Collectors.groupingBy` with a downstream. Where `Remainder` is a mapping of the caller:
+///
+///     let counts = GroupingBy::new(alloc, Remainder::by(2), Counting::<i64>::new());
+///     let groups = collect(&counts, &[5, 2, 7, 4, 5])?;       // {1=3, 0=2}
 #[derive(Drop)]
 pub struct GroupingBy<K, D, S = BuildHasherDefault<FoldHasher>> {
     alloc: Global,
@@ -34,6 +39,7 @@ impl<K, D, S> GroupingBy<K, D, S> {
     pub fn with_hasher(alloc: Global, key: K, downstream: D, hash_builder: S) -> GroupingBy<K, D, S>
         ensures key { result.key ≡ key }
         ensures downstream { result.downstream ≡ downstream }
+        ensures hash_builder { result.hash_builder ≡ hash_builder }
     {
         GroupingBy {
             alloc,

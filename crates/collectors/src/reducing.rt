@@ -10,6 +10,8 @@ use stages::Operator;
 use std::marker::PhantomData;
 
 /// The items joined by an associative operator, from the first on. There is none where there are no items.
+///
+/// Java's `Collectors.reducing` by an operator alone.
 #[derive(Drop)]
 pub struct Reducing<T: Value + Clone, O: Operator<T>> {
     operator: O,
@@ -82,7 +84,7 @@ impl<T: Value + Clone, O: Operator<T>> Collector for Reducing<T, O> {
     }
 }
 
-/// The first item.
+/// The first item, or none: what Java's `Stream.findFirst` answers.
 #[derive(Drop)]
 pub struct First<T: Value + Clone> {
     items: PhantomData<T>,

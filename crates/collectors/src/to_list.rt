@@ -8,7 +8,7 @@ use spliterator::{NoMemory, Value};
 use std::alloc::Global;
 use std::marker::PhantomData;
 
-/// The items, in their order. It keeps clones of them.
+/// The items, in their order. It keeps clones of them. Java's `Collectors.toList`.
 #[derive(Drop)]
 pub struct ToList<T: Value + Clone> {
     alloc: Global,

@@ -13,28 +13,23 @@ use std::alloc::Global;
 use std::hash::{BuildHasher, BuildHasherDefault, FoldHasher, Hash};
 use std::marker::PhantomData;
 
-/// For each key the values of its items, merged from left to right. The keys stand in the order of their first item.
+/// For each key the values of its items, merged from left to right by an associative operator. The keys stand in the order of their first
+/// item. Java's `Collectors.toMap` with a merge function.
 #[derive(Drop)]
-pub struct ToMap<
-    T: Value,
-    K,
-    V: Mapping<T>,
-    M: Operator<V::Out>,
-    S = BuildHasherDefault<FoldHasher>,
-> {
+pub struct ToMap<T: Value, U: Value, K, V, M: Operator<U>, S = BuildHasherDefault<FoldHasher>> {
     alloc: Global,
     key: K,
     value: V,
     merge: M,
     hash_builder: S,
-    items: PhantomData<T>,
-    ghost associative: { TestsAssociative V.Out.same V.Out.is_value (M.join merge) },
+    items: PhantomData<(T, U)>,
+    ghost associative: { TestsAssociative U.same U.is_value (M.join merge) },
 }
 
-impl<T: Value, K, V: Mapping<T>, M: Operator<V::Out>> ToMap<T, K, V, M> {
+impl<T: Value, U: Value, K, V, M: Operator<U>> ToMap<T, U, K, V, M> {
     /// A map that hashes by a fixed seed, for keys that no stranger chooses.
-    pub fn new(alloc: Global, key: K, value: V, merge: M) -> ToMap<T, K, V, M>
-        requires { IsAssociative V.Out.is_value (M.join merge) }
+    pub fn new(alloc: Global, key: K, value: V, merge: M) -> ToMap<T, U, K, V, M>
+        requires { IsAssociative U.is_value (M.join merge) }
         ensures key { result.key ≡ key }
         ensures value { result.value ≡ value }
         ensures merge { result.merge ≡ merge }
@@ -43,7 +38,7 @@ impl<T: Value, K, V: Mapping<T>, M: Operator<V::Out>> ToMap<T, K, V, M> {
     }
 }
 
-impl<T: Value, K, V: Mapping<T>, M: Operator<V::Out>, S> ToMap<T, K, V, M, S> {
+impl<T: Value, U: Value, K, V, M: Operator<U>, S> ToMap<T, U, K, V, M, S> {
     /// A map that hashes as it is told, as by a `RandomState` where strangers choose the keys.
     pub fn with_hasher(
         alloc: Global,
@@ -51,11 +46,12 @@ impl<T: Value, K, V: Mapping<T>, M: Operator<V::Out>, S> ToMap<T, K, V, M, S> {
         value: V,
         merge: M,
         hash_builder: S,
-    ) -> ToMap<T, K, V, M, S>
-        requires { IsAssociative V.Out.is_value (M.join merge) }
+    ) -> ToMap<T, U, K, V, M, S>
+        requires { IsAssociative U.is_value (M.join merge) }
         ensures key { result.key ≡ key }
         ensures value { result.value ≡ value }
         ensures merge { result.merge ≡ merge }
+        ensures hash_builder { result.hash_builder ≡ hash_builder }
     {
         ToMap {
             alloc,
@@ -68,23 +64,28 @@ impl<T: Value, K, V: Mapping<T>, M: Operator<V::Out>, S> ToMap<T, K, V, M, S> {
     }
 }
 
-impl<T: Value, K: Mapping<T>, V: Mapping<T>, M: Operator<V::Out>, S: BuildHasher + Copy> Collector
-    for ToMap<T, K, V, M, S>
+impl<
+    T: Value,
+    U: Value + Drop,
+    K: Mapping<T>,
+    V: Mapping<T, Out = U>,
+    M: Operator<U>,
+    S: BuildHasher + Copy,
+> Collector for ToMap<T, U, K, V, M, S>
 where
     K::Out: Hash + Drop,
-    V::Out: Drop,
 {
     type Item = T;
 
-    type Acc = IndexMap<K::Out, V::Out, S>;
+    type Acc = IndexMap<K::Out, U, S>;
 
-    type Out = IndexMap<K::Out, V::Out, S>;
+    type Out = IndexMap<K::Out, U, S>;
 
     ghost ready = { λ c. K.ready c.key × V.ready c.value × M.ready c.merge };
 
-    ghost Content = { List (K.Out.Content × V.Out.Content) };
+    ghost Content = { List (K.Out.Content × U.Content) };
 
-    ghost content = { λ c m. contents K.Out.content V.Out.content m.entries };
+    ghost content = { λ c m. contents K.Out.content U.content m.entries };
 
     ghost empty = { λ _. [] };
 
@@ -92,15 +93,15 @@ where
 
     ghost merge = { λ c. group_merge K.Out.same (M.join c.merge) };
 
-    ghost gives = { λ c l m. IsGrouping K.Out.content K.Out.same (K.image c.key) (λ s v. Some (V.Out.content v) ≡ reduced (M.join c.merge) (map (V.image c.value) s)) l m.entries };
+    ghost gives = { λ c l m. IsGrouping K.Out.content K.Out.same (K.image c.key) (λ s v. Some (U.content v) ≡ reduced (M.join c.merge) (map (V.image c.value) s)) l m.entries };
 
-    ghost laws = { λ c. map_laws K.Out.same K.Out.same_decides (K.image c.key) (V.image c.value) (M.join c.merge) T.is_value V.Out.is_value (V.images_are_values c.value) (M.joins_are_values c.merge) (associative-tested V.Out.same V.Out.same_decides V.Out.is_value (M.join c.merge) c.associative) };
+    ghost laws = { λ c. map_laws K.Out.same K.Out.same_decides (K.image c.key) (V.image c.value) (M.join c.merge) T.is_value U.is_value (V.images_are_values c.value) (M.joins_are_values c.merge) (associative-tested U.same U.same_decides U.is_value (M.join c.merge) c.associative) };
 
-    fn supply(&self) -> Result<IndexMap<K::Out, V::Out, S>, NoMemory> {
+    fn supply(&self) -> Result<IndexMap<K::Out, U, S>, NoMemory> {
         Ok(IndexMap::with_hasher(self.alloc, self.hash_builder))
     }
 
-    fn accumulate(&self, acc: &mut IndexMap<K::Out, V::Out, S>, x: &T) -> Result<(), NoMemory> {
+    fn accumulate(&self, acc: &mut IndexMap<K::Out, U, S>, x: &T) -> Result<(), NoMemory> {
         let key = self.key.image(x)?;
         let value = self.value.image(x)?;
         if let Some(earlier) = acc.get_mut(&key) {
@@ -113,8 +114,8 @@ where
 
     fn combine(
         &self,
-        left: &mut IndexMap<K::Out, V::Out, S>,
-        right: IndexMap<K::Out, V::Out, S>,
+        left: &mut IndexMap<K::Out, U, S>,
+        right: IndexMap<K::Out, U, S>,
     ) -> Result<(), NoMemory> {
         for (key, value) in right {
             match left.get_mut(&key) {
@@ -127,10 +128,7 @@ where
         Ok(())
     }
 
-    fn finish(
-        &self,
-        acc: IndexMap<K::Out, V::Out, S>,
-    ) -> Result<IndexMap<K::Out, V::Out, S>, NoMemory> {
+    fn finish(&self, acc: IndexMap<K::Out, U, S>) -> Result<IndexMap<K::Out, U, S>, NoMemory> {
         Ok(acc)
     }
 }

@@ -48,6 +48,8 @@ impl<K: Value + Hash + Drop, V: Value + Drop, S: BuildHasher> StrictEntries<K, V
 
 /// For each key the value of its one item, in the order of the items; or, where a key repeats, the key of the earliest item whose
 /// key came before.
+///
+/// Java's `Collectors.toMap` by two functions, which throws at a repeated key. After a repeat the functions aren't asked any more.
 #[derive(Drop)]
 pub struct ToMapStrict<T, K, V, S = BuildHasherDefault<FoldHasher>> {
     alloc: Global,
@@ -72,6 +74,7 @@ impl<T, K, V, S> ToMapStrict<T, K, V, S> {
     pub fn with_hasher(alloc: Global, key: K, value: V, hash_builder: S) -> ToMapStrict<T, K, V, S>
         ensures key { result.key ≡ key }
         ensures value { result.value ≡ value }
+        ensures hash_builder { result.hash_builder ≡ hash_builder }
     {
         ToMapStrict {
             alloc,

@@ -4,14 +4,13 @@ use Rattle.std.specs.Prelude.{slice_index}
 use Rattle.std.proofs.lemmas.List.{get_or-set_same}
 use mathlib.Core.Option.{none}
 use Rattle.atomic_table.specs.Table.{step, Allows}
-use Rattle.leaf_board.specs.Case.{BoardCase, IsLawful, share_end, ring}
+use Rattle.leaf_board.specs.Case.{BoardCase, IsLawful, ring}
 use Rattle.leaf_board.specs.Statuses.{Skipped}
-use Rattle.leaf_board.specs.Knowledge.{Knowledge, IsHeld, known_count, KnowsEnough, after_leaf, after_empty, after_look, after_skip}
+use Rattle.leaf_board.specs.Knowledge.{Knowledge, IsHeld, known_count, KnowsEnough, after_look, after_skip}
 use Rattle.leaf_board.specs.Rule.{Orderly, leaf_place}
 use Rattle.leaf_board.specs.Plays.{Sat, sat, draws, publishes, looks, cuts, reads, skips}
 use Rattle.leaf_board.specs.Seats.{knowledge_in, IsInUse}
-use Rattle.leaf_board.proofs.Allowed.{look_allowed, read_allowed, skip_allowed, cut_allowed, publish_allowed, draw_allowed, draw_place, draw_next}
-use Rattle.std.proofs.lemmas.Bool.{lt-ltb, le-ltb}
+use Rattle.leaf_board.proofs.Allowed.{look_allowed, read_allowed, skip_allowed, cut_allowed, publish_allowed, draw_allowed, draw_place}
 
 -- after a step that changed no share, the seat is in use as before
 pub in_use : (c : BoardCase) (m n : Sat) (number passed : ℕ) (next : Knowledge) → IsInUse c m number passed → n ≡ sat number next → next.passed ≡ passed → length next.leaves ≡ c.leaves → next.draws ≤ c.leaves + c.seats → length next.counts ≡ c.leaves → IsInUse c n number passed

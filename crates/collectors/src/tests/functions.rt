@@ -179,6 +179,16 @@ impl Operator<i64> for LastOf {
     }
 }
 
+impl<'a> Operator<&'a str> for LastOf {
+    ghost join = { λ _ a b. b };
+
+    ghost joins_are_values = { λ _ a b _ value. value };
+
+    fn join(&self, _a: &&'a str, b: &&'a str) -> Result<&'a str, NoMemory> {
+        Ok(*b)
+    }
+}
+
 impl Operator<String> for LastOf {
     ghost join = { λ _ a b. b };
 

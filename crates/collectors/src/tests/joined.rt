@@ -39,9 +39,17 @@ fn counts_equal_texts(rt: HostRuntime) -> Result<(), Fail> {
 }
 
 #[test]
+fn maps_lengths_to_texts(rt: HostRuntime) -> Result<(), Fail> {
+    let alloc = rt.alloc();
+    let last = ToMap::<&str, _, _, _, _>::new(alloc, Length, Itself, LastOf);
+    check(&rt, alloc, &last, &["bb", "a", "cc"], "{2=cc, 1=a}")?;
+    Ok(())
+}
+
+#[test]
 fn maps_texts_to_lengths(rt: HostRuntime) -> Result<(), Fail> {
     let alloc = rt.alloc();
-    let lengths = ToMap::<&str, _, _, _>::new(alloc, Itself, Length, LastOf);
+    let lengths = ToMap::<&str, _, _, _, _>::new(alloc, Itself, Length, LastOf);
     check(&rt, alloc, &lengths, &["bb", "a"], "{bb=2, a=1}")?;
     Ok(())
 }
@@ -99,7 +107,7 @@ fn takes_owned_texts(rt: HostRuntime) -> Result<(), Fail> {
     check(&rt, alloc, &counts, &texts, "{b=2, a=1}")?;
     let last = Reducing::<String, _>::new(LastOf);
     check(&rt, alloc, &last, &texts, "Optional[b]")?;
-    let map = ToMap::<String, _, _, _>::new(alloc, Itself, Itself, LastOf);
+    let map = ToMap::<String, _, _, _, _>::new(alloc, Itself, Itself, LastOf);
     check(&rt, alloc, &map, &texts, "{b=b, a=a}")?;
     Ok(())
 }

@@ -91,9 +91,9 @@ fn groups_by_random_hashes(rt: HostRuntime) -> Result<(), Fail> {
 #[test]
 fn maps_merge_from_left_to_right(rt: HostRuntime) -> Result<(), Fail> {
     let alloc = rt.alloc();
-    let last = ToMap::<i64, _, _, _>::new(alloc, Modulo::new(2), Itself, LastOf);
+    let last = ToMap::<i64, _, _, _, _>::new(alloc, Modulo::new(2), Itself, LastOf);
     check(&rt, alloc, &last, &[1, 2, 3, 4], "{1=3, 0=4}")?;
-    let first = ToMap::<i64, _, _, _>::new(alloc, Modulo::new(2), Itself, FirstOf);
+    let first = ToMap::<i64, _, _, _, _>::new(alloc, Modulo::new(2), Itself, FirstOf);
     check(&rt, alloc, &first, &[1, 2, 3, 4], "{1=1, 0=2}")?;
     Ok(())
 }

@@ -185,12 +185,12 @@ fn give_up_all<C: Case>(
     hands.destroy_empty();
 }
 
-fn compare<R: Abort>(rt: &R, setting: &Setting, plain: &Plain, record: &Record)
-    requires { record.now.leaves ≡ setting.now.leaves }
+fn compare<R: Abort>(rt: &R, setting: &Setting, plain: &Plain, told: &Record)
+    requires { told.now.leaves ≡ setting.now.leaves }
 {
-    assert_eq!(rt; record.cut(), plain.cut());
+    assert_eq!(rt; told.cut(), plain.cut());
     for leaf in 0..setting.leaves {
-        assert_eq!(rt; record.count(leaf), plain.count(leaf));
+        assert_eq!(rt; told.count(leaf), plain.count(leaf));
     }
 }
 

@@ -1,7 +1,9 @@
 //! Files and what a run writes of them, or the line that it tells.
 
+ghost use Rattle.std.specs.Prelude.{◌≤◌, ◌^◌};
+
 use super::{SETTINGS, Script};
-use crate::{Counted, NoGate, run};
+use crate::{Counted, NoGate, Settings, run};
 use std::alloc::{AllocError, Global};
 use std::io;
 use std::io::{ErrorKind, Read};
@@ -10,9 +12,22 @@ use std::thread::Threads;
 
 /// What a run on the file writes, or the line that it tells.
 fn answer<R: Threads + Sync>(rt: &R, alloc: Global, file: &[u8]) -> Result<String, AllocError> {
+    answer_with(rt, alloc, file, &SETTINGS)
+}
+
+/// The same, with these workers and this target.
+fn answer_with<R: Threads + Sync>(
+    rt: &R,
+    alloc: Global,
+    file: &[u8],
+    settings: &Settings,
+) -> Result<String, AllocError>
+    requires workers { (1 ≤ settings.now.workers) × (settings.now.workers ≤ 64) }
+    requires target { settings.now.target ≤ 2 ^ 62 }
+{
     let mut input = Counted::new(file);
     let mut output = Counted::new(Vec::new(alloc));
-    match run(rt, alloc, &mut input, &mut output, &SETTINGS, &NoGate) {
+    match run(rt, alloc, &mut input, &mut output, settings, &NoGate) {
         Ok(()) => String::from_utf8_lossy(alloc, output.get_ref().as_slice()),
         Err(e) => format!(in alloc; "{e}"),
     }
@@ -65,6 +80,26 @@ fn answers_the_rows(rt: HostRuntime) -> Result<(), Fail> {
     let alloc = rt.alloc();
     for (file, wanted) in ROWS {
         assert_eq!(rt; answer(&rt, alloc, file)?.as_str(), wanted);
+    }
+    Ok(())
+}
+
+#[test]
+fn answers_the_rows_with_any_settings(rt: HostRuntime) -> Result<(), Fail> {
+    let alloc = rt.alloc();
+    for workers in [1u32, 2, 7, 64] {
+        for target in [1u64, 0] {
+            let settings = Settings { workers, target };
+            assert!(rt; (1..=64).contains(&workers) && target <= 1);
+            for (file, wanted) in ROWS {
+                let written = answer_with(&rt, alloc, file, &settings)?;
+                assert_eq!(rt;
+                    written.as_str(),
+                    wanted,
+                    "{workers} workers, target {target}"
+                );
+            }
+        }
     }
     Ok(())
 }
