@@ -330,9 +330,27 @@ fn one_worker_meets_no_refusal_right_of_what_is_wanted(rt: HostRuntime) -> Resul
     let alloc = rt.alloc();
     let plan = plan_of(alloc, 10, 1, 1)?;
     let stage = Map::new(RefusesAt { number: 7 });
-    let found = run_leaves(&rt, alloc, &plan, &stage, &Total::new(1), &First::new(), 1, &NoGate)?;
+    let found = run_leaves(
+        &rt,
+        alloc,
+        &plan,
+        &stage,
+        &Total::new(1),
+        &First::new(),
+        1,
+        &NoGate,
+    )?;
     assert_eq!(rt; found.acc, Some(0));
-    let whole = run_leaves(&rt, alloc, &plan, &stage, &Whole, &ToList::new(alloc), 1, &NoGate);
+    let whole = run_leaves(
+        &rt,
+        alloc,
+        &plan,
+        &stage,
+        &Whole,
+        &ToList::new(alloc),
+        1,
+        &NoGate,
+    );
     assert!(rt; matches!(whole, Err(NoMemory)));
     Ok(())
 }
@@ -342,11 +360,22 @@ fn seven_workers_may_meet_a_refusal(rt: HostRuntime) -> Result<(), Fail> {
     let alloc = rt.alloc();
     let plan = plan_of(alloc, 10, 7, 1)?;
     let stage = Map::new(RefusesAt { number: 7 });
-    let found = run_leaves(&rt, alloc, &plan, &stage, &Total::new(1), &First::new(), 7, &NoGate);
-    assert!(rt; match found {
-        Ok(run) => run.acc == Some(0),
-        Err(NoMemory) => true,
-    });
+    let found = run_leaves(
+        &rt,
+        alloc,
+        &plan,
+        &stage,
+        &Total::new(1),
+        &First::new(),
+        7,
+        &NoGate,
+    );
+    assert!(rt;
+        match found {
+            Ok(run) => run.acc == Some(0),
+            Err(NoMemory) => true,
+        }
+    );
     Ok(())
 }
 
