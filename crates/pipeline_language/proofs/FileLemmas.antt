@@ -1,0 +1,323 @@
+-- A file has one reading: what the reader answers is its meaning or its fault, and nothing else is.
+use Rattle.std.proofs.Common.{◌≡◌, ◌⊎◌, ℕ, zero, suc, ◌+◌, ◌<◌, ◌≤◌, true, List, [], ◌∷◌, ◌++◌, length, Result, Ok, Err, IfOk, IfErr, refl, sym, ap, subst, ◌∙◌, inl, inr, arith}
+use Rattle.std.specs.Prelude.{IsUtf8, nat_lt}
+use Rattle.std.specs.Str.{is_utf8, bytes_eq, chars}
+use Rattle.std.proofs.lemmas.Bool.{cond_both, cond-true, cond-false, le-ltb, lt-ltb, ltb-true, ltb-false, false≢true, false_from_ne_true}
+use Rattle.std.proofs.lemmas.List.{append-nil, append_assoc, length-append}
+use Rattle.std.proofs.lemmas.Slice.Eq.{bytes_eq-Decides}
+use Rattle.std.proofs.lemmas.Str.{is_utf8-from_IsUtf8, IsUtf8-from_is_utf8}
+use Rattle.pipeline_language.specs.declared.fault.FileError.{FileError}
+use Rattle.pipeline_language.specs.declared.fault.FileError.TheVariants.{BadText, TooLarge, BadVersion, MissingTerminal}
+use Rattle.pipeline_language.specs.declared.fault.FileFault.{FileFault}
+use Rattle.pipeline_language.specs.declared.fault.ReadError.{ReadError}
+use Rattle.pipeline_language.specs.declared.fault.ReadError.TheVariants.{Fault, NoMemory}
+use Rattle.pipeline_language.specs.declared.pipeline.Pipeline.{Pipeline}
+use Rattle.pipeline_language.specs.Words.{lines_of}
+use Rattle.pipeline_language.specs.Form.{IsLineOf}
+use Rattle.pipeline_language.specs.Syntax.{Origin, origins, text_count, Coming, bodies, Program}
+use Rattle.pipeline_language.specs.Content.{Body, program_of}
+use Rattle.pipeline_language.specs.Language.{version, VersionFault, Place, VersionPlace, SourcePlace, TextPlace, BodyPlace, EndPlace, LeadsTo, FaultOfNext, IsProgramOf, AreTexts, IsBeginningOfTexts, IsBeginningOf, IsFaultOfLines, from_origin, after_stages, Means, HasFault, most_bytes}
+use Rattle.pipeline_language.specs.Reading.{◌>>=◌, line_of}
+use Rattle.pipeline_language.specs.SyntaxReading.{body_of, origin_words}
+use Rattle.pipeline_language.specs.FileReading.{IfFault, Reads, Texts, with_texts, texts_from, from_texts, at_line, version_of, after_end, no_more, with_stages, body_from, from_source, program_from, file_of}
+use Rattle.pipeline_language.proofs.LineAnswers.{AnswersLine, line_answer, line_is_read, fault_is_read, not_text}
+use Rattle.pipeline_language.proofs.SyntaxLemmas.{body_phrase, origin_phrase}
+use Rattle.pipeline_language.proofs.BodyLemmas.{AnswersBody, IsBodyOf, body_answer, body_is_read, stages_are_read, fault_is_told, end_fault_is}
+
+-- what lines, and a file, have as their answer
+abbrev AnswersLines : List (List ℕ) → Result Program FileFault → Type 0
+AnswersLines lines (Ok program) = IsProgramOf lines program
+AnswersLines lines (Err fault) = IsFaultOfLines lines fault
+
+abbrev AnswersFile : List ℕ → Result Program FileFault → Type 0
+AnswersFile file (Ok program) = Means file program
+AnswersFile file (Err fault) = HasFault file fault
+
+-- the first line
+abbrev AnswersVersion : List ℕ → Result (Unit {0}) FileError → Type 0
+AnswersVersion line (Ok x) = line ≡ version
+AnswersVersion line (Err kind) = VersionFault line kind
+
+version_answer : (line : List ℕ) → AnswersVersion line (version_of line)
+unfolding version_of
+version_answer line = cond_both (is_utf8 line) _ (Err BadText) (AnswersVersion line)
+    (λ t. cond_both (bytes_eq line version) (Ok tt) (Err BadVersion) (AnswersVersion line)
+    (λ same. (bytes_eq-Decides line version).0 same)
+    (λ other. inr (IsUtf8-from_is_utf8 line t, (λ e. false≢true (sym other ∙ (bytes_eq-Decides line version).1 e)), refl)))
+    (λ t. inl (not_text line t, refl))
+
+version_text : is_utf8 version ≡ true
+unfolding is_utf8 chars lib.Utf8.encode
+version_text = refl
+
+version_is_read : version_of version ≡ Ok tt
+unfolding version_of
+version_is_read = cond-true (is_utf8 version) _ (Err BadText) version_text ∙ cond-true (bytes_eq version version) (Ok tt) (Err BadVersion) ((bytes_eq-Decides version version).1 refl)
+
+version_fault_is_read : (line : List ℕ) (kind : FileError) → VersionFault line kind → version_of line ≡ Err kind
+unfolding version_of
+version_fault_is_read line kind (inl fault) = cond-false (is_utf8 line) _ (Err BadText) (false_from_ne_true (is_utf8 line) (λ t. fault.0 (IsUtf8-from_is_utf8 line t))) ∙ ap Err (sym fault.1)
+version_fault_is_read line kind (inr fault) = cond-true (is_utf8 line) _ (Err BadText) (is_utf8-from_IsUtf8 line fault.0)
+    ∙ cond-false (bytes_eq line version) (Ok tt) (Err BadVersion) (false_from_ne_true (bytes_eq line version) (λ t. fault.1 ((bytes_eq-Decides line version).0 t))) ∙ ap Err (sym fault.2)
+
+-- the texts
+abbrev IsFaultOfTexts : ℕ → ℕ → List (List ℕ) → FileFault → Type 0
+IsFaultOfTexts count n lines fault = (front : List (List ℕ)) × (left : List (List ℕ)) × (lines ≡ front ++ left) × AreTexts front × (length front < count) × (fault.line ≡ n + length front) × FaultOfNext TextPlace left fault.kind
+
+abbrev AnswersTexts : ℕ → ℕ → List (List ℕ) → Result Texts FileFault → Type 0
+AnswersTexts count n lines (Ok texts) = (lines ≡ texts.0 ++ texts.1) × AreTexts texts.0 × (length texts.0 ≡ count)
+AnswersTexts count n lines (Err fault) = IsFaultOfTexts count n lines fault
+
+text_first : (count n : ℕ) (line : List ℕ) (lines : List (List ℕ)) → IsUtf8 line → (r : Result Texts FileFault) → AnswersTexts count (n + 1) lines r → AnswersTexts (suc count) n (line ∷ lines) (with_texts (line ∷ []) r)
+text_first count n line lines is (Ok texts) h = (ap (λ l. line ∷ l) h.0, (is, h.1), omega (arith, h.2))
+text_first count n line lines is (Err fault) h = (line ∷ h.0, h.1, ap (λ l. line ∷ l) h.2, (is, h.3), omega (arith, h.4), omega (arith, h.5), h.6)
+
+texts_answer : (count n : ℕ) (lines : List (List ℕ)) → AnswersTexts count n lines (texts_from count n lines)
+texts_answer zero n lines = (refl, tt, refl)
+texts_answer (suc count) n [] = ([], [], refl, tt, omega arith, omega arith, refl)
+texts_answer (suc count) n (line ∷ lines) =
+    cond_both (is_utf8 line) (with_texts (line ∷ []) (texts_from count (n + 1) lines)) (Err (record { line = n; kind = BadText })) (AnswersTexts (suc count) n (line ∷ lines))
+    (λ t. text_first count n line lines (IsUtf8-from_is_utf8 line t) (texts_from count (n + 1) lines) (texts_answer count (n + 1) lines))
+    (λ t. ([], line ∷ lines, refl, tt, omega arith, omega arith, (not_text line t, refl)))
+
+texts_are_read : (texts : List (List ℕ)) (count n : ℕ) (left : List (List ℕ)) → AreTexts texts → length texts ≡ count → texts_from count n (texts ++ left) ≡ Ok (texts, left)
+texts_are_read [] zero n left are len = refl
+texts_are_read [] (suc count) n left are len = absurd (omega (arith, len))
+texts_are_read (text ∷ texts) zero n left are len = absurd (omega (arith, len))
+texts_are_read (text ∷ texts) (suc count) n left are len =
+    cond-true (is_utf8 text) (with_texts (text ∷ []) (texts_from count (n + 1) (texts ++ left))) (Err (record { line = n; kind = BadText })) (is_utf8-from_IsUtf8 text are.0)
+    ∙ ap (with_texts (text ∷ [])) (texts_are_read texts count (n + 1) left are.1 (omega (arith, len)))
+
+text_fault_is_told : (front : List (List ℕ)) (count n : ℕ) (left : List (List ℕ)) (kind : FileError) → AreTexts front → length front < count → FaultOfNext TextPlace left kind → texts_from count n (front ++ left) ≡ Err (record { line = n + length front; kind = kind })
+text_fault_is_told [] zero n left kind are less here = absurd (omega (arith, less))
+text_fault_is_told [] (suc count) n [] kind are less here =
+    let same : n ≡ n + 0 = omega arith in
+    ap (λ k. let r : Result Texts FileFault = Err (record { line = n; kind = k }) in r) (sym here) ∙ ap (λ m. let r : Result Texts FileFault = Err (record { line = m; kind = kind }) in r) same
+text_fault_is_told [] (suc count) n (line ∷ left) kind are less here =
+    let same : n ≡ n + 0 = omega arith in
+    cond-false (is_utf8 line) (with_texts (line ∷ []) (texts_from count (n + 1) left)) (Err (record { line = n; kind = BadText })) (false_from_ne_true (is_utf8 line) (λ t. here.0 (IsUtf8-from_is_utf8 line t)))
+    ∙ ap (λ k. let r : Result Texts FileFault = Err (record { line = n; kind = k }) in r) (sym here.1) ∙ ap (λ m. let r : Result Texts FileFault = Err (record { line = m; kind = kind }) in r) same
+text_fault_is_told (text ∷ front) zero n left kind are less here = absurd (omega (arith, less))
+text_fault_is_told (text ∷ front) (suc count) n left kind are less here =
+    let same : (n + 1) + length front ≡ n + length (text ∷ front) = omega arith in
+    cond-true (is_utf8 text) (with_texts (text ∷ []) (texts_from count (n + 1) (front ++ left))) (Err (record { line = n; kind = BadText })) (is_utf8-from_IsUtf8 text are.0)
+    ∙ ap (with_texts (text ∷ [])) (text_fault_is_told front count (n + 1) left kind are.1 (omega (arith, less)) here)
+    ∙ ap (λ m. let r : Result Texts FileFault = Err (record { line = m; kind = kind }) in r) same
+
+-- the program of a source, its texts and a body
+abbrev made : Origin → List (List ℕ) → Body → Program
+made origin texts body = record { origin = origin; texts = texts; stages = body.0; terminal = body.1 }
+
+abbrev head : List ℕ → List (List ℕ) → List (List ℕ)
+head line lines = version ∷ line ∷ lines
+
+program_lines : (line : List ℕ) (origin : Origin) → IsLineOf origins line origin → (texts : List (List ℕ)) → AreTexts texts → length texts ≡ text_count origin → (lines : List (List ℕ)) (body : Body) → IsBodyOf (from_origin origin) lines body → IsProgramOf (head line (texts ++ lines)) (made origin texts body)
+program_lines line origin is texts are number lines body h = record {
+  origin_line = line;
+  stage_lines = h.stage_lines;
+  terminal_line = h.terminal_line;
+  whole = ap (λ l. head line (texts ++ l)) h.whole;
+  origin = is;
+  texts = are;
+  number = number;
+  stages = h.stages;
+  terminal = h.terminal;
+}
+
+after_texts : (line : List ℕ) (origin : Origin) → IsLineOf origins line origin → (texts : List (List ℕ)) → AreTexts texts → length texts ≡ text_count origin → (lines : List (List ℕ)) (r : Result Body FileFault) → AnswersBody (from_origin origin) (3 + length texts) lines r → AnswersLines (head line (texts ++ lines)) (r >>= λ body. Ok (made origin texts body))
+after_texts line origin is texts are number lines (Ok body) h = program_lines line origin is texts are number lines body h
+after_texts line origin is texts are number lines (Err fault) (inl h) = record {
+  before = head line (texts ++ h.front);
+  left = h.left;
+  place = BodyPlace (after_stages (from_origin origin) h.steps);
+  whole = ap (λ l. head line (texts ++ l)) h.whole ∙ ap (head line) (sym (append_assoc texts h.front h.left));
+  leads = record { origin_line = line; source = origin; lines_read = texts; stage_lines = h.front; steps = h.steps; whole = refl; origin = is; texts = are; number = number; stages = h.stages; comes = refl };
+  line = omega (arith, h.line, length-append texts h.front);
+  here = h.here;
+}
+after_texts line origin is texts are number lines (Err fault) (inr h) = record {
+  before = head line (texts ++ h.front);
+  left = h.left;
+  place = EndPlace;
+  whole = ap (λ l. head line (texts ++ l)) h.whole ∙ ap (head line) (sym (append_assoc texts h.front h.left));
+  leads = (made origin texts h.body, program_lines line origin is texts are number h.front h.body h.is);
+  line = omega (arith, h.line, length-append texts h.front);
+  here = h.here;
+}
+
+after_source : (line : List ℕ) (origin : Origin) → IsLineOf origins line origin → (lines : List (List ℕ)) (r : Result Texts FileFault) → AnswersTexts (text_count origin) 3 lines r → AnswersLines (head line lines) (r >>= λ texts. body_from (from_origin origin) (3 + length texts.0) texts.1 >>= λ body. Ok (made origin texts.0 body))
+after_source line origin is lines (Ok texts) h =
+    subst (λ l. AnswersLines (head line l) (body_from (from_origin origin) (3 + length texts.0) texts.1 >>= λ body. Ok (made origin texts.0 body))) (sym h.0)
+    (after_texts line origin is texts.0 h.1 h.2 texts.1 (body_from (from_origin origin) (3 + length texts.0) texts.1) (body_answer texts.1 (from_origin origin) (3 + length texts.0)))
+after_source line origin is lines (Err fault) h = record {
+  before = head line h.0;
+  left = h.1;
+  place = TextPlace;
+  whole = ap (head line) h.2;
+  leads = record { origin_line = line; source = origin; lines_read = h.0; whole = refl; origin = is; texts = h.3; number = h.4 };
+  line = omega (arith, h.5);
+  here = h.6;
+}
+
+at_source : (line : List ℕ) (lines : List (List ℕ)) (r : Result Origin FileError) → AnswersLine origins line r → AnswersLines (head line lines) (at_line 2 r >>= λ origin. from_texts origin lines)
+at_source line lines (Ok origin) is = after_source line origin is lines (texts_from (text_count origin) 3 lines) (texts_answer (text_count origin) 3 lines)
+at_source line lines (Err kind) fault = record { before = version ∷ []; left = line ∷ lines; place = SourcePlace; whole = refl; leads = refl; line = refl; here = fault }
+
+source_answer : (lines : List (List ℕ)) → AnswersLines (version ∷ lines) (from_source lines)
+source_answer [] = record { before = version ∷ []; left = []; place = SourcePlace; whole = refl; leads = refl; line = refl; here = refl }
+source_answer (line ∷ lines) = at_source line lines (line_of origins origin_words line) (line_answer origins origin_words origin_phrase line)
+
+at_version : (line : List ℕ) (lines : List (List ℕ)) (r : Result (Unit {0}) FileError) → AnswersVersion line r → AnswersLines (line ∷ lines) (at_line 1 r >>= λ _. from_source lines)
+at_version line lines (Ok x) is = subst (λ first. AnswersLines (first ∷ lines) (from_source lines)) (sym is) (source_answer lines)
+at_version line lines (Err kind) fault = record { before = []; left = line ∷ lines; place = VersionPlace; whole = refl; leads = refl; line = refl; here = fault }
+
+-- The lines have the answer that reading gives.
+lines_answer : (lines : List (List ℕ)) → AnswersLines lines (program_from lines)
+unfolding program_from
+lines_answer [] = record { before = []; left = []; place = VersionPlace; whole = refl; leads = refl; line = refl; here = refl }
+lines_answer (line ∷ lines) = at_version line lines (version_of line) (version_answer line)
+
+in_file : (file : List ℕ) → length file ≤ most_bytes → (r : Result Program FileFault) → AnswersLines (lines_of file) r → AnswersFile file r
+in_file file small (Ok program) is = (small, is)
+in_file file small (Err fault) is = inr (small, is)
+
+-- A file has the answer that reading gives.
+pub file_answer : (file : List ℕ) → AnswersFile file (file_of file)
+unfolding file_of
+file_answer file = cond_both (nat_lt most_bytes (length file)) (Err (record { line = 0; kind = TooLarge })) (program_from (lines_of file)) (AnswersFile file)
+    (λ t. inl (ltb-true most_bytes (length file) t, refl))
+    (λ t. in_file file (ltb-false most_bytes (length file) t) (program_from (lines_of file)) (lines_answer (lines_of file)))
+
+-- behind the version and the source, texts are read, and behind them a body
+behind_source : (line : List ℕ) (origin : Origin) → IsLineOf origins line origin → (lines : List (List ℕ)) → program_from (head line lines) ≡ from_texts origin lines
+unfolding program_from
+behind_source line origin is lines =
+    ap (λ r. at_line 1 r >>= λ _. from_source (line ∷ lines)) version_is_read
+    ∙ ap (λ r. at_line 2 r >>= λ found. from_texts found lines) (line_is_read origins origin_words origin_phrase line origin is)
+
+behind_texts : (line : List ℕ) (origin : Origin) → IsLineOf origins line origin → (texts : List (List ℕ)) → AreTexts texts → length texts ≡ text_count origin → (lines : List (List ℕ)) → program_from (head line (texts ++ lines)) ≡ (body_from (from_origin origin) (3 + length texts) lines >>= λ body. Ok (made origin texts body))
+behind_texts line origin is texts are number lines =
+    behind_source line origin is (texts ++ lines)
+    ∙ ap (λ r. r >>= λ t. body_from (from_origin origin) (3 + length t.0) t.1 >>= λ body. Ok (made origin t.0 body)) (texts_are_read texts (text_count origin) 3 lines are number)
+
+body_in : (lines : List (List ℕ)) (program : Program) (is : IsProgramOf lines program) → IsBodyOf (from_origin program.origin) (is.stage_lines ++ is.terminal_line ∷ []) (program.stages, program.terminal)
+body_in lines program is = record { stage_lines = is.stage_lines; terminal_line = is.terminal_line; whole = refl; stages = is.stages; terminal = is.terminal }
+
+-- the lines of a program, and what follows them
+behind_program : (before left : List (List ℕ)) (program : Program) → IsProgramOf before program → program_from (before ++ left) ≡ (no_more (length before + 1) left >>= λ _. Ok program)
+behind_program before left program is =
+    let rest : List (List ℕ) = is.stage_lines ++ is.terminal_line ∷ [] in
+    let n : ℕ = 3 + length program.texts in
+    let number : n + length rest ≡ length before + 1 = omega (arith, ap length is.whole, length-append program.texts rest) in
+    ap (λ lines. program_from (lines ++ left)) is.whole
+    ∙ ap (λ lines. program_from (head is.origin_line lines)) (append_assoc program.texts rest left)
+    ∙ behind_texts is.origin_line program.origin is.origin program.texts is.texts is.number (rest ++ left)
+    ∙ ap (λ r. r >>= λ body. Ok (made program.origin program.texts body)) (body_is_read (from_origin program.origin) n rest left (program.stages, program.terminal) (body_in before program is))
+    ∙ ended (no_more (n + length rest) left)
+    ∙ ap (λ k. no_more k left >>= λ _. Ok program) number
+  where
+    ended : (r : Result (Unit {0}) FileFault) → ((r >>= λ _. let b : Body = (program.stages, program.terminal) in Ok b) >>= λ body. Ok (made program.origin program.texts body)) ≡ (r >>= λ _. Ok program)
+    ended (Ok x) = refl
+    ended (Err fault) = refl
+
+-- The lines of a program are read as that.
+program_is_read : (lines : List (List ℕ)) (program : Program) → IsProgramOf lines program → program_from lines ≡ Ok program
+unfolding no_more
+program_is_read lines program is = ap program_from (sym (append-nil lines)) ∙ behind_program lines [] program is
+
+same_parts : (n : ℕ) (kind : FileError) (fault : FileFault) → fault.line ≡ n → fault.kind ≡ kind → record { line = n; kind = kind } ≡ fault
+same_parts n kind fault line same = ap (λ m. let f : FileFault = record { line = m; kind = kind } in f) (sym line) ∙ ap (λ k. let f : FileFault = record { line = fault.line; kind = k } in f) (sym same)
+
+-- the fault of what is left of a body
+left_fault : (coming : Coming) (n : ℕ) (left : List (List ℕ)) (fault : FileFault) → fault.line ≡ n → FaultOfNext (BodyPlace coming) left fault.kind → body_from coming n left ≡ Err fault
+left_fault coming n [] fault line here = ap Err (same_parts n MissingTerminal fault line here)
+left_fault coming n (first ∷ left) fault line here =
+    fault_is_told coming n first left fault.kind (fault_is_read (bodies coming) body_of body_phrase first fault.kind here) ∙ ap Err (same_parts n fault.kind fault line refl)
+
+at_body : (before left : List (List ℕ)) (place : Coming) (fault : FileFault) → IsBeginningOf before place → fault.line ≡ length before + 1 → FaultOfNext (BodyPlace place) left fault.kind → program_from (before ++ left) ≡ Err fault
+at_body before left place fault is line here =
+    let coming : Coming = from_origin is.source in
+    let n : ℕ = 3 + length is.lines_read in
+    let number : fault.line ≡ n + length is.stage_lines = omega (arith, line, ap length is.whole, length-append is.lines_read is.stage_lines) in
+    ap (λ lines. program_from (lines ++ left)) is.whole
+    ∙ ap (λ lines. program_from (head is.origin_line lines)) (append_assoc is.lines_read is.stage_lines left)
+    ∙ behind_texts is.origin_line is.source is.origin is.lines_read is.texts is.number (is.stage_lines ++ left)
+    ∙ ap (λ r. r >>= λ body. Ok (made is.source is.lines_read body))
+    (stages_are_read is.stage_lines is.steps coming n left is.stages
+    ∙ ap (with_stages is.steps) (left_fault (after_stages coming is.steps) (n + length is.stage_lines) left fault number (subst (λ p. FaultOfNext (BodyPlace p) left fault.kind) is.comes here)))
+
+at_text : (before left : List (List ℕ)) (fault : FileFault) → IsBeginningOfTexts before → fault.line ≡ length before + 1 → FaultOfNext TextPlace left fault.kind → program_from (before ++ left) ≡ Err fault
+at_text before left fault is line here =
+    let number : fault.line ≡ 3 + length is.lines_read = omega (arith, line, ap length is.whole) in
+    ap (λ lines. program_from (lines ++ left)) is.whole
+    ∙ behind_source is.origin_line is.source is.origin (is.lines_read ++ left)
+    ∙ ap (λ r. r >>= λ t. body_from (from_origin is.source) (3 + length t.0) t.1 >>= λ body. Ok (made is.source t.0 body)) (text_fault_is_told is.lines_read (text_count is.source) 3 left fault.kind is.texts is.number here)
+    ∙ ap Err (same_parts (3 + length is.lines_read) fault.kind fault number refl)
+
+-- a fault at each place
+at_place : (place : Place) (before left : List (List ℕ)) (fault : FileFault) → LeadsTo before place → fault.line ≡ length before + 1 → FaultOfNext place left fault.kind → program_from (before ++ left) ≡ Err fault
+unfolding program_from no_more
+at_place VersionPlace before [] fault leads line here =
+    ap (λ lines. program_from (lines ++ [])) leads ∙ ap Err (same_parts 1 BadVersion fault (line ∙ ap (λ lines. length lines + 1) leads) here)
+at_place VersionPlace before (first ∷ left) fault leads line here =
+    ap (λ lines. program_from (lines ++ first ∷ left)) leads ∙ rw (version_fault_is_read first fault.kind here) (ap Err (same_parts 1 fault.kind fault (line ∙ ap (λ lines. length lines + 1) leads) refl))
+at_place SourcePlace before [] fault leads line here =
+    ap (λ lines. program_from (lines ++ [])) leads ∙ rw version_is_read (ap Err (same_parts 2 MissingTerminal fault (line ∙ ap (λ lines. length lines + 1) leads) here))
+at_place SourcePlace before (first ∷ left) fault leads line here =
+    ap (λ lines. program_from (lines ++ first ∷ left)) leads ∙ rw (version_is_read, fault_is_read origins origin_words origin_phrase first fault.kind here) (ap Err (same_parts 2 fault.kind fault (line ∙ ap (λ lines. length lines + 1) leads) refl))
+at_place TextPlace before left fault leads line here = at_text before left fault leads line here
+at_place (BodyPlace place) before left fault leads line here = at_body before left place fault leads line here
+at_place EndPlace before [] fault leads line here = absurd here
+at_place EndPlace before (first ∷ left) fault leads line here =
+    behind_program before (first ∷ left) leads.0 leads.1 ∙ ap Err (same_parts (length before + 1) (after_end first) fault line (sym (end_fault_is first fault.kind here)))
+
+-- The fault of lines is told.
+fault_of_lines_is_read : (lines : List (List ℕ)) (fault : FileFault) → IsFaultOfLines lines fault → program_from lines ≡ Err fault
+fault_of_lines_is_read lines fault is = ap program_from is.whole ∙ at_place is.place is.before is.left fault is.leads is.line is.here
+
+-- What a file means is read.
+pub means_is_read : (file : List ℕ) (program : Program) → Means file program → file_of file ≡ Ok program
+unfolding file_of
+means_is_read file program is = cond-false (nat_lt most_bytes (length file)) _ (program_from (lines_of file)) (le-ltb most_bytes (length file) is.0) ∙ program_is_read (lines_of file) program is.1
+
+-- The fault of a file is told.
+pub fault_of_file_is_read : (file : List ℕ) (fault : FileFault) → HasFault file fault → file_of file ≡ Err fault
+unfolding file_of
+fault_of_file_is_read file fault (inl is) = cond-true (nat_lt most_bytes (length file)) _ (program_from (lines_of file)) (lt-ltb most_bytes (length file) is.0) ∙ ap Err (sym is.1)
+fault_of_file_is_read file fault (inr is) = cond-false (nat_lt most_bytes (length file)) _ (program_from (lines_of file)) (le-ltb most_bytes (length file) is.0) ∙ fault_of_lines_is_read (lines_of file) fault is.1
+
+-- What a function that reads answers.
+pub reads_means : (file : List ℕ) (r : Result Pipeline ReadError) → Reads program_of r (file_of file) → IfOk r (λ pipeline. Means file (program_of pipeline))
+reads_means file (Ok pipeline) is = subst (AnswersFile file) is (file_answer file)
+reads_means file (Err e) is = tt
+
+pub reads_fault : (file : List ℕ) (r : Result Pipeline ReadError) → Reads program_of r (file_of file) → IfErr r (IfFault (HasFault file))
+reads_fault file (Ok pipeline) is = tt
+reads_fault file (Err NoMemory) is = tt
+reads_fault file (Err (Fault fault)) is = subst (AnswersFile file) is (file_answer file)
+
+-- One reading, and no other.
+by_answer : (file : List ℕ) (r : Result Program FileFault) → AnswersFile file r → ((program : Program) × Means file program) ⊎ ((fault : FileFault) × HasFault file fault)
+by_answer file (Ok program) is = inl (program, is)
+by_answer file (Err fault) is = inr (fault, is)
+
+pub some_reading : (file : List ℕ) → ((program : Program) × Means file program) ⊎ ((fault : FileFault) × HasFault file fault)
+some_reading file = by_answer file (file_of file) (file_answer file)
+
+ok_or_err : (r : Result Program FileFault) (program : Program) (fault : FileFault) → r ≡ Ok program → r ≡ Err fault → ⊥
+ok_or_err r program fault e f = cc
+
+same_ok : (r : Result Program FileFault) (one other : Program) → r ≡ Ok one → r ≡ Ok other → one ≡ other
+same_ok r one other e f = cc
+
+same_err : (r : Result Program FileFault) (one other : FileFault) → r ≡ Err one → r ≡ Err other → one ≡ other
+same_err r one other e f = cc
+
+pub apart : (file : List ℕ) (program : Program) (fault : FileFault) → Means file program → HasFault file fault → ⊥
+apart file program fault is has = ok_or_err (file_of file) program fault (means_is_read file program is) (fault_of_file_is_read file fault has)
+
+pub one_meaning : (file : List ℕ) (one other : Program) → Means file one → Means file other → one ≡ other
+one_meaning file one other e f = same_ok (file_of file) one other (means_is_read file one e) (means_is_read file other f)
+
+pub one_fault_of_file : (file : List ℕ) (one other : FileFault) → HasFault file one → HasFault file other → one ≡ other
+one_fault_of_file file one other e f = same_err (file_of file) one other (fault_of_file_is_read file one e) (fault_of_file_is_read file other f)

@@ -1,0 +1,160 @@
+-- Numbers in their places.
+use Rattle.std.proofs.Common.{◌≡◌, ℕ, Bool, true, false, List, [], ◌∷◌, ◌++◌, length, map, Option, Some, None, Result, Ok, Err, refl, sym, ap, subst, ◌∙◌, inl, inr, arith}
+use Rattle.std.specs.Prelude.{ℤ, pos, negsuc, ◌≤ℤ◌, int_le, unsigned_abs, ◌&&◌, T}
+use Rattle.std.specs.Int.Signed.{le_z_yes}
+use Rattle.std.specs.Fmt.{signed_decimal}
+use Rattle.std.proofs.lemmas.Bool.{cond_both, cond-true, false≢true, and_parts, and_from}
+use Rattle.std.proofs.lemmas.Float.{T_from_true}
+use Rattle.std.proofs.lemmas.Int.{ints}
+use Rattle.pipeline_language.specs.declared.fault.FileError.{FileError}
+use Rattle.pipeline_language.specs.Form.{Slot, Number, number, lowest, highest, NamesFit, WordsFit}
+use Rattle.pipeline_language.specs.Reading.{◌>>=◌, Left, next_word, next_number, next_natural, number_at, number_of, numbers_from, with_first, all_numbers}
+use Rattle.pipeline_language.proofs.NumberLemmas.{number_of_number, number_is, fits_bounds, bounds_fit}
+use Rattle.pipeline_language.proofs.PhraseLemmas.{Anything, AtEnd, Found, NotUnknown, Enough, Spelled, Phrase, none_left}
+
+le_true : (a b : ℤ) → a ≤ℤ b → int_le a b ≡ true
+le_true a b h = by_test (int_le a b) h.le
+  where
+    by_test : (t : Bool) → T t → t ≡ true
+    by_test true h = refl
+    by_test false h = absurd h
+
+-- a number of a range
+module _ (low high : ℤ) (above : lowest ≤ℤ low) (below : high ≤ℤ highest) where
+  abbrev in_range : ℤ → List Slot
+  in_range n = Number low high n ∷ []
+
+  found_at : (word : List ℕ) (words : List (List ℕ)) (good : Bool) (o : Option ℤ) → number_of word ≡ o → Found in_range (word ∷ words) good (Ok (number_at low high (record { words = words; good = good }) o))
+  found_at word words good None is = (omega arith, (λ more n. (tt, n)), λ t. absurd (false≢true t))
+  found_at word words good (Some n) is = cond_both {A = ℤ × Left} (int_le low n && int_le n high) (n, record { words = words; good = good }) (low, record { words = words; good = false }) (λ r. Found in_range (word ∷ words) good (Ok r))
+      (λ t. let p = and_parts _ _ t in
+      (omega arith, (λ more k. (tt, k)), λ g. (g, λ more w. ((le_z_yes (T_from_true _ p.0), le_z_yes (T_from_true _ p.1), (number_is word n is).1), w))))
+      (λ t. (omega arith, (λ more k. (tt, k)), λ g. absurd (false≢true g)))
+
+  words_at : (words : List (List ℕ)) (good : Bool) (o : Option ℤ) → (number_at low high (record { words = words; good = good }) o).1.words ≡ words
+  words_at words good None = refl
+  words_at words good (Some n) = cond_both {A = ℤ × Left} (int_le low n && int_le n high) (n, record { words = words; good = good }) (low, record { words = words; good = false }) (λ r. r.1.words ≡ words) (λ t. refl) (λ t. refl)
+
+  number_sound : (words : List (List ℕ)) (good : Bool) → Found in_range words good (next_number low high (record { words = words; good = good }))
+  unfolding next_number next_word
+  number_sound [] good = inr (refl, (low, λ more. tt))
+  number_sound (word ∷ words) good = found_at word words good (number_of word) refl
+
+  number_names : (n : ℤ) (more : List Slot) → Anything more → (words : List (List ℕ)) (good : Bool) → NamesFit (in_range n ++ more) words → NotUnknown more (next_number low high (record { words = words; good = good }))
+  unfolding next_number next_word
+  number_names n more f [] good k = refl
+  number_names n more f (word ∷ words) good k = subst (NamesFit more) (sym (words_at words good (number_of word))) k.1
+
+  number_count : (n : ℤ) (more : List Slot) → Anything more → (words : List (List ℕ)) (good : Bool) → NamesFit (in_range n ++ more) words → length (in_range n ++ more) ≡ length words → Enough more (next_number low high (record { words = words; good = good }))
+  unfolding next_number next_word
+  number_count n more f [] good k len = absurd (omega (arith, len))
+  number_count n more f (word ∷ words) good k len =
+      let r = number_at low high (record { words = words; good = good }) (number_of word) in
+      let same : r.1.words ≡ words = words_at words good (number_of word) in
+      (r.0, r.1, refl, omega (arith, len, ap length same), subst (NamesFit more) (sym same) k.1)
+
+  number_spelled : (n : ℤ) (more : List Slot) → Anything more → (words : List (List ℕ)) (good : Bool) → WordsFit (in_range n ++ more) words → Spelled more n good (next_number low high (record { words = words; good = good }))
+  unfolding next_number next_word
+  number_spelled n more f [] good w = absurd w
+  number_spelled n more f (word ∷ words) good w =
+      let left : Left = record { words = words; good = good } in
+      let wide_low : lowest ≤ℤ n = omega (arith, ints, above, w.0.0) in
+      let wide_high : n ≤ℤ highest = omega (arith, ints, below, w.0.1) in
+      let read : number_of word ≡ Some n = number_of_number word n (bounds_fit n wide_low wide_high, w.0.2) in
+      let tested : (int_le low n && int_le n high) ≡ true = and_from _ _ (le_true low n w.0.0) (le_true n high w.0.1) in
+      let at : number_at low high left (number_of word) ≡ (n, left) = ap (number_at low high left) read ∙ cond-true (int_le low n && int_le n high) (n, left) (low, record { words = words; good = false }) tested in
+      (words, ap (λ r. let found : Result (ℤ × Left) FileError = Ok r in found) at, w.1)
+
+  pub number_phrase : Phrase Anything in_range (next_number low high)
+  number_phrase = record {
+    sound = number_sound;
+    knows = λ n. record { names = number_names n; count = number_count n; spelled = number_spelled n };
+  }
+
+-- a number of a range that has no negative ones
+module _ (high : ℤ) (below : high ≤ℤ highest) where
+  abbrev natural_slots : ℕ → List Slot
+  natural_slots n = Number (pos 0) high (pos n) ∷ []
+
+  any_number : Phrase Anything (λ n. Number (pos 0) high n ∷ []) (next_number (pos 0) high)
+  any_number = number_phrase (pos 0) high (le_z_yes tt) below
+
+  same_names : (m n : ℤ) (more : List Slot) (words : List (List ℕ)) → NamesFit (Number (pos 0) high m ∷ more) words → NamesFit (Number (pos 0) high n ∷ more) words
+  same_names m n more [] k = tt
+  same_names m n more (word ∷ words) k = k
+
+  as_natural : (z : ℤ) (more : List Slot) (words : List (List ℕ)) → WordsFit (Number (pos 0) high z ∷ more) words → WordsFit (natural_slots (unsigned_abs z) ++ more) words
+  as_natural z more [] w = absurd w
+  as_natural (pos n) more (word ∷ words) w = w
+  as_natural (negsuc n) more (word ∷ words) w = absurd (omega (arith, ints, w.0.0))
+
+  natural_found : (words : List (List ℕ)) (good : Bool) (r : Result (ℤ × Left) FileError) → Found (λ n. Number (pos 0) high n ∷ []) words good r → Found natural_slots words good (r >>= λ n. Ok (unsigned_abs n.0, n.1))
+  natural_found words good (Err kind) (inl e) = inl e
+  natural_found words good (Err kind) (inr e) = inr (e.0, (unsigned_abs e.1.0, λ more. same_names e.1.0 (pos (unsigned_abs e.1.0)) more words (e.1.1 more)))
+  natural_found words good (Ok r) f =
+      (f.0, (λ more k. same_names r.0 (pos (unsigned_abs r.0)) more words (f.1 more k)), λ t. let h = f.2 t in (h.0, λ more w. as_natural r.0 more words (h.1 more w)))
+
+  natural_not_unknown : (more : List Slot) (r : Result (ℤ × Left) FileError) → NotUnknown more r → NotUnknown more (r >>= λ n. let found : Result (ℕ × Left) FileError = Ok (unsigned_abs n.0, n.1) in found)
+  natural_not_unknown more (Err kind) k = k
+  natural_not_unknown more (Ok r) k = k
+
+  pub natural_phrase : Phrase Anything natural_slots (next_natural high)
+  unfolding next_natural
+  natural_phrase = record {
+    sound = λ words good. natural_found words good (next_number (pos 0) high (record { words = words; good = good })) (any_number.sound words good);
+    knows = λ n. let k = any_number.knows (pos n) in record {
+      names = λ more f words good m. natural_not_unknown more (next_number (pos 0) high (record { words = words; good = good })) (k.names more f words good m);
+      count = λ more f words good m len. let h = k.count more f words good m len in (unsigned_abs h.0, h.1, ap (λ r. r >>= λ n. Ok (unsigned_abs n.0, n.1)) h.2, h.3, h.4);
+      spelled = λ more f words good w. let h = k.spelled more f words good w in (h.0, ap (λ r. r >>= λ n. Ok (unsigned_abs n.0, n.1)) h.1, h.2);
+    };
+  }
+
+-- all the numbers that are left
+number_in_place : (word : List ℕ) (n : ℤ) → number_of word ≡ Some n → (lowest ≤ℤ n) × (n ≤ℤ highest) × (word ≡ signed_decimal n)
+number_in_place word n is = let k = number_is word n is in let b = fits_bounds n k.0 in (b.0, b.1, k.1)
+
+abbrev number_list : List ℤ → List Slot
+number_list ns = map number ns
+
+found_first : (word : List ℕ) (words : List (List ℕ)) (good : Bool) (o : Option ℤ) → number_of word ≡ o → ((g : Bool) → Found number_list words g (Ok (numbers_from words g))) → Found number_list (word ∷ words) good (Ok (with_first o good (numbers_from words)))
+found_first word words good (Some n) is found =
+    let f = found good in
+    (omega (arith, f.0), (λ more k. (tt, f.1 more k)), λ t. let h = f.2 t in (h.0, λ more w. (number_in_place word n is, h.1 more w)))
+found_first word words good None is found =
+    let f = found false in
+    (omega (arith, f.0), (λ more k. (tt, f.1 more k)), λ t. absurd (false≢true (f.2 t).0))
+
+all_found : (words : List (List ℕ)) (good : Bool) → Found number_list words good (Ok (numbers_from words good))
+all_found [] good = (omega arith, (λ more n. n), λ t. (t, λ more w. w))
+all_found (word ∷ words) good = found_first word words good (number_of word) refl (all_found words)
+
+none_first : (words : List (List ℕ)) (good : Bool) (o : Option ℤ) → ((g : Bool) → (numbers_from words g).1.words ≡ []) → (with_first o good (numbers_from words)).1.words ≡ []
+none_first words good (Some n) none = none good
+none_first words good None none = none false
+
+none_after : (words : List (List ℕ)) (good : Bool) → (numbers_from words good).1.words ≡ []
+none_after [] good = refl
+none_after (word ∷ words) good = none_first words good (number_of word) (none_after words)
+
+all_read : (ns : List ℤ) (words : List (List ℕ)) (good : Bool) → WordsFit (number_list ns ++ []) words → numbers_from words good ≡ (ns, record { words = []; good = good })
+all_read [] [] good w = refl
+all_read [] (word ∷ words) good w = absurd w
+all_read (n ∷ ns) [] good w = absurd w
+all_read (n ∷ ns) (word ∷ words) good w =
+    let read : number_of word ≡ Some n = number_of_number word n (bounds_fit n w.0.0 w.0.1, w.0.2) in
+    ap (λ o. with_first o good (numbers_from words)) read ∙ ap (λ r. let found : List ℤ × Left = (n ∷ r.0, r.1) in found) (all_read ns words good w.1)
+
+pub all_numbers_phrase : Phrase AtEnd number_list all_numbers
+unfolding all_numbers
+all_numbers_phrase = record {
+  sound = all_found;
+  knows = λ ns. record {
+    names = λ more f words good k. subst (NamesFit more) (sym (none_after words good)) (none_left more);
+    count = λ more f words good k len.
+        let r = numbers_from words good in
+        (r.0, r.1, refl, ap length (none_after words good) ∙ ap length (sym f), subst (NamesFit more) (sym (none_after words good)) (none_left more));
+    spelled = λ more f words good w.
+        let fits : WordsFit (number_list ns ++ []) words = subst (λ m. WordsFit (number_list ns ++ m) words) f w in
+        ([], ap (λ r. let found : Result (List ℤ × Left) FileError = Ok r in found) (all_read ns words good fits), subst (λ m. WordsFit m []) (sym f) tt);
+  };
+}

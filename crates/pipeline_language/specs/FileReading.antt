@@ -1,0 +1,112 @@
+-- Reading a file, line by line.
+use Rattle.std.specs.Prelude.{◌≡◌, ℕ, zero, suc, ◌+◌, List, [], ◌∷◌, ◌++◌, length, nat_lt, Result, Ok, Err, if◌then◌else◌}
+use Rattle.std.specs.Str.{is_utf8, bytes_eq}
+use Rattle.pipeline_language.specs.declared.fault.FileError.{FileError}
+use Rattle.pipeline_language.specs.declared.fault.FileError.TheVariants.{BadText, TooLarge, BadVersion, MissingTerminal, AfterTerminal}
+use Rattle.pipeline_language.specs.declared.fault.FileFault.{FileFault}
+use Rattle.pipeline_language.specs.declared.fault.ReadError.{ReadError}
+use Rattle.pipeline_language.specs.declared.fault.ReadError.TheVariants as errors
+use Rattle.pipeline_language.specs.declared.fault.LineError.{LineError}
+use Rattle.pipeline_language.specs.declared.fault.LineError.TheVariants as line_errors
+use Rattle.pipeline_language.specs.Content.{Body}
+use Rattle.pipeline_language.specs.Words.{lines_of}
+use Rattle.pipeline_language.specs.Syntax.{Origin, origins, text_count, Stage, BodyLine, StageLine, TerminalLine, Coming, after_stage, bodies, Program}
+use Rattle.pipeline_language.specs.Language.{most_bytes, version, from_origin}
+use Rattle.pipeline_language.specs.Reading.{◌>>=◌, Left, line_of}
+use Rattle.pipeline_language.specs.SyntaxReading.{body_of, origin_words}
+
+unfoldable pub version_of : List ℕ → Result (Unit {0}) FileError
+version_of line = if is_utf8 line then (if bytes_eq line version then Ok tt else Err BadVersion) else Err BadText
+
+-- what a line gives, with its number at a fault
+abbrev pub at_line : {X : Type 0} → ℕ → Result X FileError → Result X FileFault
+at_line n (Ok x) = Ok x
+at_line n (Err kind) = Err (record { line = n; kind = kind })
+
+-- the fault of a line after the terminal line
+unfoldable pub after_end : List ℕ → FileError
+after_end line = if is_utf8 line then AfterTerminal else BadText
+
+-- the lines after the terminal line, of which the first has number n
+unfoldable pub no_more : ℕ → List (List ℕ) → Result (Unit {0}) FileFault
+no_more n [] = Ok tt
+no_more n (line ∷ lines) = Err (record { line = n; kind = after_end line })
+
+abbrev pub with_stages : List Stage → Result Body FileFault → Result Body FileFault
+with_stages stages (Ok body) = Ok (stages ++ body.0, body.1)
+with_stages stages (Err fault) = Err fault
+
+abbrev pub after_line : BodyLine → Result (Unit {0}) FileFault → (Stage → Result Body FileFault) → Result Body FileFault
+after_line (StageLine stage) ending rest = with_stages (stage ∷ []) (rest stage)
+after_line (TerminalLine terminal) ending rest = ending >>= λ _. let body : Body = ([], terminal) in Ok body
+
+-- The lines of a body, to which something comes, and of which the first has number n.
+abbrev pub body_from : Coming → ℕ → List (List ℕ) → Result Body FileFault
+body_from coming n [] = Err (record { line = n; kind = MissingTerminal })
+body_from coming n (line ∷ lines) = at_line n (line_of (bodies coming) body_of line) >>= λ b. after_line b (no_more (n + 1) lines) (λ stage. body_from (after_stage coming stage) (n + 1) lines)
+
+-- the first of them alone, behind which nothing may stand where it is the terminal
+abbrev pub ending_with : BodyLine → Result (Unit {0}) FileFault → Result BodyLine FileFault
+ending_with (StageLine stage) ending = Ok (StageLine stage)
+ending_with (TerminalLine terminal) ending = ending >>= λ _. Ok (TerminalLine terminal)
+
+unfoldable pub first_of : Coming → ℕ → List (List ℕ) → Result BodyLine FileFault
+first_of coming n [] = Err (record { line = n; kind = MissingTerminal })
+first_of coming n (line ∷ lines) = at_line n (line_of (bodies coming) body_of line) >>= λ b. ending_with b (no_more (n + 1) lines)
+
+-- so many texts, of which the first has number n, and what is left of the lines
+abbrev pub Texts : Type 0
+Texts = List (List ℕ) × List (List ℕ)
+
+abbrev pub with_texts : List (List ℕ) → Result Texts FileFault → Result Texts FileFault
+with_texts texts (Ok more) = Ok (texts ++ more.0, more.1)
+with_texts texts (Err fault) = Err fault
+
+abbrev pub texts_from : ℕ → ℕ → List (List ℕ) → Result Texts FileFault
+texts_from zero n lines = Ok ([], lines)
+texts_from (suc count) n [] = Err (record { line = n; kind = MissingTerminal })
+texts_from (suc count) n (line ∷ lines) = if is_utf8 line then with_texts (line ∷ []) (texts_from count (n + 1) lines) else Err (record { line = n; kind = BadText })
+
+-- the first of them
+unfoldable pub first_text : ℕ → List (List ℕ) → Result (List ℕ) FileFault
+first_text n [] = Err (record { line = n; kind = MissingTerminal })
+first_text n (line ∷ lines) = if is_utf8 line then Ok line else Err (record { line = n; kind = BadText })
+
+-- the lines from the texts on, from the source on, and all of them
+abbrev pub from_texts : Origin → List (List ℕ) → Result Program FileFault
+from_texts origin lines = texts_from (text_count origin) 3 lines >>= λ texts. body_from (from_origin origin) (3 + length texts.0) texts.1 >>= λ body. Ok (record { origin = origin; texts = texts.0; stages = body.0; terminal = body.1 })
+
+abbrev pub from_source : List (List ℕ) → Result Program FileFault
+from_source [] = Err (record { line = 2; kind = MissingTerminal })
+from_source (line ∷ lines) = at_line 2 (line_of origins origin_words line) >>= λ origin. from_texts origin lines
+
+unfoldable pub program_from : List (List ℕ) → Result Program FileFault
+program_from [] = Err (record { line = 1; kind = BadVersion })
+program_from (line ∷ lines) = at_line 1 (version_of line) >>= λ _. from_source lines
+
+-- the whole file
+unfoldable pub file_of : List ℕ → Result Program FileFault
+file_of file = if nat_lt most_bytes (length file) then Err (record { line = 0; kind = TooLarge }) else program_from (lines_of file)
+
+-- What a function returned is, by its content, what reading gives, unless memory ran out.
+abbrev pub Reads : {X Y : Type 0} → (X → Y) → Result X ReadError → Result Y FileFault → Type 0
+Reads content (Ok x) read = read ≡ Ok (content x)
+Reads content (Err errors.NoMemory) read = Unit {0}
+Reads content (Err (errors.Fault fault)) read = read ≡ Err fault
+
+-- the same of one line
+abbrev pub LineReads : {X Y : Type 0} → (X → Y) → Result X LineError → Result Y FileError → Type 0
+LineReads content (Ok x) read = read ≡ Ok (content x)
+LineReads content (Err line_errors.NoMemory) read = Unit {0}
+LineReads content (Err (line_errors.Fault kind)) read = read ≡ Err kind
+
+-- the same of the words of a line, with what is left of them
+abbrev pub LineGets : {X Y : Type 0} → (X → Y) → Result (Y × Left) FileError → Result X LineError → Left → Type 0
+LineGets content read (Ok x) left = read ≡ Ok (content x, left)
+LineGets content read (Err line_errors.NoMemory) left = Unit {0}
+LineGets content read (Err (line_errors.Fault kind)) left = read ≡ Err kind
+
+-- a fact on the fault, where the error is one
+abbrev pub IfFault : (FileFault → Type 0) → ReadError → Type 0
+IfFault P (errors.Fault fault) = P fault
+IfFault P errors.NoMemory = Unit {0}

@@ -1,0 +1,12 @@
+pub mod Content
+pub mod Faults
+pub mod FileReading
+pub mod Form
+pub mod Kinds
+pub mod Language
+pub mod LineContent
+pub mod Reading
+pub mod Steps
+pub mod Syntax
+pub mod SyntaxReading
+pub mod Words

@@ -1,0 +1,325 @@
+-- What may stand in a file, each thing with its words, and the items that it takes.
+use Rattle.std.specs.Prelude.{ℕ, ◌+◌, ◌+ℤ◌, ◌-ℤ◌, ℤ, pos, Bool, true, false, ◌&&◌, nat_le, nat_lt, List, [], ◌∷◌, ◌++◌, map, codes}
+use Rattle.pipeline_language.specs.declared.fault.FileError.TheVariants.{RangeTooLong, TooManyStages}
+use Rattle.pipeline_language.specs.Steps.{steps_up}
+use Rattle.pipeline_language.specs.Form.{Slot, Name, EitherName, Number, AnyWord, number, natural, divisor, Forms}
+
+-- A number stands for itself, a text for its bytes.
+pub data Function : Type 0 where
+  Add : ℤ → Function
+  Mul : ℤ → Function
+  Negate : Function
+  Mod : ℤ → Function
+  Length : Function
+  Itself : Function
+
+pub data Condition : Type 0 where
+  Less : ℤ → Condition
+  Greater : ℤ → Condition
+  Equals : ℤ → Condition
+  Divisible : ℤ → Condition
+  Empty : Condition
+  Starts : List ℕ → Condition
+  Longer : ℕ → Condition
+
+pub data Summary : Type 0 where
+  CountItems : Summary
+  SumItems : Summary
+  Greatest : Summary
+  Least : Summary
+  FirstItem : Summary
+  ItemList : Summary
+  Joined : List ℕ → Summary
+
+pub data Merge : Type 0 where
+  KeepFirst : Merge
+  KeepLast : Merge
+  AddUp : Merge
+  KeepGreatest : Merge
+  KeepLeast : Merge
+
+pub data Expansion : Type 0 where
+  Copies : ℕ → Expansion
+  Pieces : Expansion
+
+pub data Stage : Type 0 where
+  MapBy : Function → Stage
+  FilterBy : Condition → Stage
+  ExpandBy : Expansion → Stage
+  Distinct : Stage
+  Limit : ℕ → Stage
+  Skip : ℕ → Stage
+  TakeWhile : Condition → Stage
+  DropWhile : Condition → Stage
+
+pub data Joint : Type 0 where
+  Plain : List ℕ → Joint
+  Within : List ℕ → List ℕ → List ℕ → Joint
+
+pub data Terminal : Type 0 where
+  Sum : Terminal
+  Product : Terminal
+  Max : Terminal
+  Min : Terminal
+  Count : Terminal
+  FindFirst : Terminal
+  ToList : Terminal
+  AllMatch : Condition → Terminal
+  AnyMatch : Condition → Terminal
+  NoneMatch : Condition → Terminal
+  Joining : Joint → Terminal
+  GroupBy : Function → Summary → Terminal
+  Partition : Condition → Summary → Terminal
+  ToMap : Function → Function → Merge → Terminal
+  Teeing : Summary → Summary → Terminal
+
+pub data Origin : Type 0 where
+  Range : ℤ → ℤ → Origin
+  Closed : ℤ → ℤ → Origin
+  Numbers : List ℤ → Origin
+  Lines : ℕ → Origin
+
+-- MAP
+abbrev pub function_slots : Function → List Slot
+function_slots (Add n) = Name (codes "add") ∷ number n ∷ []
+function_slots (Mul n) = Name (codes "mul") ∷ number n ∷ []
+function_slots Negate = Name (codes "negate") ∷ []
+function_slots (Mod n) = Name (codes "mod") ∷ divisor n ∷ []
+function_slots Length = Name (codes "length") ∷ []
+function_slots Itself = Name (codes "self") ∷ []
+
+-- TEST
+abbrev pub condition_slots : Condition → List Slot
+condition_slots (Less n) = Name (codes "less") ∷ number n ∷ []
+condition_slots (Greater n) = Name (codes "greater") ∷ number n ∷ []
+condition_slots (Equals n) = Name (codes "equals") ∷ number n ∷ []
+condition_slots (Divisible n) = Name (codes "divisible") ∷ divisor n ∷ []
+condition_slots Empty = Name (codes "empty") ∷ []
+condition_slots (Starts front) = Name (codes "starts") ∷ AnyWord front ∷ []
+condition_slots (Longer n) = Name (codes "longer") ∷ natural n ∷ []
+
+-- COLL
+abbrev pub summary_slots : Summary → List Slot
+summary_slots CountItems = EitherName (codes "count") (codes "counting") ∷ []
+summary_slots SumItems = Name (codes "sum") ∷ []
+summary_slots Greatest = Name (codes "max") ∷ []
+summary_slots Least = Name (codes "min") ∷ []
+summary_slots FirstItem = Name (codes "first") ∷ []
+summary_slots ItemList = Name (codes "tolist") ∷ []
+summary_slots (Joined between) = Name (codes "joining") ∷ AnyWord between ∷ []
+
+-- MERGE
+abbrev pub merge_slots : Merge → List Slot
+merge_slots KeepFirst = Name (codes "first") ∷ []
+merge_slots KeepLast = Name (codes "last") ∷ []
+merge_slots AddUp = Name (codes "sum") ∷ []
+merge_slots KeepGreatest = Name (codes "max") ∷ []
+merge_slots KeepLeast = Name (codes "min") ∷ []
+
+-- what `flatmap` puts in an item's place
+abbrev pub expansion_slots : Expansion → List Slot
+expansion_slots (Copies n) = Name (codes "repeat") ∷ Number (pos 0) (pos 1000) (pos n) ∷ []
+expansion_slots Pieces = Name (codes "words") ∷ []
+
+abbrev pub stage_slots : Stage → List Slot
+stage_slots (MapBy f) = Name (codes "map") ∷ function_slots f
+stage_slots (FilterBy p) = Name (codes "filter") ∷ condition_slots p
+stage_slots (ExpandBy expansion) = Name (codes "flatmap") ∷ expansion_slots expansion
+stage_slots Distinct = Name (codes "distinct") ∷ []
+stage_slots (Limit n) = Name (codes "limit") ∷ natural n ∷ []
+stage_slots (Skip n) = Name (codes "skip") ∷ natural n ∷ []
+stage_slots (TakeWhile p) = Name (codes "takewhile") ∷ condition_slots p
+stage_slots (DropWhile p) = Name (codes "dropwhile") ∷ condition_slots p
+
+-- what follows the name `joining` of a terminal: the text between, or also a front and a back
+abbrev pub joint_slots : Joint → List Slot
+joint_slots (Plain between) = AnyWord between ∷ []
+joint_slots (Within between front back) = AnyWord between ∷ AnyWord front ∷ AnyWord back ∷ []
+
+abbrev pub terminal_slots : Terminal → List Slot
+terminal_slots Sum = Name (codes "sum") ∷ []
+terminal_slots Product = Name (codes "product") ∷ []
+terminal_slots Max = Name (codes "max") ∷ []
+terminal_slots Min = Name (codes "min") ∷ []
+terminal_slots Count = Name (codes "count") ∷ []
+terminal_slots FindFirst = Name (codes "findfirst") ∷ []
+terminal_slots ToList = Name (codes "tolist") ∷ []
+terminal_slots (AllMatch p) = Name (codes "allmatch") ∷ condition_slots p
+terminal_slots (AnyMatch p) = Name (codes "anymatch") ∷ condition_slots p
+terminal_slots (NoneMatch p) = Name (codes "nonematch") ∷ condition_slots p
+terminal_slots (Joining joint) = Name (codes "joining") ∷ joint_slots joint
+terminal_slots (GroupBy f summary) = Name (codes "groupby") ∷ function_slots f ++ summary_slots summary
+terminal_slots (Partition p summary) = Name (codes "partition") ∷ condition_slots p ++ summary_slots summary
+terminal_slots (ToMap key value merge) = Name (codes "tomap") ∷ function_slots key ++ (function_slots value ++ merge_slots merge)
+terminal_slots (Teeing one other) = Name (codes "teeing") ∷ summary_slots one ++ summary_slots other
+
+abbrev pub origin_slots : Origin → List Slot
+origin_slots (Range a b) = Name (codes "range") ∷ number a ∷ number b ∷ []
+origin_slots (Closed a b) = Name (codes "closed") ∷ number a ∷ number b ∷ []
+origin_slots (Numbers ns) = Name (codes "numbers") ∷ map number ns
+origin_slots (Lines n) = Name (codes "lines") ∷ Number (pos 0) (pos 1000000) (pos n) ∷ []
+
+-- the most items of a range
+abbrev pub most_items : ℕ
+most_items = 4611686018427387904
+
+-- a range has no more items than that
+abbrev pub is_short : Origin → Bool
+is_short (Range a b) = nat_le (steps_up (b -ℤ a)) most_items
+is_short (Closed a b) = nat_le (steps_up ((b +ℤ pos 1) -ℤ a)) most_items
+is_short (Numbers ns) = true
+is_short (Lines n) = true
+
+abbrev pub origins : Forms Origin
+origins = record { slots = origin_slots; takes_kind = λ _. true; in_limits = is_short; limit_fault = RangeTooLong }
+
+-- Kinds of items.
+pub data Kind : Type 0 where
+  NumberKind : Kind
+  TextKind : Kind
+
+abbrev pub is_number : Kind → Bool
+is_number NumberKind = true
+is_number TextKind = false
+
+abbrev pub is_text : Kind → Bool
+is_text NumberKind = false
+is_text TextKind = true
+
+-- the kind of a source's items, and how many lines of text follow it
+abbrev pub origin_kind : Origin → Kind
+origin_kind (Range a b) = NumberKind
+origin_kind (Closed a b) = NumberKind
+origin_kind (Numbers ns) = NumberKind
+origin_kind (Lines n) = TextKind
+
+abbrev pub text_count : Origin → ℕ
+text_count (Range a b) = 0
+text_count (Closed a b) = 0
+text_count (Numbers ns) = 0
+text_count (Lines n) = n
+
+-- The function takes items of the kind.
+abbrev pub function_takes : Kind → Function → Bool
+function_takes kind (Add n) = is_number kind
+function_takes kind (Mul n) = is_number kind
+function_takes kind Negate = is_number kind
+function_takes kind (Mod n) = is_number kind
+function_takes kind Length = is_text kind
+function_takes kind Itself = true
+
+-- the kind of its values
+abbrev pub value_kind : Kind → Function → Kind
+value_kind kind (Add n) = NumberKind
+value_kind kind (Mul n) = NumberKind
+value_kind kind Negate = NumberKind
+value_kind kind (Mod n) = NumberKind
+value_kind kind Length = NumberKind
+value_kind kind Itself = kind
+
+abbrev pub condition_takes : Kind → Condition → Bool
+condition_takes kind (Less n) = is_number kind
+condition_takes kind (Greater n) = is_number kind
+condition_takes kind (Equals n) = is_number kind
+condition_takes kind (Divisible n) = is_number kind
+condition_takes kind Empty = is_text kind
+condition_takes kind (Starts front) = is_text kind
+condition_takes kind (Longer n) = is_text kind
+
+abbrev pub summary_takes : Kind → Summary → Bool
+summary_takes kind CountItems = true
+summary_takes kind SumItems = is_number kind
+summary_takes kind Greatest = is_number kind
+summary_takes kind Least = is_number kind
+summary_takes kind FirstItem = true
+summary_takes kind ItemList = true
+summary_takes kind (Joined between) = is_text kind
+
+abbrev pub merge_takes : Kind → Merge → Bool
+merge_takes kind KeepFirst = true
+merge_takes kind KeepLast = true
+merge_takes kind AddUp = is_number kind
+merge_takes kind KeepGreatest = is_number kind
+merge_takes kind KeepLeast = is_number kind
+
+abbrev pub expansion_takes : Kind → Expansion → Bool
+expansion_takes kind (Copies n) = true
+expansion_takes kind Pieces = is_text kind
+
+abbrev pub stage_takes : Kind → Stage → Bool
+stage_takes kind (MapBy f) = function_takes kind f
+stage_takes kind (FilterBy p) = condition_takes kind p
+stage_takes kind (ExpandBy expansion) = expansion_takes kind expansion
+stage_takes kind Distinct = true
+stage_takes kind (Limit n) = true
+stage_takes kind (Skip n) = true
+stage_takes kind (TakeWhile p) = condition_takes kind p
+stage_takes kind (DropWhile p) = condition_takes kind p
+
+-- the kind of the items after a stage
+abbrev pub kind_after : Kind → Stage → Kind
+kind_after kind (MapBy f) = value_kind kind f
+kind_after kind (FilterBy p) = kind
+kind_after kind (ExpandBy expansion) = kind
+kind_after kind Distinct = kind
+kind_after kind (Limit n) = kind
+kind_after kind (Skip n) = kind
+kind_after kind (TakeWhile p) = kind
+kind_after kind (DropWhile p) = kind
+
+abbrev pub terminal_takes : Kind → Terminal → Bool
+terminal_takes kind Sum = is_number kind
+terminal_takes kind Product = is_number kind
+terminal_takes kind Max = is_number kind
+terminal_takes kind Min = is_number kind
+terminal_takes kind Count = true
+terminal_takes kind FindFirst = true
+terminal_takes kind ToList = true
+terminal_takes kind (AllMatch p) = condition_takes kind p
+terminal_takes kind (AnyMatch p) = condition_takes kind p
+terminal_takes kind (NoneMatch p) = condition_takes kind p
+terminal_takes kind (Joining joint) = is_text kind
+terminal_takes kind (GroupBy f summary) = function_takes kind f && summary_takes kind summary
+terminal_takes kind (Partition p summary) = condition_takes kind p && summary_takes kind summary
+terminal_takes kind (ToMap key value merge) = function_takes kind key && (function_takes kind value && merge_takes (value_kind kind value) merge)
+terminal_takes kind (Teeing one other) = summary_takes kind one && summary_takes kind other
+
+-- A line of the body is a stage or the terminal: the names of both stand at its first place.
+pub data BodyLine : Type 0 where
+  StageLine : Stage → BodyLine
+  TerminalLine : Terminal → BodyLine
+
+abbrev pub body_slots : BodyLine → List Slot
+body_slots (StageLine stage) = stage_slots stage
+body_slots (TerminalLine terminal) = terminal_slots terminal
+
+abbrev pub body_takes : Kind → BodyLine → Bool
+body_takes kind (StageLine stage) = stage_takes kind stage
+body_takes kind (TerminalLine terminal) = terminal_takes kind terminal
+
+abbrev pub most_stages : ℕ
+most_stages = 32
+
+-- a stage has its place among the first 32
+abbrev pub has_room : ℕ → BodyLine → Bool
+has_room before (StageLine stage) = nat_lt before most_stages
+has_room before (TerminalLine terminal) = true
+
+-- What comes to a line: items of a kind, from so many stages.
+pub record Coming : Type 0 where
+  pub kind : Kind
+  pub stages : ℕ
+
+-- what comes to the line after a stage
+abbrev pub after_stage : Coming → Stage → Coming
+after_stage coming stage = record { kind = kind_after coming.kind stage; stages = coming.stages + 1 }
+
+abbrev pub bodies : Coming → Forms BodyLine
+bodies coming = record { slots = body_slots; takes_kind = body_takes coming.kind; in_limits = has_room coming.stages; limit_fault = TooManyStages }
+
+-- A pipeline by its content: a list has no place and no room.
+pub record Program : Type 0 where
+  pub origin : Origin
+  pub texts : List (List ℕ)
+  pub stages : List Stage
+  pub terminal : Terminal

@@ -1,0 +1,129 @@
+-- Readings of the things of a line: a name, and what follows it by that name.
+use Rattle.std.specs.Prelude.{ℕ, ℤ, pos, List, codes, Result, Ok, if◌then◌else◌}
+use Rattle.pipeline_language.specs.declared.fault.FileError.{FileError}
+use Rattle.pipeline_language.specs.Form.{lowest, highest}
+use Rattle.pipeline_language.specs.Syntax.{Function, Add, Mul, Negate, Mod, Length, Itself, Condition, Less, Greater, Equals, Divisible, Empty, Starts, Longer, Summary, CountItems, SumItems, Greatest, Least, FirstItem, ItemList, Joined, Merge, KeepFirst, KeepLast, AddUp, KeepGreatest, KeepLeast, Expansion, Copies, Pieces, MapBy, FilterBy, ExpandBy, Distinct, Limit, Skip, TakeWhile, DropWhile, Joint, Plain, Within, Sum, Product, Max, Min, Count, FindFirst, ToList, AllMatch, AnyMatch, NoneMatch, Joining, GroupBy, Partition, ToMap, Teeing, Origin, Range, Closed, Numbers, Lines, BodyLine, StageLine, TerminalLine}
+use Rattle.pipeline_language.specs.Reading.{◌>>=◌, Left, is_done, Reader, ByName, named, unknown, by_name, nothing, both, next_word, next_number, next_natural, all_numbers}
+
+abbrev pub any_number : Reader ℤ
+any_number = next_number lowest highest
+
+abbrev pub any_divisor : Reader ℤ
+any_divisor = next_number (pos 1) highest
+
+abbrev pub any_natural : Reader ℕ
+any_natural = next_natural highest
+
+-- MAP
+abbrev pub function_names : ByName Function
+function_names = named (codes "add") Add any_number
+    (named (codes "mul") Mul any_number
+    (named (codes "negate") (λ _. Negate) nothing
+    (named (codes "mod") Mod any_divisor
+    (named (codes "length") (λ _. Length) nothing
+    (named (codes "self") (λ _. Itself) nothing
+    unknown)))))
+
+unfoldable pub function_of : Reader Function
+function_of = by_name function_names
+
+-- TEST
+abbrev pub condition_names : ByName Condition
+condition_names = named (codes "less") Less any_number
+    (named (codes "greater") Greater any_number
+    (named (codes "equals") Equals any_number
+    (named (codes "divisible") Divisible any_divisor
+    (named (codes "empty") (λ _. Empty) nothing
+    (named (codes "starts") Starts next_word
+    (named (codes "longer") Longer any_natural
+    unknown))))))
+
+unfoldable pub condition_of : Reader Condition
+condition_of = by_name condition_names
+
+-- COLL
+abbrev pub summary_names : ByName Summary
+summary_names = named (codes "count") (λ _. CountItems) nothing
+    (named (codes "counting") (λ _. CountItems) nothing
+    (named (codes "sum") (λ _. SumItems) nothing
+    (named (codes "max") (λ _. Greatest) nothing
+    (named (codes "min") (λ _. Least) nothing
+    (named (codes "first") (λ _. FirstItem) nothing
+    (named (codes "tolist") (λ _. ItemList) nothing
+    (named (codes "joining") Joined next_word
+    unknown)))))))
+
+unfoldable pub summary_of : Reader Summary
+summary_of = by_name summary_names
+
+-- MERGE
+abbrev pub merge_names : ByName Merge
+merge_names = named (codes "first") (λ _. KeepFirst) nothing
+    (named (codes "last") (λ _. KeepLast) nothing
+    (named (codes "sum") (λ _. AddUp) nothing
+    (named (codes "max") (λ _. KeepGreatest) nothing
+    (named (codes "min") (λ _. KeepLeast) nothing
+    unknown))))
+
+unfoldable pub merge_of : Reader Merge
+merge_of = by_name merge_names
+
+-- what `flatmap` puts in an item's place
+abbrev pub expansion_names : ByName Expansion
+expansion_names = named (codes "repeat") Copies (next_natural (pos 1000))
+    (named (codes "words") (λ _. Pieces) nothing
+    unknown)
+
+unfoldable pub expansion_of : Reader Expansion
+expansion_of = by_name expansion_names
+
+-- what follows the name `joining`
+abbrev pub joint_after : List ℕ → Left → Result (Joint × Left) FileError
+joint_after between left = if is_done left.words then (let found : Joint × Left = (Plain between, left) in Ok found)
+    else (next_word left >>= λ front. next_word front.1 >>= λ back. let found : Joint × Left = (Within between front.0 back.0, back.1) in Ok found)
+
+unfoldable pub joint_of : Reader Joint
+joint_of left = next_word left >>= λ between. joint_after between.0 between.1
+
+-- the names of terminals, and those of stages before them
+unfoldable pub terminal_names : ByName BodyLine
+terminal_names = named (codes "sum") (λ _. TerminalLine Sum) nothing
+    (named (codes "product") (λ _. TerminalLine Product) nothing
+    (named (codes "max") (λ _. TerminalLine Max) nothing
+    (named (codes "min") (λ _. TerminalLine Min) nothing
+    (named (codes "count") (λ _. TerminalLine Count) nothing
+    (named (codes "findfirst") (λ _. TerminalLine FindFirst) nothing
+    (named (codes "tolist") (λ _. TerminalLine ToList) nothing
+    (named (codes "allmatch") (λ p. TerminalLine (AllMatch p)) condition_of
+    (named (codes "anymatch") (λ p. TerminalLine (AnyMatch p)) condition_of
+    (named (codes "nonematch") (λ p. TerminalLine (NoneMatch p)) condition_of
+    (named (codes "joining") (λ j. TerminalLine (Joining j)) joint_of
+    (named (codes "groupby") (λ p. TerminalLine (GroupBy p.0 p.1)) (both function_of summary_of)
+    (named (codes "partition") (λ p. TerminalLine (Partition p.0 p.1)) (both condition_of summary_of)
+    (named (codes "tomap") (λ p. TerminalLine (ToMap p.0 p.1.0 p.1.1)) (both function_of (both function_of merge_of))
+    (named (codes "teeing") (λ p. TerminalLine (Teeing p.0 p.1)) (both summary_of summary_of)
+    unknown))))))))))))))
+
+abbrev pub body_names : ByName BodyLine
+body_names = named (codes "map") (λ f. StageLine (MapBy f)) function_of
+    (named (codes "filter") (λ p. StageLine (FilterBy p)) condition_of
+    (named (codes "flatmap") (λ e. StageLine (ExpandBy e)) expansion_of
+    (named (codes "distinct") (λ _. StageLine Distinct) nothing
+    (named (codes "limit") (λ n. StageLine (Limit n)) any_natural
+    (named (codes "skip") (λ n. StageLine (Skip n)) any_natural
+    (named (codes "takewhile") (λ p. StageLine (TakeWhile p)) condition_of
+    (named (codes "dropwhile") (λ p. StageLine (DropWhile p)) condition_of
+    terminal_names)))))))
+
+unfoldable pub body_of : Reader BodyLine
+body_of = by_name body_names
+
+abbrev pub origin_names : ByName Origin
+origin_names = named (codes "range") (λ p. Range p.0 p.1) (both any_number any_number)
+    (named (codes "closed") (λ p. Closed p.0 p.1) (both any_number any_number)
+    (named (codes "numbers") Numbers all_numbers
+    (named (codes "lines") Lines (next_natural (pos 1000000))
+    unknown)))
+
+unfoldable pub origin_words : Reader Origin
+origin_words = by_name origin_names

@@ -1,0 +1,22 @@
+//! The language of pipeline files: what a file means, and its reader.
+#![tactic(auto)]
+
+mod fault;
+mod kinds;
+mod lines;
+mod number;
+mod pipeline;
+mod reading;
+mod syntax;
+mod words;
+
+pub use fault::{FileError, FileFault, ReadError};
+pub use pipeline::{
+    NumberBody, NumberCollector, NumberFunction, NumberMerge, NumberSource, NumberStage,
+    NumberTerminal, NumberTest, Pipeline, TextBody, TextCollector, TextEnd, TextFunction,
+    TextMerge, TextStage, TextTerminal, TextTest, TextValue,
+};
+pub use reading::{MOST_BYTES, MOST_STAGES, one_reading, read_pipeline};
+
+#[cfg(test)]
+mod tests;
