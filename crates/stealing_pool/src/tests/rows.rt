@@ -326,7 +326,7 @@ fn the_first_of_a_million_is_found(rt: HostRuntime) -> Result<(), Fail> {
 }
 
 #[test]
-fn a_refusal_right_of_what_is_wanted_is_not_met_by_one_worker(rt: HostRuntime) -> Result<(), Fail> {
+fn one_worker_meets_no_refusal_right_of_what_is_wanted(rt: HostRuntime) -> Result<(), Fail> {
     let alloc = rt.alloc();
     let plan = plan_of(alloc, 10, 1, 1)?;
     let stage = Map::new(RefusesAt { number: 7 });
@@ -352,7 +352,15 @@ fn a_refusal_right_of_what_is_wanted_is_not_met_by_one_worker(rt: HostRuntime) -
         &NoGate,
     );
     assert!(rt; matches!(whole, Err(NoMemory)));
-    let by_seven = run_leaves(
+    Ok(())
+}
+
+#[test]
+fn seven_workers_may_meet_a_refusal(rt: HostRuntime) -> Result<(), Fail> {
+    let alloc = rt.alloc();
+    let plan = plan_of(alloc, 10, 7, 1)?;
+    let stage = Map::new(RefusesAt { number: 7 });
+    let found = run_leaves(
         &rt,
         alloc,
         &plan,
@@ -363,7 +371,7 @@ fn a_refusal_right_of_what_is_wanted_is_not_met_by_one_worker(rt: HostRuntime) -
         &NoGate,
     );
     assert!(rt;
-        match by_seven {
+        match found {
             Ok(run) => run.acc == Some(0),
             Err(NoMemory) => true,
         }
