@@ -8,7 +8,8 @@ use Rattle.leaf_board.specs.Statuses.{Status, Unknown, Published, Skipped}
 use Rattle.leaf_board.specs.Knowledge.{Knowledge, blank, status_of, WasGiven, Entry, entry}
 use Rattle.leaf_board.specs.declared.view.View.{View}
 
--- Word 0 is the cut, then each share has a ticket, then each leaf has a word: 0, or 1 + its count
+-- Word 0 is the cut. Each share has a ticket, 8 words after what comes before it, so that no two lie on one cache line; the words between
+-- stay 0. Then each leaf has a word: 0, or 1 + its count
 abbrev pub ticket_place : ℕ → ℕ
 ticket_place share = 8 * (1 + share)
 

@@ -323,9 +323,9 @@ impl<C: Case> Board<C> {
     }
 
     /// Spends the pass of a leaf that was refused memory, which stays without a count. It makes no step.
-    pub fn give_up(&self, _seat: &mut BoardSeat<C>, pass: LeafPass)
-        requires { (_seat.old.board ≡ self.now) × IsHeld _seat.old.knows pass }
-        ensures { _seat.new ≡ _seat.old }
+    pub fn give_up(&self, seat: &mut BoardSeat<C>, pass: LeafPass)
+        requires { (seat.old.board ≡ self.now) × IsHeld seat.old.knows pass }
+        ensures { seat.new ≡ seat.old }
     {
         let LeafPass { leaf: _given_up } = pass;
     }

@@ -15,6 +15,6 @@ loop-hand-preserved-in-Some-hand g c =
     let fewer = c.loop-hand.invariant.hands.0 in
     let many = ap length c.in-Some.ensures.items ∙ length_snoc c.pop.new.self.items _ in
     record {
-      seats = seats_set c.args.board.now g.C.Case.case.seats c.loop-hand.seats.items c.len-at.result c.index_mut.result.now c.give_up.new._seat c.loop-hand.invariant.seats (omega arith) c.index_mut.ensures.value (ap (λ (h : Holder). h.board) c.give_up.ensures, ap (λ (h : Holder). h.number) c.give_up.ensures);
-      hands = hold_past g.C.Case.case.leaves c.loop-hand.seats.items c.pop.new.self.items c.len-at.result c.give_up.new._seat (omega arith) rest;
+      seats = seats_set c.args.board.now g.C.Case.case.seats c.loop-hand.seats.items c.len-at.result c.index_mut.result.now c.give_up.new.seat c.loop-hand.invariant.seats (omega arith) c.index_mut.ensures.value (ap (λ (h : Holder). h.board) c.give_up.ensures, ap (λ (h : Holder). h.number) c.give_up.ensures);
+      hands = hold_past g.C.Case.case.leaves c.loop-hand.seats.items c.pop.new.self.items c.len-at.result c.give_up.new.seat (omega arith) rest;
     }

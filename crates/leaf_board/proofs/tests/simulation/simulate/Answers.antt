@@ -1,4 +1,4 @@
-use Rattle.std.proofs.Common.{ℕ, ◌≡◌, Option, arith, sym, ap, subst, length-set, ◌∙◌}
+use Rattle.std.proofs.Common.{◌≡◌, arith, sym, ap, subst, length-set, ◌∙◌}
 use Rattle.std.specs.Prelude.{slice_index_or}
 use Rattle.leaf_board.specs.Case.{BoardCase}
 use Rattle.leaf_board.specs.Seats.{Holder}
