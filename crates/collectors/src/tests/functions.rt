@@ -1,12 +1,11 @@
 //! The functions of the rows, each beside what it computes.
 ghost use Rattle.std.specs.Prelude.{◌≡◌, ℤ, pos, ◌<ℤ◌, ◌*ℤ◌, Bool, not, length, int_lt};
 ghost use Rattle.std.specs.Int.{int_rem_euclid, w64};
-ghost use Rattle.collectors.specs.Sums.{wrapped-value};
-ghost use Rattle.stages.specs.Wrapping.{wrapped};
+ghost use Rattle.stages.specs.Wrapping.{wrapped, wrapped-value};
 
 use crate::Pairing;
 use spliterator::NoMemory;
-use stages::{Mapping, Operator, Test};
+use stages::{Mapping, Test};
 
 /// The item itself.
 #[derive(Drop)]
@@ -162,53 +161,5 @@ impl Pairing<i64, i64> for Pair {
 
     fn pair(&self, first: i64, second: i64) -> Result<(i64, i64), NoMemory> {
         Ok((first, second))
-    }
-}
-
-/// The later of two.
-#[derive(Drop)]
-pub struct LastOf;
-
-impl Operator<i64> for LastOf {
-    ghost join = { λ _ a b. b };
-
-    ghost joins_are_values = { λ _ a b _ value. value };
-
-    fn join(&self, _a: &i64, b: &i64) -> Result<i64, NoMemory> {
-        Ok(*b)
-    }
-}
-
-impl<'a> Operator<&'a str> for LastOf {
-    ghost join = { λ _ a b. b };
-
-    ghost joins_are_values = { λ _ a b _ value. value };
-
-    fn join(&self, _a: &&'a str, b: &&'a str) -> Result<&'a str, NoMemory> {
-        Ok(*b)
-    }
-}
-
-impl Operator<String> for LastOf {
-    ghost join = { λ _ a b. b };
-
-    ghost joins_are_values = { λ _ a b _ value. value };
-
-    fn join(&self, _a: &String, b: &String) -> Result<String, NoMemory> {
-        Ok(b.clone()?)
-    }
-}
-
-/// The earlier of two.
-#[derive(Drop)]
-pub struct FirstOf;
-
-impl Operator<i64> for FirstOf {
-    ghost join = { λ _ a b. a };
-
-    ghost joins_are_values = { λ _ a b value _. value };
-
-    fn join(&self, a: &i64, _b: &i64) -> Result<i64, NoMemory> {
-        Ok(*a)
     }
 }

@@ -1,10 +1,11 @@
 //! Collectors over texts, lent and owned.
 use super::cuts::check;
-use super::functions::{Itself, LastOf, Length};
+use super::functions::{Itself, Length};
 use crate::{
     Counting, First, GroupingBy, Joining, MappingTo, Reducing, SummingLong, ToList, ToMap,
 };
 use spliterator::NoMemory;
+use stages::LastOf;
 use std::alloc::Global;
 use std::test::Fail;
 
@@ -41,7 +42,7 @@ fn counts_equal_texts(rt: HostRuntime) -> Result<(), Fail> {
 #[test]
 fn maps_lengths_to_texts(rt: HostRuntime) -> Result<(), Fail> {
     let alloc = rt.alloc();
-    let last = ToMap::<&str, _, _, _, _>::new(alloc, Length, Itself, LastOf);
+    let last = ToMap::<&str, _, _, _, _>::new(alloc, Length, Itself, LastOf::<&str>::new());
     check(&rt, alloc, &last, &["bb", "a", "cc"], "{2=cc, 1=a}")?;
     Ok(())
 }
@@ -49,7 +50,7 @@ fn maps_lengths_to_texts(rt: HostRuntime) -> Result<(), Fail> {
 #[test]
 fn maps_texts_to_lengths(rt: HostRuntime) -> Result<(), Fail> {
     let alloc = rt.alloc();
-    let lengths = ToMap::<&str, _, _, _, _>::new(alloc, Itself, Length, LastOf);
+    let lengths = ToMap::<&str, _, _, _, _>::new(alloc, Itself, Length, LastOf::<i64>::new());
     check(&rt, alloc, &lengths, &["bb", "a"], "{bb=2, a=1}")?;
     Ok(())
 }
@@ -105,9 +106,9 @@ fn takes_owned_texts(rt: HostRuntime) -> Result<(), Fail> {
     )?;
     let counts = GroupingBy::new(alloc, Itself, Counting::<String>::new());
     check(&rt, alloc, &counts, &texts, "{b=2, a=1}")?;
-    let last = Reducing::<String, _>::new(LastOf);
+    let last = Reducing::<String, _>::new(LastOf::<String>::new());
     check(&rt, alloc, &last, &texts, "Optional[b]")?;
-    let map = ToMap::<String, _, _, _, _>::new(alloc, Itself, Itself, LastOf);
+    let map = ToMap::<String, _, _, _, _>::new(alloc, Itself, Itself, LastOf::<String>::new());
     check(&rt, alloc, &map, &texts, "{b=b, a=a}")?;
     Ok(())
 }

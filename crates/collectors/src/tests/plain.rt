@@ -1,10 +1,11 @@
 //! Collectors over numbers.
 use super::cuts::check;
-use super::functions::{Above, Below, FirstOf, Itself, LastOf, Modulo, Times};
+use super::functions::{Above, Below, Itself, Modulo, Times};
 use crate::{
     Counting, FilteringTo, First, GroupingBy, MappingTo, PartitioningBy, Reducing, SummingLong,
     ToList, ToMap,
 };
+use stages::{FirstOf, LastOf, Max, Min, WrapAdd, WrapMul};
 use std::hash::RandomState;
 use std::test::Fail;
 
@@ -27,7 +28,7 @@ fn counts_and_sums(rt: HostRuntime) -> Result<(), Fail> {
 }
 
 #[test]
-fn lists_and_reductions(rt: HostRuntime) -> Result<(), Fail> {
+fn lists_and_first_items(rt: HostRuntime) -> Result<(), Fail> {
     let alloc = rt.alloc();
     check(
         &rt,
@@ -37,11 +38,30 @@ fn lists_and_reductions(rt: HostRuntime) -> Result<(), Fail> {
         "[3, 1, 2]",
     )?;
     check(&rt, alloc, &First::<i64>::new(), &[], "Optional.empty")?;
-    let last = Reducing::<i64, _>::new(LastOf);
-    check(&rt, alloc, &last, &[], "Optional.empty")?;
-    check(&rt, alloc, &last, &[4, 9, 50], "Optional[50]")?;
+    Ok(())
+}
+
+#[test]
+fn reductions(rt: HostRuntime) -> Result<(), Fail> {
+    let alloc = rt.alloc();
+    let product = Reducing::<i64, _>::new(WrapMul::new());
+    check(&rt, alloc, &product, &[], "Optional.empty")?;
+    check(&rt, alloc, &product, &[2, 5, 3], "Optional[30]")?;
+    let least = Reducing::<i64, _>::new(Min::<i64>::new());
+    check(&rt, alloc, &least, &[2, 5, 3], "Optional[2]")?;
+    let greatest = Reducing::<i64, _>::new(Max::<i64>::new());
+    check(&rt, alloc, &greatest, &[], "Optional.empty")?;
+    check(&rt, alloc, &greatest, &[2, 5, 3], "Optional[5]")?;
+    let sum = Reducing::<i64, _>::new(WrapAdd::new());
+    check(
+        &rt,
+        alloc,
+        &sum,
+        &[9223372036854775807, 1],
+        "Optional[-9223372036854775808]",
+    )?;
     // a part without items adds nothing to the combination
-    let small = FilteringTo::new(Below(10), Reducing::<i64, _>::new(LastOf));
+    let small = FilteringTo::new(Below(10), Reducing::<i64, _>::new(LastOf::<i64>::new()));
     check(&rt, alloc, &small, &[4, 9, 50, 60], "Optional[9]")?;
     let tens = MappingTo::<i64, _, _>::new(Times(10), First::<i64>::new());
     check(&rt, alloc, &tens, &[4, 5], "Optional[40]")?;
@@ -83,7 +103,7 @@ fn groups_by_random_hashes(rt: HostRuntime) -> Result<(), Fail> {
     let hashes = RandomState::new(&rt)?;
     let counts = GroupingBy::with_hasher(alloc, Modulo::new(2), Counting::<i64>::new(), hashes);
     check(&rt, alloc, &counts, &[5, 2, 7, 4, 5], "{1=3, 0=2}")?;
-    let last = ToMap::with_hasher(alloc, Modulo::new(2), Itself, LastOf, hashes);
+    let last = ToMap::with_hasher(alloc, Modulo::new(2), Itself, LastOf::<i64>::new(), hashes);
     check(&rt, alloc, &last, &[1, 2, 3, 4], "{1=3, 0=4}")?;
     Ok(())
 }
@@ -91,9 +111,9 @@ fn groups_by_random_hashes(rt: HostRuntime) -> Result<(), Fail> {
 #[test]
 fn maps_merge_from_left_to_right(rt: HostRuntime) -> Result<(), Fail> {
     let alloc = rt.alloc();
-    let last = ToMap::<i64, _, _, _, _>::new(alloc, Modulo::new(2), Itself, LastOf);
+    let last = ToMap::<i64, _, _, _, _>::new(alloc, Modulo::new(2), Itself, LastOf::<i64>::new());
     check(&rt, alloc, &last, &[1, 2, 3, 4], "{1=3, 0=4}")?;
-    let first = ToMap::<i64, _, _, _, _>::new(alloc, Modulo::new(2), Itself, FirstOf);
+    let first = ToMap::<i64, _, _, _, _>::new(alloc, Modulo::new(2), Itself, FirstOf::<i64>::new());
     check(&rt, alloc, &first, &[1, 2, 3, 4], "{1=1, 0=2}")?;
     Ok(())
 }
