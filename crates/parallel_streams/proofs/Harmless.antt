@@ -1,0 +1,96 @@
+-- What was skipped can't matter: other lists in the place of skipped leaves leave the answer the same.
+use Rattle.std.specs.Prelude.{◌≡◌, ◌<◌, ◌≤◌, ◌+◌, ◌≢◌, ◌⊎◌, ℕ, zero, suc, Bool, refl, List, [], ◌∷◌, ◌++◌, Option, Some, None, cond, count_by, take, drop, length, slice_index_or}
+use Rattle.std.proofs.Common.{sym, ap, ap₂, ◌∙◌, subst, arith, append-nil, ⊎_elim, inl, inr}
+use Rattle.std.proofs.lemmas.List.{take-append-drop}
+use Rattle.std.proofs.lemmas.List.Sums.{sum_by-append}
+use Rattle.barriers.specs.Needs.{KeepsEnough, IsEnough, Reaches}
+use Rattle.leaf_board.specs.Case.{IsLawful, sum_below}
+use Rattle.leaf_board.specs.Closing.{Outcome, count_of, cut_of}
+use Rattle.stealing_pool.specs.Fronts.{joined, full_count}
+use Rattle.stealing_pool.specs.Reports.{Reported, Reports}
+use Rattle.stealing_pool.specs.SpanLaws.{joined-append}
+use Rattle.parallel_streams.specs.Reports.{ReplacesSkipped, IsHarmless, IsReported}
+
+joined-split : {T : Type 0} (n : ℕ) (lists : List (List T)) → joined lists ≡ joined (take n lists) ++ joined (drop n lists)
+joined-split n lists = ap joined (sym (take-append-drop n lists)) ∙ joined-append (take n lists) (drop n lists)
+
+-- the same front of enough leaves, the same answer
+same-front : {T A : Type 0} (needed : Option ℕ) (counted : T → Bool) (answer : List T → A) → KeepsEnough needed counted answer
+    → (n : ℕ) (lists others : List (List T)) → take n others ≡ take n lists → IsEnough needed counted (joined (take n lists)) → answer (joined others) ≡ answer (joined lists)
+same-front needed counted answer law n lists others same enough =
+    let P : List _ → Type 0 = λ front. IsEnough needed counted (joined front) in
+    ap answer (joined-split n others)
+    ∙ law (joined (take n others)) (joined (drop n others)) (subst P (sym same) enough)
+    ∙ ap (λ front. answer (joined front)) same
+    ∙ sym (law (joined (take n lists)) (joined (drop n lists)) enough)
+    ∙ sym (ap answer (joined-split n lists))
+
+-- lists that agree at each place below n begin alike
+take-same : {T : Type 0} (n : ℕ) (lists others : List (List T)) → length others ≡ length lists
+    → ((i : ℕ) → i < n → i < length lists → slice_index_or others i [] ≡ slice_index_or lists i []) → take n others ≡ take n lists
+take-same zero lists others leaves same = refl
+take-same (suc n) [] [] leaves same = refl
+take-same (suc n) [] (y ∷ others) leaves same = absurd (omega (arith, leaves))
+take-same (suc n) (x ∷ lists) [] leaves same = absurd (omega (arith, leaves))
+take-same (suc n) (x ∷ lists) (y ∷ others) leaves same =
+    let rest = take-same n lists others (omega (arith, leaves)) (λ i below within. same (suc i) (omega arith) (omega arith)) in
+    ap₂ (λ a l. a ∷ l) (same 0 (omega arith) (omega arith)) rest
+
+take-all : {T : Type 0} (l : List T) → take (length l) l ≡ l
+take-all [] = refl
+take-all (x ∷ l) = ap (λ m. x ∷ m) (take-all l)
+
+take-step : {T : Type 0} (n : ℕ) (l : List T) (d : T) → n < length l → take (suc n) l ≡ take n l ++ slice_index_or l n d ∷ []
+take-step zero [] d within = absurd (omega (arith, within))
+take-step zero (x ∷ l) d within = refl
+take-step (suc n) [] d within = absurd (omega (arith, within))
+take-step (suc n) (x ∷ l) d within = ap (λ m. x ∷ m) (take-step n l d (omega (arith, within)))
+
+-- the full counts of the first leaves add up to the count of their lists
+sum-counts : {T : Type 0} (counted : T → Bool) (lists : List (List T)) (n : ℕ) → n ≤ length lists → sum_below (full_count counted lists) n ≡ count_by counted (joined (take n lists))
+sum-counts counted lists zero within = refl
+sum-counts counted lists (suc n) within =
+    let rest = sum-counts counted lists n (omega arith) in
+    let here = slice_index_or lists n [] in
+    let step : joined (take (suc n) lists) ≡ joined (take n lists) ++ here = ap joined (take-step n lists [] (omega arith)) ∙ joined-append (take n lists) (here ∷ []) ∙ ap (λ l. joined (take n lists) ++ l) (append-nil here) in
+    let count = sum_by-append (λ x. cond (counted x) 1 0) (joined (take n lists)) here in
+    ap (λ m. m + count_by counted here) rest ∙ sym count ∙ ap (count_by counted) (sym step)
+
+some≢none : {X : Type 0} (x : X) → Some x ≢ None
+some≢none x e = cc
+
+-- a leaf at or left of the cut has a count
+has-count : (needed : Option ℕ) (full i : ℕ) (count : Option ℕ) (cut : Option ℕ) → ((c : ℕ) → cut ≡ Some c → i ≤ c) → Reported needed full i count cut → count ≢ None
+has-count needed full i count cut left told none =
+    ⊎_elim
+    (λ counted. some≢none counted.0 (sym counted.1 ∙ none))
+    (λ skipped. let place = left skipped.1.0 skipped.1.1 in let past = skipped.1.2 in absurd (omega arith))
+    told
+
+module _ {T A : Type 0} (needed : Option ℕ) (counted : T → Bool) (answer : List T → A) (law : KeepsEnough needed counted answer) (lists : List (List T)) (count : ℕ → Option ℕ) where
+  harmless-at : (recorded : ℕ) (cut : Option ℕ) → Reports needed (length lists) (full_count counted lists) recorded count cut → (option : Option ℕ) → cut ≡ option → IsHarmless answer count lists
+  harmless-at recorded cut reports None is others replaced =
+      let none : (c i : ℕ) → cut ≡ Some c → i ≤ c = λ c i some. absurd (some≢none c (sym some ∙ is)) in
+      let same = take-same (length lists) lists others replaced.leaves (λ i below within. replaced.same i within (has-count needed _ i _ cut (λ c. none c i) (reports.each i within))) in
+      let equal : others ≡ lists = sym (take-all others) ∙ ap (λ n. take n others) replaced.leaves ∙ same ∙ take-all lists in
+      ap (λ l. answer (joined l)) equal
+  harmless-at recorded cut reports (Some c) is others replaced =
+      let here : (d : ℕ) → cut ≡ Some d → c ≡ d = λ d some. let e : Some c ≡ Some d = sym is ∙ some in some-same c d e in
+      let justified = reports.justified c is in
+      let within : c < length lists = justified.0 in
+      let sums = sum-counts counted lists (c + 1) (omega arith) in
+      let same = take-same (c + 1) lists others replaced.leaves (λ i below inside. replaced.same i inside (has-count needed _ i _ cut (λ d some. let e = here d some in omega (arith, e)) (reports.each i inside))) in
+      same-front needed counted answer law (c + 1) lists others same (subst (Reaches needed) sums justified.1)
+    where
+      some-same : (c d : ℕ) → Some c ≡ Some d → c ≡ d
+      some-same c d e = cc
+
+-- the entry of a run says so of its leaves
+pub is-reported : {T A : Type 0} (needed : Option ℕ) (counted : T → Bool) (answer : List T → A) → KeepsEnough needed counted answer
+    → (whole : List T) (lists : List (List T)) → joined lists ≡ whole → (entry : Outcome) → Reports needed (length lists) (full_count counted lists) entry.leaves (count_of entry) (cut_of entry) → IsReported needed counted whole answer entry
+is-reported needed counted answer law whole lists joins entry reports = record {
+  lists = lists;
+  joins = joins;
+  reports = reports;
+  harmless = harmless-at needed counted answer law lists (count_of entry) entry.leaves (cut_of entry) reports (cut_of entry) refl;
+}

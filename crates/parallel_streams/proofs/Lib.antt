@@ -1,0 +1,3 @@
+pub mod Harmless
+pub mod Gathering
+pub mod Firsts

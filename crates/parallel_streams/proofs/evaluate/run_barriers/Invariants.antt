@@ -1,0 +1,10 @@
+use Rattle.parallel_streams.proofs.evaluate.run_barriers.Given as goal
+
+abbrev pub invariant-loop-alloc : goal.invariant-loop-alloc
+invariant-loop-alloc g l = record {
+  holds : g.X.Stream.holds l.stream l.progress;
+  told : g.X.Stream.told_so_far l.stream l.progress l.entries.items;
+}
+
+abbrev pub decreases-loop-alloc : goal.decreases-loop-alloc
+decreases-loop-alloc g l = g.X.Stream.waiting l.stream l.progress

@@ -1,0 +1,11 @@
+pub mod Runs
+pub mod MapErrors
+pub mod Terminals
+pub mod LeafLaws
+pub mod Cuts
+pub mod Sources
+pub mod Ends
+pub mod Reports
+pub mod Progress
+pub mod ProgressLaws
+pub mod Meeting

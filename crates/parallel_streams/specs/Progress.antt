@@ -1,0 +1,72 @@
+-- How far the barriers of a stream have come.
+use Rattle.std.specs.Prelude.{◌≡◌, ◌<◌, ◌≤◌, ◌+◌, ◌^◌, ℕ, Bool, true, false, List, [], ◌++◌, ◌∷◌, Option, Some, None, map, length}
+use Rattle.std.specs.Global.{Vec}
+use Rattle.stealing_pool.specs.Jobs.{Work}
+use Rattle.leaf_board.specs.Closing.{Outcome}
+use Rattle.stealing_pool.specs.declared.job.LeafEnd.{LeafEnd}
+use Rattle.stealing_pool.specs.declared.job.LeafEnd.TheVariants.{Done, Cut}
+use Rattle.parallel_streams.specs.Cuts.{Ascends, cut_at}
+use Rattle.parallel_streams.specs.Ends.{ends_of}
+use Rattle.parallel_streams.specs.declared.part.Gathered.{Gathered}
+use Rattle.parallel_streams.specs.declared.part.Listed.{Listed}
+use Rattle.parallel_streams.specs.declared.part.Part.{Part}
+use Rattle.parallel_streams.specs.declared.part.Part.TheVariants.{Before, Own}
+
+-- what a barrier's run left: the barrier's value, cut into parts
+pub record IsListed {T C : Type 0} (content : T → C) (value : List C) (listed : Listed T) : Type 0 where
+  pub is : map content listed.items.items ≡ value
+  pub cut : Ascends 0 (length listed.items.items) (ends_of listed.places)
+
+abbrev pub HoldsListed : {T C : Type 0} → (T → C) → List C → Option (Listed T) → Type 0
+HoldsListed content value None = Unit {0}
+HoldsListed content value (Some listed) = IsListed content value listed
+
+abbrev pub HoldsGathered : {P T C : Type 0} → (P → Type 0) → (T → C) → List C → Gathered P T → Type 0
+HoldsGathered before content value g = before g.before × HoldsListed content value g.listed
+
+-- the entries so far: while the last barrier has not run, those of the barriers before
+abbrev pub ToldSoFar : {T : Type 0} → (List Outcome → Type 0) → (List Outcome → Type 0) → Option (Listed T) → List Outcome → Type 0
+ToldSoFar before all None entries = before entries
+ToldSoFar before all (Some listed) entries = all entries
+
+abbrev pub is_listed : {T : Type 0} → Option (Listed T) → Bool
+is_listed None = false
+is_listed (Some listed) = true
+
+-- the number of barriers that have not run
+abbrev pub waiting_of : {T : Type 0} → ℕ → Option (Listed T) → ℕ
+waiting_of before None = before + 1
+waiting_of before (Some listed) = 0
+
+-- the number of leaves of the next run
+abbrev pub next_leaves : {T : Type 0} → ℕ → Option (Listed T) → ℕ
+next_leaves before None = before
+next_leaves before (Some listed) = length (ends_of listed.places)
+
+-- the lists of the leaves of the last run
+abbrev pub parts_of : {T C : Type 0} → (T → C) → Option (Listed T) → List (List C)
+parts_of content None = []
+parts_of content (Some listed) = cut_at 0 (ends_of listed.places) (map content listed.items.items)
+
+-- what is kept is a part of a barrier before, or this barrier's own
+abbrev pub KeepsBefore : {P T : Type 0} → (P → Type 0) → Part P T → Type 0
+KeepsBefore keeps (Before p) = keeps p
+KeepsBefore keeps (Own items) = ⊥
+
+abbrev pub KeepsOwn : {P T : Type 0} → (Vec T → Type 0) → Part P T → Type 0
+KeepsOwn keeps (Before p) = ⊥
+KeepsOwn keeps (Own items) = keeps items
+
+-- while a barrier before has not run, the next run is that barrier's; then it is this barrier's own
+abbrev pub barred_work : {P T : Type 0} → Bool → Work P → Work (Vec T) → Work (Part P T)
+barred_work false before own = record { leaves = before.leaves; full = before.full; needed = before.needed; Keeps = λ from to count part. KeepsBefore (before.Keeps from to count) part }
+barred_work true before own = record { leaves = own.leaves; full = own.full; needed = own.needed; Keeps = λ from to count part. KeepsOwn (own.Keeps from to count) part }
+
+-- the entries of the barriers before, and then the last one's
+abbrev pub EndsWith : {E : Type 0} → (List E → Type 0) → (E → Type 0) → List E → Type 0
+EndsWith {E} Fronts Lasts entries = (front : List E) × (last : E) × (entries ≡ front ++ last ∷ []) × Fronts front × Lasts last
+
+-- how a leaf ended, with what is kept put in another form
+abbrev pub end_with : {A B : Type 0} → (A → B) → LeafEnd A → LeafEnd B
+end_with f (Done p) = Done (record { count = p.count; kept = f p.kept })
+end_with f Cut = Cut

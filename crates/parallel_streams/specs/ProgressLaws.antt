@@ -1,0 +1,114 @@
+-- What holds of the progress of a stream with barriers.
+use Rattle.std.specs.Prelude.{◌≡◌, ◌<◌, ◌≤◌, ◌+◌, ◌++◌, ℕ, Bool, true, false, List, [], Option, Some, None, Result, Ok, Err, OnOk, map, length, slice_get, slice_index_or, refl}
+use Rattle.std.proofs.Common.{sym, ap, ◌∙◌, subst, arith, true≢false}
+use Rattle.std.specs.Global.{Vec}
+use Rattle.std.proofs.lemmas.List.{length-map}
+use Rattle.stealing_pool.specs.Jobs.{Work, Combines, StandsForRun, EndsLeaf}
+use Rattle.stealing_pool.specs.declared.job.LeafEnd.{LeafEnd}
+use Rattle.stealing_pool.specs.declared.job.LeafEnd.TheVariants.{Done, Cut}
+use Rattle.leaf_board.specs.Closing.{Outcome}
+use Rattle.stealing_pool.specs.Fronts.{Folding, Folds, joined, work_of}
+use Rattle.stealing_pool.specs.SpanLaws.{spans-combine}
+use Rattle.parallel_streams.specs.LeafLaws.{map-both, get-mapped}
+use Rattle.parallel_streams.specs.Cuts.{Ascends, cut_at, cut_at-map, joined-cut_at, length-cut_at}
+use Rattle.parallel_streams.specs.Ends.{ends_of}
+use Rattle.parallel_streams.specs.Progress.{HoldsListed, ToldSoFar, is_listed, waiting_of, next_leaves, parts_of, barred_work, end_with, KeepsBefore, KeepsOwn}
+use Rattle.parallel_streams.specs.declared.part.Listed.{Listed}
+use Rattle.parallel_streams.specs.declared.part.Part.{Part}
+use Rattle.parallel_streams.specs.declared.part.Part.TheVariants.{Before, Own}
+
+-- the next run has the leaves that are told
+pub barred-leaves : {P T : Type 0} (done : Bool) (before : Work P) (own : Work (Vec T)) (n : ℕ) (listed : Option (Listed T)) → is_listed listed ≡ false
+    → (done ≡ false → before.leaves ≡ n) → (done ≡ true → own.leaves ≡ n) → (barred_work done before own).leaves ≡ next_leaves n listed
+barred-leaves done before own n (Some l) unrun of_before of_own = absurd (true≢false unrun)
+barred-leaves true before own n None unrun of_before of_own = of_own refl
+barred-leaves false before own n None unrun of_before of_own = of_before refl
+
+pub joined-parts_of : {T C : Type 0} (content : T → C) (value : List C) (listed : Option (Listed T)) → HoldsListed content value listed
+    → is_listed listed ≡ true → joined (parts_of content listed) ≡ value
+joined-parts_of content value None held is = absurd (true≢false (sym is))
+joined-parts_of content value (Some l) held is =
+    let size : length l.items.items ≡ 0 + length (map content l.items.items) = let e = length-map l.items.items content in omega (arith, e) in
+    joined-cut_at 0 (length l.items.items) (ends_of l.places) (map content l.items.items) held.cut size ∙ held.is
+
+pub count-parts_of : {T C : Type 0} (content : T → C) (n : ℕ) (listed : Option (Listed T)) → is_listed listed ≡ true → length (parts_of content listed) ≡ next_leaves n listed
+count-parts_of content n None is = absurd (true≢false (sym is))
+count-parts_of content n (Some l) is = length-cut_at 0 (ends_of l.places) (map content l.items.items)
+
+module _ {P T : Type 0} (before : Work P) (own : Work (Vec T)) where
+  pub combines-before : (done : Bool) (left right both : P) → Combines before left right both → Combines (barred_work done before own) (Before left) (Before right) (Before both)
+  combines-before true left right both h from middle to count more p q kept few following = absurd kept
+  combines-before false left right both h from middle to count more p q kept few following = h from middle to count more p q kept few following
+
+  pub combines-own : (done : Bool) (left right both : Vec T) → Combines own left right both → Combines (barred_work done before own) (Own left) (Own right) (Own both)
+  combines-own true left right both h from middle to count more p q kept few following = h from middle to count more p q kept few following
+  combines-own false left right both h from middle to count more p q kept few following = absurd kept
+
+  -- parts of two kinds stand for no leaves
+  pub combines-mixed : (done : Bool) (left : P) (right : Vec T) (both : Part P T) → Combines (barred_work done before own) (Before left) (Own right) both
+  combines-mixed true left right both from middle to count more p q kept few following = absurd kept
+  combines-mixed false left right both from middle to count more p q kept few following = absurd following
+
+  pub combines-mixed_own : (done : Bool) (left : Vec T) (right : P) (both : Part P T) → Combines (barred_work done before own) (Own left) (Before right) both
+  combines-mixed_own true left right both from middle to count more p q kept few following = absurd following
+  combines-mixed_own false left right both from middle to count more p q kept few following = absurd kept
+
+  -- a part of a barrier before is kept only while that barrier has not run
+  pub stands-before : (done : Bool) (part : P) → StandsForRun (barred_work done before own) (Before part) → (done ≡ false) × StandsForRun before part
+  stands-before true part (to, count, within, keeps, end) = absurd keeps
+  stands-before false part h = (refl, h)
+
+  pub stands-own : (done : Bool) (part : Vec T) → StandsForRun (barred_work done before own) (Own part) → (done ≡ true) × StandsForRun own part
+  stands-own true part h = (refl, h)
+  stands-own false part (to, count, within, keeps, end) = absurd keeps
+
+  pub ends-before : (done : Bool) (cut i : ℕ) (end : LeafEnd P) → done ≡ false → EndsLeaf before cut i end → EndsLeaf (barred_work done before own) cut i (end_with Before end)
+  ends-before true cut i end unrun h = absurd (true≢false unrun)
+  ends-before false cut i (Done p) unrun h = h
+  ends-before false cut i Cut unrun h = h
+
+  pub ends-own : (done : Bool) (cut i : ℕ) (end : LeafEnd (Vec T)) → done ≡ true → EndsLeaf own cut i end → EndsLeaf (barred_work done before own) cut i (end_with Own end)
+  ends-own true cut i (Done p) is h = h
+  ends-own true cut i Cut is h = h
+  ends-own false cut i end is h = absurd (true≢false (sym is))
+
+module _ {P T : Type 0} (before : Work P) where
+  pub combines-own_ok : {C U E : Type 0} (f : Folding C (List C)) (content : Vec T → List C) (lists : List (List C)) (done : Bool) (r : Result U E) (kept following : Part P T) (left right both : Vec T)
+      → kept ≡ Own left → following ≡ Own right
+      → ((l m : List C) → Folds f l (content left) → Folds f m (content right) → OnOk r (Folds f (l ++ m) (content both)))
+      → OnOk r (Combines (barred_work done before (work_of f content lists)) kept following (Own both))
+  combines-own_ok f content lists done (Err e) kept following left right both is_left is_right law = tt
+  combines-own_ok f content lists done (Ok u) kept following left right both is_left is_right law =
+      let own = work_of f content lists in
+      let Q : Part P T → Type 0 = λ k. Combines (barred_work done before own) k following (Own both) in
+      let R : Part P T → Type 0 = λ m. Combines (barred_work done before own) (Own left) m (Own both) in
+      subst Q (sym is_left) (subst R (sym is_right) (combines-own before own done left right both (spans-combine f content lists left right both law)))
+
+  pub ends-own_of : (own : Work (Vec T)) (done : Bool) (cut i : ℕ) (end : LeafEnd (Vec T)) (ended : LeafEnd (Part P T)) → ended ≡ end_with Own end → done ≡ true → EndsLeaf own cut i end → EndsLeaf (barred_work done before own) cut i ended
+  ends-own_of own done cut i end ended is held h =
+      let Q : LeafEnd (Part P T) → Type 0 = λ e. EndsLeaf (barred_work done before own) cut i e in
+      subst Q (sym is) (ends-own before own done cut i end held h)
+
+-- the items of a leaf of a barrier's list
+pub part-at : {T C D : Type 0} (content : T → C) (through : List C → List D) (listed : Option (Listed T)) (l : Listed T) (i : ℕ) (part : List T) → listed ≡ Some l
+    → slice_get (cut_at 0 (ends_of l.places) l.items.items) i ≡ Some part → slice_index_or (map through (parts_of content listed)) i [] ≡ through (map content part)
+part-at content through listed l i part is found =
+    let parts = cut_at 0 (ends_of l.places) l.items.items in
+    let lists : map through (parts_of content listed) ≡ map (λ p. through (map content p)) parts =
+    ap (λ o. map through (parts_of content o)) is ∙ ap (map through) (sym (cut_at-map content 0 (ends_of l.places) l.items.items)) ∙ map-both (map content) through parts in
+    ap (λ ls. slice_index_or ls i []) lists ∙ get-mapped (λ p. through (map content p)) parts i part [] found
+
+pub part-within : {T C D : Type 0} (content : T → C) (through : List C → List D) (n : ℕ) (listed : Option (Listed T)) (i : ℕ) → is_listed listed ≡ true → i < next_leaves n listed → i < length (map through (parts_of content listed))
+part-within content through n listed i is within =
+    let Q : ℕ → Type 0 = λ m. i < m in
+    subst Q (sym (length-map (parts_of content listed) through ∙ count-parts_of content n listed is)) within
+
+-- once the last barrier has run, the entries are all there
+pub told-all : {T : Type 0} (before all : List Outcome → Type 0) (listed : Option (Listed T)) (entries : List Outcome) → is_listed listed ≡ true → ToldSoFar before all listed entries → all entries
+told-all before all None entries is told = absurd (true≢false (sym is))
+told-all before all (Some l) entries is told = told
+
+-- and before it they are those of the barriers before
+pub told-before : {T : Type 0} (before all : List Outcome → Type 0) (listed : Option (Listed T)) (entries : List Outcome) → is_listed listed ≡ false → ToldSoFar before all listed entries → before entries
+told-before before all None entries unrun told = told
+told-before before all (Some l) entries unrun told = absurd (true≢false unrun)

@@ -1,0 +1,244 @@
+//! A barrier behind a stream.
+ghost use Rattle.std.specs.Prelude.{◌≡◌, List, [], map};
+ghost use Rattle.spliterator.specs.Clones.{ClonesAlike, TestsClonesAlike};
+ghost use Rattle.collectors.specs.NestedLaws.{push};
+ghost use Rattle.stealing_pool.specs.Fronts.{folding, work_of};
+ghost use Rattle.parallel_streams.specs.Reports.{IsReported};
+ghost use Rattle.stages.specs.Flags.{after};
+
+use crate::Stream;
+use crate::part::{Gathered, Listed, Part, end_before, end_own};
+use crate::places::Places;
+use barriers::{Barrier, Demand, Need};
+use collectors::{Collector, ToList, combine_containers};
+use leaf_board::Handout;
+use sources::SliceSplit;
+use split_tree::Tree;
+use spliterator::NoMemory;
+use stages::{Nothing, Stage, StreamFlags};
+use std::alloc::Global;
+use stealing_pool::{LeafEnd, RunEntry, run_leaf};
+
+/// A stream's items through a barrier.
+#[derive(Drop)]
+pub struct Barred<U: Stream, B> {
+    pub upstream: U,
+    pub barrier: B,
+    ghost clones_alike: { TestsClonesAlike U.Item.same U.Item.is_clone U.Item.content },
+}
+
+impl<U: Stream, B> Barred<U, B> {
+    /// A clone of an item must have the item's content.
+    pub fn new(upstream: U, barrier: B) -> Barred<U, B>
+        requires { ClonesAlike U.Item.is_clone U.Item.content }
+        ensures upstream { result.upstream ≡ upstream }
+        ensures barrier { result.barrier ≡ barrier }
+    {
+        Barred { upstream, barrier }
+    }
+}
+
+impl<U: Stream, B: Barrier<U::Item>> Stream for Barred<U, B> {
+    ghost use Rattle.parallel_streams.specs.Progress.{HoldsGathered, ToldSoFar, EndsWith, is_listed, waiting_of, next_leaves, parts_of, barred_work};
+    ghost use Rattle.parallel_streams.specs.ProgressLaws.{barred-leaves, joined-parts_of, count-parts_of, told-all};
+
+    type Item = U::Item;
+
+    type Progress = Gathered<U::Progress, U::Item>;
+
+    type Part = Part<U::Part, U::Item>;
+
+    ghost ready = { λ s. U.ready s.upstream × B.Demand.ready s.barrier };
+
+    ghost value = { λ s. B.value s.barrier (U.value s.upstream) };
+
+    ghost size = { λ s. B.size_after s.barrier (U.size s.upstream) };
+
+    ghost told = { λ s. after (U.told s.upstream) (B.operation s.barrier) };
+
+    ghost holds = { λ s. HoldsGathered (U.holds s.upstream) U.Item.content (B.value s.barrier (U.value s.upstream)) };
+
+    ghost done = { λ s p. is_listed p.listed };
+
+    ghost waiting = { λ s p. waiting_of (U.waiting s.upstream p.before) p.listed };
+
+    ghost leaves_next = { λ s p. next_leaves (U.leaves_next s.upstream p.before) p.listed };
+
+    ghost work = { λ s p. barred_work (U.done s.upstream p.before) (U.work s.upstream p.before) (work_of (folding (B.Demand.needed s.barrier) (B.Demand.counted s.barrier) U.Item.is_value [] push) (λ v. map U.Item.content v.items) (U.parts s.upstream p.before)) };
+
+    ghost parts = { λ s p. parts_of U.Item.content p.listed };
+
+    ghost reported = { λ s. EndsWith (U.reported s.upstream) (IsReported (B.Demand.needed s.barrier) (B.Demand.counted s.barrier) (U.value s.upstream) (B.value s.barrier)) };
+
+    ghost told_so_far = { λ s p. ToldSoFar (U.told_so_far s.upstream p.before) (EndsWith (U.reported s.upstream) (IsReported (B.Demand.needed s.barrier) (B.Demand.counted s.barrier) (U.value s.upstream) (B.value s.barrier))) p.listed };
+
+    ghost flag_law = { λ s. B.flag_law s.barrier (U.told s.upstream) (U.size s.upstream) (U.value s.upstream) (U.flag_law s.upstream) };
+
+    ghost work_law = { λ s p unrun. barred-leaves (U.done s.upstream p.before) (U.work s.upstream p.before) (work_of (folding (B.Demand.needed s.barrier) (B.Demand.counted s.barrier) U.Item.is_value [] push) (λ v. map U.Item.content v.items) (U.parts s.upstream p.before)) (U.leaves_next s.upstream p.before) p.listed unrun (U.work_law s.upstream p.before) (U.parts_count s.upstream p.before) };
+
+    ghost reported_law = { λ s p entries done told. told-all (U.told_so_far s.upstream p.before) (EndsWith (U.reported s.upstream) (IsReported (B.Demand.needed s.barrier) (B.Demand.counted s.barrier) (U.value s.upstream) (B.value s.barrier))) p.listed entries done told };
+
+    ghost parts_law = { λ s p held done. joined-parts_of U.Item.content (B.value s.barrier (U.value s.upstream)) p.listed held.1 done };
+
+    ghost parts_count = { λ s p done. count-parts_of U.Item.content (U.leaves_next s.upstream p.before) p.listed done };
+
+    fn known_size(&self) -> Option<u64> {
+        self.barrier.size_after(self.upstream.known_size())
+    }
+
+    fn flags(&self) -> StreamFlags {
+        self.upstream.flags().after(self.barrier.operation())
+    }
+
+    fn start(
+        &self,
+        alloc: Global,
+        workers: u32,
+        target: u64,
+    ) -> Result<Gathered<U::Progress, U::Item>, NoMemory> {
+        let before = self.upstream.start(alloc, workers, target)?;
+        Ok(Gathered {
+            before,
+            listed: None,
+        })
+    }
+
+    fn is_gathered(&self, progress: &Gathered<U::Progress, U::Item>) -> bool {
+        progress.listed.is_some()
+    }
+
+    fn leaves(&self, progress: &Gathered<U::Progress, U::Item>) -> usize {
+        match &progress.listed {
+            Some(listed) => listed.places.leaves(),
+            None => self.upstream.leaves(&progress.before),
+        }
+    }
+
+    fn tree<'p>(&self, progress: &'p Gathered<U::Progress, U::Item>) -> &'p Tree {
+        match &progress.listed {
+            Some(listed) => listed.places.tree(),
+            None => self.upstream.tree(&progress.before),
+        }
+    }
+
+    fn need(&self, progress: &Gathered<U::Progress, U::Item>) -> Need {
+        if self.upstream.is_gathered(&progress.before) {
+            self.barrier.need()
+        } else {
+            self.upstream.need(&progress.before)
+        }
+    }
+
+    fn run_leaf<L: Handout>(
+        &self,
+        alloc: Global,
+        progress: &Gathered<U::Progress, U::Item>,
+        board: &L,
+        seat: &mut L::Seat,
+        leaf: usize,
+    ) -> Result<LeafEnd<Part<U::Part, U::Item>>, NoMemory> {
+        if self.upstream.is_gathered(&progress.before) {
+            let nothing = Nothing::new();
+            let list = ToList::new(alloc);
+            let end = self.upstream.run_last_leaf(
+                &progress.before,
+                &nothing,
+                &self.barrier,
+                &list,
+                board,
+                seat,
+                leaf,
+            )?;
+            Ok(end_own(end))
+        } else {
+            let end = self
+                .upstream
+                .run_leaf(alloc, &progress.before, board, seat, leaf)?;
+            Ok(end_before(end))
+        }
+    }
+
+    // A run keeps parts of one kind, so that a mixture stands for no leaves.
+    fn combine(
+        &self,
+        alloc: Global,
+        progress: &Gathered<U::Progress, U::Item>,
+        kept: &mut Part<U::Part, U::Item>,
+        following: Part<U::Part, U::Item>,
+    ) -> Result<(), NoMemory> {
+        match kept {
+            Part::Before(kept) => match following {
+                Part::Before(following) => {
+                    self.upstream
+                        .combine(alloc, &progress.before, kept, following)
+                }
+                Part::Own(_following) => Ok(()),
+            },
+            Part::Own(kept) => match following {
+                Part::Before(_following) => Ok(()),
+                Part::Own(following) => combine_containers(&ToList::new(alloc), kept, following),
+            },
+        }
+    }
+
+    fn gather(
+        &self,
+        alloc: Global,
+        progress: Gathered<U::Progress, U::Item>,
+        part: Part<U::Part, U::Item>,
+        entry: &RunEntry,
+        workers: u32,
+        target: u64,
+    ) -> Result<Gathered<U::Progress, U::Item>, NoMemory> {
+        match part {
+            Part::Before(part) => {
+                let before = self
+                    .upstream
+                    .gather(alloc, progress.before, part, entry, workers, target)?;
+                Ok(Gathered {
+                    before,
+                    listed: None,
+                })
+            }
+            Part::Own(items) => {
+                let items = self.barrier.apply(items)?;
+                let places = Places::cut(alloc, items.as_slice(), workers, target)?;
+                let listed = Listed { items, places };
+                Ok(Gathered {
+                    before: progress.before,
+                    listed: Some(listed),
+                })
+            }
+        }
+    }
+
+    fn run_last_leaf<
+        G: Stage<In = U::Item>,
+        D: Demand<G::Out>,
+        C: Collector<Item = G::Out>,
+        L: Handout,
+    >(
+        &self,
+        progress: &Gathered<U::Progress, U::Item>,
+        stage: &G,
+        demand: &D,
+        collector: &C,
+        board: &L,
+        seat: &mut L::Seat,
+        leaf: usize,
+    ) -> Result<LeafEnd<C::Acc>, NoMemory> {
+        let Some(listed) = &progress.listed else {
+            unreachable!()
+        };
+        let items = listed.places.part(&listed.items, leaf);
+        run_leaf(
+            SliceSplit::new(items),
+            stage,
+            demand,
+            collector,
+            board,
+            seat,
+            leaf,
+        )
+    }
+}

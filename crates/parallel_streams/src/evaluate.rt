@@ -1,0 +1,204 @@
+//! All the runs of a stream, one after another, each on the workers.
+ghost use Rattle.std.specs.Prelude.{◌≡◌, ◌++◌, ◌∷◌, List, [], true, false, length, map, IfOk};
+ghost use Rattle.stealing_pool.specs.Fronts.{folding, work_of, full_count, joined, IsFront};
+ghost use Rattle.leaf_board.specs.Closing.{Outcome};
+ghost use Rattle.parallel_streams.specs.Progress.{EndsWith};
+ghost use Rattle.parallel_streams.specs.Reports.{HasReport};
+ghost use Rattle.parallel_streams.specs.Runs.{IsLawfulRun};
+
+use crate::{Run, Stream};
+use barriers::{Demand, Need};
+use collectors::{Collector, combine_containers};
+use leaf_board::Handout;
+use spliterator::NoMemory;
+use stages::Nothing;
+use std::alloc::Global;
+use std::thread::Threads;
+use stealing_pool::{Gate, LeafEnd, LeafJob, RunEntry, run_job};
+
+// The run of the next barrier.
+#[derive(Drop)]
+struct BarrierRun<'a, 'b, X: Stream> {
+    alloc: Global,
+    stream: &'a X,
+    progress: &'b X::Progress,
+}
+
+impl<X: Stream> LeafJob for BarrierRun<'_, '_, X> {
+    type Kept = X::Part;
+
+    ghost ready = { λ j. X.ready j.stream.now × X.holds j.stream.now j.progress.now × (X.done j.stream.now j.progress.now ≡ false) };
+
+    ghost work = { λ j. X.work j.stream.now j.progress.now };
+
+    fn leaves(&self) -> usize {
+        self.stream.leaves(self.progress)
+    }
+
+    fn need(&self) -> Need {
+        self.stream.need(self.progress)
+    }
+
+    fn run_leaf<B: Handout>(
+        &self,
+        board: &B,
+        seat: &mut B::Seat,
+        leaf: usize,
+    ) -> Result<LeafEnd<X::Part>, NoMemory> {
+        self.stream
+            .run_leaf(self.alloc, self.progress, board, seat, leaf)
+    }
+
+    fn combine(&self, left: &mut X::Part, right: X::Part) -> Result<(), NoMemory> {
+        self.stream.combine(self.alloc, self.progress, left, right)
+    }
+}
+
+// The last run.
+#[derive(Drop)]
+struct LastRun<'a, 'b, 'c, 'd, X: Stream, D, C> {
+    stream: &'a X,
+    progress: &'b X::Progress,
+    demand: &'c D,
+    collector: &'d C,
+}
+
+impl<X: Stream, D: Demand<X::Item>, C: Collector<Item = X::Item>> LeafJob
+    for LastRun<'_, '_, '_, '_, X, D, C> {
+    type Kept = C::Acc;
+
+    ghost ready = { λ j. X.ready j.stream.now × D.ready j.demand.now × C.ready j.collector.now × X.holds j.stream.now j.progress.now × (X.done j.stream.now j.progress.now ≡ true) };
+
+    ghost work = { λ j. work_of (folding (D.needed j.demand.now) (D.counted j.demand.now) X.Item.is_value (C.empty j.collector.now) (C.add j.collector.now)) (C.content j.collector.now) (X.parts j.stream.now j.progress.now) };
+
+    fn leaves(&self) -> usize {
+        self.stream.leaves(self.progress)
+    }
+
+    fn need(&self) -> Need {
+        self.demand.need()
+    }
+
+    fn run_leaf<B: Handout>(
+        &self,
+        board: &B,
+        seat: &mut B::Seat,
+        leaf: usize,
+    ) -> Result<LeafEnd<C::Acc>, NoMemory> {
+        let nothing = Nothing::new();
+        self.stream.run_last_leaf(
+            self.progress,
+            &nothing,
+            self.demand,
+            self.collector,
+            board,
+            seat,
+            leaf,
+        )
+    }
+
+    fn combine(&self, left: &mut C::Acc, right: C::Acc) -> Result<(), NoMemory> {
+        combine_containers(self.collector, left, right)
+    }
+}
+
+// Promises that the lists of the last run's leaves are the stream's items, end to end, and that the entries so far are all.
+fn promise_whole<X: Stream>(_stream: &X, _progress: &X::Progress)
+    requires holds { X.holds _stream.now _progress.now }
+    requires done { X.done _stream.now _progress.now ≡ true }
+    ensures whole { joined (X.parts _stream.now _progress.now) ≡ X.value _stream.now }
+    ensures entries { (entries : List Outcome) → X.told_so_far _stream.now _progress.now entries → X.reported _stream.now entries }
+{}
+
+/// What the runs of a stream left: the container of the last run, and the entries of all runs in their order.
+#[derive(Drop)]
+pub struct Evaluated<A> {
+    pub acc: A,
+    pub entries: Vec<RunEntry>,
+}
+
+// Runs the barriers one after another. Answers how far the stream has come, and the entries of the runs.
+fn run_barriers<R: Threads + Sync, X: Stream + Sync, H: Gate + Sync>(
+    rt: &R,
+    alloc: Global,
+    stream: &X,
+    run: &Run<'_, H>,
+) -> Result<(X::Progress, Vec<RunEntry>), NoMemory>
+where
+    X::Item: Send + Sync,
+    X::Progress: Send + Sync,
+    X::Part: Send,
+    requires stream { X.ready stream.now }
+    requires settings { IsLawfulRun run.now.workers run.now.target }
+    ensures holds { IfOk result (λ r. X.holds stream.now r.0) }
+    ensures done { IfOk result (λ r. X.done stream.now r.0 ≡ true) }
+    ensures whole { IfOk result (λ r. joined (X.parts stream.now r.0) ≡ X.value stream.now) }
+    ensures entries { IfOk result (λ r. X.reported stream.now r.1.items) }
+{
+    let mut entries = Vec::new(alloc);
+    let mut progress = stream.start(alloc, run.workers, run.target)?;
+    while !stream.is_gathered(&progress) {
+        let job = BarrierRun {
+            alloc,
+            stream,
+            progress: &progress,
+        };
+        let tree = stream.tree(&progress);
+        let gathered = run_job(rt, alloc, tree, &job, run.workers, run.gate)?;
+        progress = stream.gather(
+            alloc,
+            progress,
+            gathered.acc,
+            &gathered.entry,
+            run.workers,
+            run.target,
+        )?;
+        entries.push(gathered.entry)?;
+    }
+    promise_whole(stream, &progress);
+    Ok((progress, entries))
+}
+
+/// Runs the barriers one after another, and then the rest of the stream into a collector, as far as the demand asks.
+pub fn evaluate<
+    R: Threads + Sync,
+    X: Stream + Sync,
+    D: Demand<X::Item> + Sync,
+    C: Collector<Item = X::Item> + Sync,
+    H: Gate + Sync,
+>(
+    rt: &R,
+    alloc: Global,
+    stream: &X,
+    run: &Run<'_, H>,
+    demand: &D,
+    collector: &C,
+) -> Result<Evaluated<C::Acc>, NoMemory>
+where
+    X::Item: Send + Sync,
+    X::Progress: Send + Sync,
+    X::Part: Send,
+    C::Acc: Send,
+    C::Out: Send,
+    requires stream { X.ready stream.now }
+    requires demand { D.ready demand.now }
+    requires collector { C.ready collector.now }
+    requires settings { IsLawfulRun run.now.workers run.now.target }
+    ensures front { IfOk result (λ e. IsFront (folding (D.needed demand.now) (D.counted demand.now) X.Item.is_value (C.empty collector.now) (C.add collector.now)) (X.value stream.now) (C.content collector.now e.acc)) }
+    ensures entries { IfOk result (λ e. EndsWith (X.reported stream.now) (HasReport (D.needed demand.now) (D.counted demand.now) (X.value stream.now)) e.entries.items) }
+{
+    let (progress, mut entries) = run_barriers(rt, alloc, stream, run)?;
+    let job = LastRun {
+        stream,
+        progress: &progress,
+        demand,
+        collector,
+    };
+    let tree = stream.tree(&progress);
+    let last = run_job(rt, alloc, tree, &job, run.workers, run.gate)?;
+    entries.push(last.entry)?;
+    Ok(Evaluated {
+        acc: last.acc,
+        entries,
+    })
+}

@@ -1,0 +1,23 @@
+//! Lazy streams that run in parallel.
+#![tactic(auto)]
+
+mod barred;
+mod evaluate;
+mod meets;
+mod part;
+mod places;
+mod run;
+mod settings;
+mod source;
+mod staged;
+mod stream;
+
+pub use barred::Barred;
+pub use part::{Gathered, Listed, Part};
+pub use run::{MapError, Run, StreamError};
+pub use source::{Source, of};
+pub use staged::Staged;
+pub use stream::Stream;
+
+#[cfg(test)]
+mod tests;

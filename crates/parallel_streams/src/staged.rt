@@ -1,0 +1,148 @@
+//! A stateless stage behind a stream.
+ghost use Rattle.std.specs.Prelude.{◌≡◌, flat_map, map};
+ghost use Rattle.parallel_streams.specs.LeafLaws.{joined-through, count-through};
+ghost use Rattle.stages.specs.Flags.{after};
+
+use crate::Stream;
+use barriers::{Demand, Need};
+use collectors::Collector;
+use leaf_board::Handout;
+use split_tree::Tree;
+use spliterator::NoMemory;
+use stages::{Stage, StreamFlags, Then};
+use std::alloc::Global;
+use stealing_pool::{LeafEnd, RunEntry};
+
+/// A stream's items through a stateless stage.
+#[derive(Drop)]
+pub struct Staged<U, A> {
+    pub upstream: U,
+    pub stage: A,
+}
+
+impl<U: Stream, A: Stage<In = U::Item>> Stream for Staged<U, A>
+where
+    A::Out: Clone,
+{
+    type Item = A::Out;
+
+    type Progress = U::Progress;
+
+    type Part = U::Part;
+
+    ghost ready = { λ s. U.ready s.upstream × A.ready s.stage };
+
+    ghost value = { λ s. flat_map (A.expand s.stage) (U.value s.upstream) };
+
+    ghost size = { λ s. A.size_after s.stage (U.size s.upstream) };
+
+    ghost told = { λ s. after (U.told s.upstream) (A.operation s.stage) };
+
+    ghost holds = { λ s. U.holds s.upstream };
+
+    ghost done = { λ s. U.done s.upstream };
+
+    ghost waiting = { λ s. U.waiting s.upstream };
+
+    ghost leaves_next = { λ s. U.leaves_next s.upstream };
+
+    ghost work = { λ s. U.work s.upstream };
+
+    ghost parts = { λ s p. map (flat_map (A.expand s.stage)) (U.parts s.upstream p) };
+
+    ghost reported = { λ s. U.reported s.upstream };
+
+    ghost told_so_far = { λ s. U.told_so_far s.upstream };
+
+    ghost flag_law = { λ s. A.flag_law s.stage (U.told s.upstream) (U.size s.upstream) (U.value s.upstream) (U.flag_law s.upstream) };
+
+    ghost work_law = { λ s. U.work_law s.upstream };
+
+    ghost reported_law = { λ s. U.reported_law s.upstream };
+
+    ghost parts_law = { λ s p held done. joined-through (A.expand s.stage) (U.parts s.upstream p) (U.value s.upstream) (U.parts_law s.upstream p held done) };
+
+    ghost parts_count = { λ s p done. count-through (A.expand s.stage) (U.parts s.upstream p) (U.leaves_next s.upstream p) (U.parts_count s.upstream p done) };
+
+    fn known_size(&self) -> Option<u64> {
+        self.stage.size_after(self.upstream.known_size())
+    }
+
+    fn flags(&self) -> StreamFlags {
+        self.upstream.flags().after(self.stage.operation())
+    }
+
+    fn start(&self, alloc: Global, workers: u32, target: u64) -> Result<U::Progress, NoMemory> {
+        self.upstream.start(alloc, workers, target)
+    }
+
+    fn is_gathered(&self, progress: &U::Progress) -> bool {
+        self.upstream.is_gathered(progress)
+    }
+
+    fn leaves(&self, progress: &U::Progress) -> usize {
+        self.upstream.leaves(progress)
+    }
+
+    fn tree<'p>(&self, progress: &'p U::Progress) -> &'p Tree {
+        self.upstream.tree(progress)
+    }
+
+    fn need(&self, progress: &U::Progress) -> Need {
+        self.upstream.need(progress)
+    }
+
+    fn run_leaf<L: Handout>(
+        &self,
+        alloc: Global,
+        progress: &U::Progress,
+        board: &L,
+        seat: &mut L::Seat,
+        leaf: usize,
+    ) -> Result<LeafEnd<U::Part>, NoMemory> {
+        self.upstream.run_leaf(alloc, progress, board, seat, leaf)
+    }
+
+    fn combine(
+        &self,
+        alloc: Global,
+        progress: &U::Progress,
+        kept: &mut U::Part,
+        following: U::Part,
+    ) -> Result<(), NoMemory> {
+        self.upstream.combine(alloc, progress, kept, following)
+    }
+
+    fn gather(
+        &self,
+        alloc: Global,
+        progress: U::Progress,
+        part: U::Part,
+        entry: &RunEntry,
+        workers: u32,
+        target: u64,
+    ) -> Result<U::Progress, NoMemory> {
+        self.upstream
+            .gather(alloc, progress, part, entry, workers, target)
+    }
+
+    fn run_last_leaf<
+        G: Stage<In = A::Out>,
+        D: Demand<G::Out>,
+        C: Collector<Item = G::Out>,
+        L: Handout,
+    >(
+        &self,
+        progress: &U::Progress,
+        stage: &G,
+        demand: &D,
+        collector: &C,
+        board: &L,
+        seat: &mut L::Seat,
+        leaf: usize,
+    ) -> Result<LeafEnd<C::Acc>, NoMemory> {
+        let fused = Then::new(&self.stage, stage);
+        self.upstream
+            .run_last_leaf(progress, &fused, demand, collector, board, seat, leaf)
+    }
+}

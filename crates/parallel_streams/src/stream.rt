@@ -1,0 +1,616 @@
+//! What a lazy stream is.
+ghost use Rattle.std.specs.Prelude.{◌≡◌, ◌<◌, ◌≤◌, ◌^◌, ◌++◌, ◌∷◌, [], ℕ, Bool, true, false, List, Option, None, not, pos, fold, option_map, IsSome, IsOk, IfOk, OnOk, flat_map, map, length, ⊤};
+ghost use Rattle.barriers.specs.Needs.{need_of, IsBelow};
+ghost use Rattle.leaf_board.specs.Statuses.{SameFrom, StaysSeat};
+ghost use Rattle.split_tree.specs.SplitTree.{leaf_numbers, numbers_from};
+ghost use Rattle.stages.specs.declared.flags.StreamFlags.{StreamFlags};
+ghost use Rattle.stages.specs.Flags.{IsSound};
+ghost use Rattle.stealing_pool.specs.Jobs.{Work, EndsLeaf, Combines, StandsForRun};
+ghost use Rattle.leaf_board.specs.Closing.{Outcome, count_of, cut_of};
+ghost use Rattle.stealing_pool.specs.Reports.{Reports};
+ghost use Rattle.stealing_pool.specs.Fronts.{joined, folding, work_of};
+ghost use Rattle.spliterator.specs.Clones.{ClonesAlike};
+ghost use Rattle.barriers.specs.Needs.{no_item};
+ghost use Rattle.stages.specs.Operators.{IsAssociative};
+ghost use Rattle.stages.specs.Wrapping.{wrapped};
+ghost use Rattle.collectors.specs.Reductions.{first, reduced};
+ghost use Rattle.collectors.specs.Grouping.{contents};
+ghost use Rattle.collectors.specs.StrictMaps.{IsFirstRepeat, IsStrictMap};
+ghost use Rattle.parallel_streams.specs.MapErrors.{MapAnswersUnder, IfDuplicate};
+ghost use Rattle.parallel_streams.specs.Progress.{EndsWith};
+ghost use Rattle.parallel_streams.specs.Reports.{IsReported};
+ghost use Rattle.parallel_streams.specs.Runs.{IsLawfulRun, AnswersUnder};
+ghost use Rattle.parallel_streams.specs.Terminals.{any_meets, all_meet, IsLeftIdentity};
+
+use crate::barred::Barred;
+use crate::evaluate::evaluate;
+use crate::meets::{Contrary, Meets};
+use crate::settings::allow;
+use crate::staged::Staged;
+use crate::{MapError, Run, StreamError};
+use barriers::{Demand, Distinct, DropWhile, FirstHit, Limit, Need, Skip, TakeWhile, Total, Whole};
+use collectors::{Collector, Counting, First, Reducing, ToMapStrict};
+use indexmap::IndexMap;
+use leaf_board::Handout;
+use split_tree::Tree;
+use spliterator::{NoMemory, OrderedValue};
+use stages::{Filter, FlatMap, ListValue, Map, Mapping, Operator, Stage, StreamFlags, Test};
+use std::alloc::Global;
+use std::hash::Hash;
+use std::marker::PhantomData;
+use std::thread::Threads;
+use stealing_pool::{Gate, LeafEnd, RunEntry, RunReport};
+
+/// A list of items that nobody has read yet: a source, and the operations that its items go through.
+///
+/// A stream with barriers runs once for each barrier and once for the terminal operation. Its methods are what one thread does; no
+/// caller needs them but the terminal operations, which start the threads.
+// java.util.stream.Stream
+pub trait Stream {
+    type Item: OrderedValue + Clone + Drop;
+
+    /// The lists that the barriers left so far, and how the next run's list is cut into leaves.
+    type Progress: Drop;
+
+    /// What is kept of leaves in a barrier's run.
+    type Part: Drop;
+
+    ghost ready: { Self → Type 0 } = { λ _. ⊤ };
+
+    // the contents of all the items, in encounter order
+    ghost value: { Self → List Self.Item.Content };
+
+    // the number of items, where it is known
+    ghost size: { Self → Option ℕ };
+
+    ghost told: { Self → StreamFlags };
+
+    // the progress is one of this stream's
+    ghost holds: { Self → Self.Progress → Type 0 };
+
+    // whether all barriers have run, and how many have not
+    ghost done: { Self → Self.Progress → Bool };
+
+    ghost waiting: { Self → Self.Progress → ℕ };
+
+    // the number of leaves of the next run
+    ghost leaves_next: { Self → Self.Progress → ℕ };
+
+    // what there is to do in the run of the next barrier
+    ghost work: { Self → Self.Progress → Work Self.Part };
+
+    // the lists of the leaves of the last run
+    ghost parts: { Self → Self.Progress → List (List Self.Item.Content) };
+
+    // the entries are those of the barriers' runs, in order; and those of the runs so far
+    ghost reported: { Self → List Outcome → Type 0 };
+
+    ghost told_so_far: { Self → Self.Progress → List Outcome → Type 0 };
+
+    /// The number of items, where it is known before any of them is read.
+    fn known_size(&self) -> Option<u64>
+        ensures { result ≡ size self.now };
+
+    /// What the stream tells of its items before any of them is read.
+    fn flags(&self) -> StreamFlags
+        ensures { result ≡ told self.now };
+
+    /// Nothing has run; the source is cut into leaves.
+    fn start(&self, alloc: Global, workers: u32, target: u64) -> Result<Self::Progress, NoMemory>
+        requires { IsLawfulRun workers target }
+        ensures holds { IfOk result (holds self.now) }
+        ensures entries { IfOk result (λ progress. told_so_far self.now progress []) };
+
+    /// Whether all barriers have run.
+    fn is_gathered(&self, progress: &Self::Progress) -> bool
+        ensures { result ≡ done self.now progress.now };
+
+    /// The number of leaves of the next run.
+    fn leaves(&self, progress: &Self::Progress) -> usize
+        ensures { result ≡ leaves_next self.now progress.now };
+
+    /// How the list of the next run is cut into leaves.
+    fn tree<'p>(&self, progress: &'p Self::Progress) -> &'p Tree
+        ensures numbered { leaf_numbers result.now ≡ numbers_from 0 (leaves_next self.now progress.now) }
+        ensures few { leaves_next self.now progress.now ≤ 65536 };
+
+    /// How much the next barrier needs.
+    fn need(&self, progress: &Self::Progress) -> Need
+        requires ready { ready self.now }
+        requires left { done self.now progress.now ≡ false }
+        ensures is { need_of result ≡ (work self.now progress.now).needed }
+        ensures fits { IsBelow (work self.now progress.now).needed (2 ^ 63) };
+
+    /// Runs a leaf of the next barrier's run.
+    fn run_leaf<L: Handout>(
+        &self,
+        alloc: Global,
+        progress: &Self::Progress,
+        board: &L,
+        seat: &mut L::Seat,
+        leaf: usize,
+    ) -> Result<LeafEnd<Self::Part>, NoMemory>
+        requires ready { ready self.now }
+        requires holds { holds self.now progress.now }
+        requires left { done self.now progress.now ≡ false }
+        requires board { L.leaves board.now ≡ (work self.now progress.now).leaves }
+        requires of { L.is_of board.now seat.old }
+        requires within { leaf < (work self.now progress.now).leaves }
+        ensures seat { StaysSeat (L.is_of board.now) L.number L.draws_left L.made_cut seat.old seat.new }
+        ensures same { SameFrom (L.status seat.old) (L.status seat.new) }
+        ensures end { IfOk result (EndsLeaf (work self.now progress.now) (L.cut seat.new) leaf) };
+
+    /// Takes what is kept of leaves of the next barrier's run into what is kept of those before.
+    fn combine(
+        &self,
+        alloc: Global,
+        progress: &Self::Progress,
+        kept: &mut Self::Part,
+        following: Self::Part,
+    ) -> Result<(), NoMemory>
+        ensures { OnOk result (Combines (work self.now progress.now) kept.old following kept.new) };
+
+    /// Gathers what the run of the next barrier kept into the barrier's list.
+    fn gather(
+        &self,
+        alloc: Global,
+        progress: Self::Progress,
+        part: Self::Part,
+        entry: &RunEntry,
+        workers: u32,
+        target: u64,
+    ) -> Result<Self::Progress, NoMemory>
+        requires ready { ready self.now }
+        requires settings { IsLawfulRun workers target }
+        requires holds { holds self.now progress }
+        requires left { done self.now progress ≡ false }
+        requires part { StandsForRun (work self.now progress) part }
+        requires entry { Reports (work self.now progress).needed (work self.now progress).leaves (work self.now progress).full entry.now.leaves (count_of entry.now) (cut_of entry.now) }
+        ensures holds { IfOk result (holds self.now) }
+        ensures entries { (entries : List Outcome) → told_so_far self.now progress entries → IfOk result (λ after. told_so_far self.now after (entries ++ entry.now ∷ [])) }
+        ensures fewer { IfOk result (λ after. waiting self.now after < waiting self.now progress) };
+
+    /// Runs a leaf of the last run, through a stage into a collector.
+    fn run_last_leaf<
+        G: Stage<In = Self::Item>,
+        D: Demand<G::Out>,
+        C: Collector<Item = G::Out>,
+        L: Handout,
+    >(
+        &self,
+        progress: &Self::Progress,
+        stage: &G,
+        demand: &D,
+        collector: &C,
+        board: &L,
+        seat: &mut L::Seat,
+        leaf: usize,
+    ) -> Result<LeafEnd<C::Acc>, NoMemory>
+        requires ready { ready self.now }
+        requires stage { G.ready stage.now }
+        requires demand { D.ready demand.now }
+        requires collector { C.ready collector.now }
+        requires holds { holds self.now progress.now }
+        requires done { done self.now progress.now ≡ true }
+        requires board { L.leaves board.now ≡ leaves_next self.now progress.now }
+        requires of { L.is_of board.now seat.old }
+        requires within { leaf < leaves_next self.now progress.now }
+        ensures seat { StaysSeat (L.is_of board.now) L.number L.draws_left L.made_cut seat.old seat.new }
+        ensures same { SameFrom (L.status seat.old) (L.status seat.new) }
+        ensures end { IfOk result (EndsLeaf (work_of (folding (D.needed demand.now) (D.counted demand.now) G.Out.is_value (C.empty collector.now) (C.add collector.now)) (C.content collector.now) (map (flat_map (G.expand stage.now)) (parts self.now progress.now))) (L.cut seat.new) leaf) };
+
+    // the flags and the known size are sound
+    ghost flag_law: { (s : Self) → IsSound Self.Item.order (told s) (size s) (value s) };
+
+    // the next barrier's run has the leaves that are told
+    ghost work_law: { (s : Self) (p : Self.Progress) → done s p ≡ false → (work s p).leaves ≡ leaves_next s p };
+
+    // once all barriers have run, all entries are there
+    ghost reported_law: { (s : Self) (p : Self.Progress) (entries : List Outcome) → done s p ≡ true → told_so_far s p entries → reported s entries };
+
+    // the lists of the last run's leaves are the stream's, cut
+    ghost parts_law: { (s : Self) (p : Self.Progress) → holds s p → done s p ≡ true → joined (parts s p) ≡ value s };
+
+    ghost parts_count: { (s : Self) (p : Self.Progress) → done s p ≡ true → length (parts s p) ≡ leaves_next s p };
+
+    /// The items through a stage.
+    final fn then<A: Stage<In = Self::Item>>(self, stage: A) -> Staged<Self, A>
+    where
+        Self: Sized,
+        ensures upstream { result.upstream ≡ self }
+        ensures stage { result.stage ≡ stage }
+    {
+        Staged {
+            upstream: self,
+            stage,
+        }
+    }
+
+    /// One image an item.
+    // java.util.stream.Stream, map
+    final fn map<M: Mapping<Self::Item>>(self, mapping: M) -> Staged<Self, Map<Self::Item, M>>
+    where
+        Self: Sized,
+        M::Out: OrderedValue + Drop,
+        ensures upstream { result.upstream ≡ self }
+        ensures stage { result.stage.mapping ≡ mapping }
+    {
+        Staged {
+            upstream: self,
+            stage: Map::new(mapping),
+        }
+    }
+
+    /// The items that meet a test.
+    // java.util.stream.Stream, filter
+    final fn filter<P: Test<Self::Item>>(self, test: P) -> Staged<Self, Filter<Self::Item, P>>
+    where
+        Self: Sized,
+        ensures upstream { result.upstream ≡ self }
+        ensures stage { result.stage.test ≡ test }
+    {
+        Staged {
+            upstream: self,
+            stage: Filter::new(test),
+        }
+    }
+
+    /// In the place of each item, the items of the list that the mapping makes of it.
+    // java.util.stream.Stream, flatMap
+    final fn flat_map<M: Mapping<Self::Item>>(
+        self,
+        mapping: M,
+    ) -> Staged<Self, FlatMap<Self::Item, M>>
+    where
+        Self: Sized,
+        M::Out: ListValue,
+        ensures upstream { result.upstream ≡ self }
+        ensures stage { result.stage.mapping ≡ mapping }
+    {
+        Staged {
+            upstream: self,
+            stage: FlatMap::new(mapping),
+        }
+    }
+
+    /// At most the first items: a number below 2^63.
+    // java.util.stream.Stream, limit
+    final fn limit(self, most: u64) -> Barred<Self, Limit>
+    where
+        Self: Sized,
+        requires clones { ClonesAlike Self.Item.is_clone Self.Item.content }
+        requires fits { most < 2 ^ 63 }
+        ensures upstream { result.upstream ≡ self }
+        ensures barrier { result.barrier.most ≡ most }
+    {
+        Barred::new(self, Limit::new(most))
+    }
+
+    /// The items after the first ones: a number below 2^63.
+    // java.util.stream.Stream, skip
+    final fn skip(self, number: u64) -> Barred<Self, Skip>
+    where
+        Self: Sized,
+        requires clones { ClonesAlike Self.Item.is_clone Self.Item.content }
+        requires fits { number < 2 ^ 63 }
+        ensures upstream { result.upstream ≡ self }
+        ensures barrier { result.barrier.number ≡ number }
+    {
+        Barred::new(self, Skip::new(number))
+    }
+
+    /// The longest front whose items all meet a test.
+    // java.util.stream.Stream, takeWhile
+    final fn take_while<P: Test<Self::Item>>(self, test: P) -> Barred<Self, TakeWhile<P>>
+    where
+        Self: Sized,
+        requires { ClonesAlike Self.Item.is_clone Self.Item.content }
+        ensures upstream { result.upstream ≡ self }
+        ensures barrier { result.barrier.test ≡ test }
+    {
+        Barred::new(self, TakeWhile::new(test))
+    }
+
+    /// What follows the longest front whose items all meet a test.
+    // java.util.stream.Stream, dropWhile
+    final fn drop_while<P: Test<Self::Item>>(self, test: P) -> Barred<Self, DropWhile<P>>
+    where
+        Self: Sized,
+        requires { ClonesAlike Self.Item.is_clone Self.Item.content }
+        ensures upstream { result.upstream ≡ self }
+        ensures barrier { result.barrier.test ≡ test }
+    {
+        Barred::new(self, DropWhile::new(test))
+    }
+
+    /// Of equal items the first, in the order of the items.
+    // java.util.stream.Stream, distinct
+    final fn distinct(self) -> Barred<Self, Distinct>
+    where
+        Self: Sized,
+        requires { ClonesAlike Self.Item.is_clone Self.Item.content }
+        ensures { result.upstream ≡ self }
+    {
+        Barred::new(self, Distinct)
+    }
+
+    /// The result of a collector on all the items.
+    // java.util.stream.Stream, collect
+    final fn collect<R: Threads + Sync, H: Gate + Sync, C: Collector<Item = Self::Item> + Sync>(
+        &self,
+        rt: &R,
+        alloc: Global,
+        run: &Run<'_, H>,
+        collector: &C,
+    ) -> Result<C::Out, StreamError>
+    where
+        Self: Sync,
+        Self::Item: Send + Sync,
+        Self::Progress: Send + Sync,
+        Self::Part: Send,
+        C::Acc: Send,
+        C::Out: Send,
+        requires stream { ready self.now }
+        requires collector { C.ready collector.now }
+        ensures settings { AnswersUnder run.now.workers run.now.target result }
+        ensures value { IfOk result (C.gives collector.now (value self.now)) }
+    {
+        allow(run.workers, run.target)?;
+        let ended = evaluate(rt, alloc, self, run, &Whole, collector)?;
+        Ok(collector.finish(ended.acc)?)
+    }
+
+    /// The result of a collector on all the items, and what each run tells of its leaves: one entry a barrier, and then the last
+    /// run's.
+    final fn collect_reported<
+        R: Threads + Sync,
+        H: Gate + Sync,
+        C: Collector<Item = Self::Item> + Sync,
+    >(
+        &self,
+        rt: &R,
+        alloc: Global,
+        run: &Run<'_, H>,
+        collector: &C,
+    ) -> Result<(C::Out, RunReport), StreamError>
+    where
+        Self: Sync,
+        Self::Item: Send + Sync,
+        Self::Progress: Send + Sync,
+        Self::Part: Send,
+        C::Acc: Send,
+        C::Out: Send,
+        requires stream { ready self.now }
+        requires collector { C.ready collector.now }
+        ensures settings { AnswersUnder run.now.workers run.now.target result }
+        ensures value { IfOk result (λ r. C.gives collector.now (value self.now) r.0) }
+        ensures report { IfOk result (λ r. EndsWith (reported self.now) (IsReported None no_item (value self.now) (λ l. l)) r.1) }
+    {
+        allow(run.workers, run.target)?;
+        let ended = evaluate(rt, alloc, self, run, &Whole, collector)?;
+        let value = collector.finish(ended.acc)?;
+        Ok((value, RunReport::of(ended.entries)))
+    }
+
+    /// The number of items, as an `i64` that wraps. Where it is known no leaf runs, and no memory is taken.
+    // java.util.stream.Stream, count
+    final fn count<R: Threads + Sync, H: Gate + Sync>(
+        &self,
+        rt: &R,
+        alloc: Global,
+        run: &Run<'_, H>,
+    ) -> Result<i64, StreamError>
+    where
+        Self: Sync,
+        Self::Item: Send + Sync,
+        Self::Progress: Send + Sync,
+        Self::Part: Send,
+        requires { ready self.now }
+        ensures settings { AnswersUnder run.now.workers run.now.target result }
+        ensures value { IfOk result (λ n. n ≡ wrapped (pos (length (value self.now)))) }
+        ensures known { IsSome (size self.now) → IsLawfulRun run.now.workers run.now.target → IsOk result }
+    {
+        allow(run.workers, run.target)?;
+        if let Some(size) = self.known_size() {
+            return Ok(size as i64);
+        }
+        let counting = Counting::new();
+        let ended = evaluate(rt, alloc, self, run, &Whole, &counting)?;
+        Ok(counting.finish(ended.acc)?)
+    }
+
+    /// The first item, or none. What follows it may stay unread.
+    // java.util.stream.Stream, findFirst
+    final fn find_first<R: Threads + Sync, H: Gate + Sync>(
+        &self,
+        rt: &R,
+        alloc: Global,
+        run: &Run<'_, H>,
+    ) -> Result<Option<Self::Item>, StreamError>
+    where
+        Self: Sync,
+        Self::Item: Send + Sync,
+        Self::Progress: Send + Sync,
+        Self::Part: Send,
+        requires stream { ready self.now }
+        requires clones { ClonesAlike Self.Item.is_clone Self.Item.content }
+        ensures settings { AnswersUnder run.now.workers run.now.target result }
+        ensures value { IfOk result (λ found. option_map Self.Item.content found ≡ first (value self.now)) }
+    {
+        allow(run.workers, run.target)?;
+        let first = First::new();
+        let ended = evaluate(rt, alloc, self, run, &Total::new(1), &first)?;
+        Ok(first.finish(ended.acc)?)
+    }
+
+    /// Whether some item meets the test. What follows the first one may stay unread.
+    // java.util.stream.Stream, anyMatch
+    final fn any_match<R: Threads + Sync, H: Gate + Sync, P: Test<Self::Item> + Sync>(
+        &self,
+        rt: &R,
+        alloc: Global,
+        run: &Run<'_, H>,
+        test: &P,
+    ) -> Result<bool, StreamError>
+    where
+        Self: Sync,
+        Self::Item: Send + Sync,
+        Self::Progress: Send + Sync,
+        Self::Part: Send,
+        requires stream { ready self.now }
+        requires test { P.ready test.now }
+        ensures settings { AnswersUnder run.now.workers run.now.target result }
+        ensures value { IfOk result (λ met. met ≡ any_meets (P.holds test.now) (value self.now)) }
+    {
+        allow(run.workers, run.target)?;
+        let meets = Meets {
+            test,
+            items: PhantomData,
+        };
+        let ended = evaluate(rt, alloc, self, run, &FirstHit::new(test), &meets)?;
+        Ok(meets.finish(ended.acc)?)
+    }
+
+    /// Whether every item meets the test, as where there is no item. What follows one that does not may stay unread.
+    // java.util.stream.Stream, allMatch
+    final fn all_match<R: Threads + Sync, H: Gate + Sync, P: Test<Self::Item> + Sync>(
+        &self,
+        rt: &R,
+        alloc: Global,
+        run: &Run<'_, H>,
+        test: &P,
+    ) -> Result<bool, StreamError>
+    where
+        Self: Sync,
+        Self::Item: Send + Sync,
+        Self::Progress: Send + Sync,
+        Self::Part: Send,
+        requires stream { ready self.now }
+        requires test { P.ready test.now }
+        ensures settings { AnswersUnder run.now.workers run.now.target result }
+        ensures value { IfOk result (λ met. met ≡ all_meet (P.holds test.now) (value self.now)) }
+    {
+        let contrary = Contrary { test };
+        Ok(!self.any_match(rt, alloc, run, &contrary)?)
+    }
+
+    /// Whether no item meets the test. What follows one that does may stay unread.
+    // java.util.stream.Stream, noneMatch
+    final fn none_match<R: Threads + Sync, H: Gate + Sync, P: Test<Self::Item> + Sync>(
+        &self,
+        rt: &R,
+        alloc: Global,
+        run: &Run<'_, H>,
+        test: &P,
+    ) -> Result<bool, StreamError>
+    where
+        Self: Sync,
+        Self::Item: Send + Sync,
+        Self::Progress: Send + Sync,
+        Self::Part: Send,
+        requires stream { ready self.now }
+        requires test { P.ready test.now }
+        ensures settings { AnswersUnder run.now.workers run.now.target result }
+        ensures value { IfOk result (λ met. met ≡ not (any_meets (P.holds test.now) (value self.now))) }
+    {
+        Ok(!self.any_match(rt, alloc, run, test)?)
+    }
+
+    /// The items joined by an associative operator, from the first one on, or none where there is no item.
+    // java.util.stream.Stream, reduce (accumulator alone)
+    final fn reduce_optional<R: Threads + Sync, H: Gate + Sync, O: Operator<Self::Item> + Sync>(
+        &self,
+        rt: &R,
+        alloc: Global,
+        run: &Run<'_, H>,
+        operator: &O,
+    ) -> Result<Option<Self::Item>, StreamError>
+    where
+        Self: Sync,
+        Self::Item: Send + Sync,
+        Self::Progress: Send + Sync,
+        Self::Part: Send,
+        requires stream { ready self.now }
+        requires operator { O.ready operator.now }
+        requires clones { ClonesAlike Self.Item.is_clone Self.Item.content }
+        requires associative { IsAssociative Self.Item.is_value (O.join operator.now) }
+        ensures settings { AnswersUnder run.now.workers run.now.target result }
+        ensures value { IfOk result (λ joined. option_map Self.Item.content joined ≡ reduced (O.join operator.now) (value self.now)) }
+    {
+        allow(run.workers, run.target)?;
+        let reducing = Reducing::new(operator);
+        let ended = evaluate(rt, alloc, self, run, &Whole, &reducing)?;
+        Ok(reducing.finish(ended.acc)?)
+    }
+
+    /// The items joined by an associative operator, from the identity on. The identity is one on the left: joined before any value
+    /// it gives that value.
+    // java.util.stream.Stream, reduce (identity and accumulator)
+    final fn reduce<R: Threads + Sync, H: Gate + Sync, O: Operator<Self::Item> + Sync>(
+        &self,
+        rt: &R,
+        alloc: Global,
+        run: &Run<'_, H>,
+        identity: Self::Item,
+        operator: &O,
+    ) -> Result<Self::Item, StreamError>
+    where
+        Self: Sync,
+        Self::Item: Send + Sync,
+        Self::Progress: Send + Sync,
+        Self::Part: Send,
+        requires stream { ready self.now }
+        requires operator { O.ready operator.now }
+        requires clones { ClonesAlike Self.Item.is_clone Self.Item.content }
+        requires associative { IsAssociative Self.Item.is_value (O.join operator.now) }
+        requires identity { IsLeftIdentity Self.Item.is_value (O.join operator.now) (Self.Item.content identity) }
+        ensures settings { AnswersUnder run.now.workers run.now.target result }
+        ensures value { IfOk result (λ joined. Self.Item.content joined ≡ fold (O.join operator.now) (Self.Item.content identity) (value self.now)) }
+    {
+        allow(run.workers, run.target)?;
+        let reducing = Reducing::new(operator);
+        let ended = evaluate(rt, alloc, self, run, &Whole, &reducing)?;
+        match reducing.finish(ended.acc)? {
+            Some(joined) => Ok(joined),
+            None => Ok(identity),
+        }
+    }
+
+    /// A map from each item's key to its value, in the order of the items. Where a key repeats there is no map, and the error names
+    /// the key of the earliest item whose key came before.
+    // java.util.stream.Collectors, toMap (with no merge function)
+    final fn to_map_strict<
+        R: Threads + Sync,
+        H: Gate + Sync,
+        K: Mapping<Self::Item> + Sync,
+        V: Mapping<Self::Item> + Sync,
+    >(
+        &self,
+        rt: &R,
+        alloc: Global,
+        run: &Run<'_, H>,
+        key_of: &K,
+        value_of: &V,
+    ) -> Result<IndexMap<K::Out, V::Out>, MapError<K::Out>>
+    where
+        Self: Sync,
+        Self::Item: Send + Sync,
+        Self::Progress: Send + Sync,
+        Self::Part: Send,
+        K::Out: Hash + Drop + Send,
+        V::Out: Drop + Send,
+        requires stream { ready self.now }
+        requires keys { K.ready key_of.now }
+        requires values { V.ready value_of.now }
+        ensures settings { MapAnswersUnder run.now.workers run.now.target result }
+        ensures map { IfOk result (λ m. IsStrictMap K.Out.same (K.image key_of.now) (V.image value_of.now) (value self.now) (contents K.Out.content V.Out.content m.entries)) }
+        ensures duplicate { IfDuplicate result (λ k. IsFirstRepeat K.Out.same (map (K.image key_of.now) (value self.now)) (K.Out.content k)) }
+    {
+        let strict = ToMapStrict::new(alloc, key_of, value_of);
+        match self.collect(rt, alloc, run, &strict) {
+            Ok(Ok(entries)) => Ok(entries),
+            Ok(Err(repeated)) => Err(MapError::DuplicateKey(repeated.key)),
+            Err(error) => Err(MapError::from(error)),
+        }
+    }
+}
