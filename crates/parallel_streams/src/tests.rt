@@ -2,12 +2,21 @@
 
 mod functions;
 mod gates;
+mod groups;
+mod held;
 mod matches;
-mod own;
+mod own_collector;
+mod own_functions;
+mod own_source;
+mod own_stage;
+mod refusals;
 mod reports;
 mod rows;
 mod settings;
 mod sizes;
+mod strict;
+mod texts;
+mod words;
 
 /// The numbers of workers that each row runs with.
 const WORKERS: [u32; 4] = [1, 2, 7, 64];
