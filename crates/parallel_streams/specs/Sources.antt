@@ -15,9 +15,9 @@ source_size told estimate = if tells told SIZED then Some estimate else None
 abbrev pub source_flags : ℕ → StreamFlags
 source_flags told = flags_of told
 
--- a source has no barrier
-abbrev pub no_work : {P : Type 0} → Work P
-no_work = record { leaves = 0; full = λ i. 0; needed = None; Keeps = λ from to count part. ⊥ }
+-- a source has no barrier: nothing is kept of its leaves
+abbrev pub idle_work : {P : Type 0} → ℕ → Work P
+idle_work n = record { leaves = n; full = λ i. 0; needed = None; Keeps = λ from to count part. count ≡ 0 }
 
 exact : {C : Type 0} (estimate : ℕ) (items : List C) (b : Bool) → (IsTrue b → estimate ≡ length items) → (if b then Some estimate else None) ≡ (if b then Some (length items) else None)
 exact estimate items true h = ap Some (h refl)

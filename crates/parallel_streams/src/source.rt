@@ -1,5 +1,5 @@
 //! A stream over a source.
-ghost use Rattle.std.specs.Prelude.{◌≡◌, ⊤, true, map, length, flat_map, [], None, IfOk};
+ghost use Rattle.std.specs.Prelude.{◌≡◌, ⊤, true, map, length, flat_map, [], None, IfOk, refl};
 
 use crate::Stream;
 use barriers::{Demand, Need};
@@ -9,7 +9,7 @@ use split_tree::{Plan, PlanError, Tree};
 use spliterator::{NoMemory, Spliterator};
 use stages::{Stage, StreamFlags};
 use std::alloc::Global;
-use stealing_pool::{LeafEnd, RunEntry, run_leaf};
+use stealing_pool::{LeafEnd, Portion, RunEntry, run_leaf};
 
 /// The items of a source.
 #[derive(Drop)]
@@ -34,7 +34,7 @@ where
     S::Item: Clone,
 {
     ghost use Rattle.split_tree.specs.Plan.{leaves_of};
-    ghost use Rattle.parallel_streams.specs.Sources.{source_size, source_flags, no_work, IsSound-source};
+    ghost use Rattle.parallel_streams.specs.Sources.{source_size, source_flags, idle_work, IsSound-source};
     ghost use Rattle.parallel_streams.specs.LeafLaws.{joined-leaves, count-leaves};
 
     type Item = S::Item;
@@ -57,7 +57,7 @@ where
 
     ghost leaves_next = { λ _ p. length (leaves_of p) };
 
-    ghost work = { λ _ _. no_work };
+    ghost work = { λ _ p. idle_work (length (leaves_of p)) };
 
     ghost parts = { λ _ p. map S.items (leaves_of p) };
 
@@ -67,7 +67,7 @@ where
 
     ghost flag_law = { λ s. IsSound-source S.Item.order (S.told s.split) (S.estimate s.split) (S.items s.split) (S.size_law s.split) (S.flag_law s.split) };
 
-    ghost work_law = { λ s p h. Prim.search };
+    ghost work_law = { λ s p h. refl };
 
     ghost reported_law = { λ s p entries done told. told };
 
@@ -105,8 +105,9 @@ where
         plan.tree()
     }
 
+    // No barrier needs anything, no leaf is run for one, and there is nothing to gather.
     fn need(&self, _plan: &Plan<S>) -> Need {
-        unreachable!()
+        Need::Never
     }
 
     fn run_leaf<L: Handout>(
@@ -117,7 +118,7 @@ where
         _seat: &mut L::Seat,
         _leaf: usize,
     ) -> Result<LeafEnd<()>, NoMemory> {
-        unreachable!()
+        Ok(LeafEnd::Done(Portion { count: 0, kept: () }))
     }
 
     fn combine(
@@ -133,13 +134,13 @@ where
     fn gather(
         &self,
         _alloc: Global,
-        _plan: Plan<S>,
+        plan: Plan<S>,
         _part: (),
         _entry: &RunEntry,
         _workers: u32,
         _target: u64,
     ) -> Result<Plan<S>, NoMemory> {
-        unreachable!()
+        Ok(plan)
     }
 
     fn run_last_leaf<

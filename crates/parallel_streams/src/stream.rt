@@ -76,7 +76,7 @@ pub trait Stream {
     // the number of leaves of the next run
     ghost leaves_next: { Self → Self.Progress → ℕ };
 
-    // what there is to do in the run of the next barrier
+    // what there is to do in the run of the next barrier; once all have run, of the last one again. A source has no barrier, and keeps nothing of its leaves.
     ghost work: { Self → Self.Progress → Work Self.Part };
 
     // the lists of the leaves of the last run
@@ -116,8 +116,7 @@ pub trait Stream {
 
     /// How much the next barrier needs.
     fn need(&self, progress: &Self::Progress) -> Need
-        requires ready { ready self.now }
-        requires left { done self.now progress.now ≡ false }
+        requires { ready self.now }
         ensures is { need_of result ≡ (work self.now progress.now).needed }
         ensures fits { IsBelow (work self.now progress.now).needed (2 ^ 63) };
 
@@ -132,7 +131,6 @@ pub trait Stream {
     ) -> Result<LeafEnd<Self::Part>, NoMemory>
         requires ready { ready self.now }
         requires holds { holds self.now progress.now }
-        requires left { done self.now progress.now ≡ false }
         requires board { L.leaves board.now ≡ (work self.now progress.now).leaves }
         requires of { L.is_of board.now seat.old }
         requires within { leaf < (work self.now progress.now).leaves }
@@ -163,12 +161,11 @@ pub trait Stream {
         requires ready { ready self.now }
         requires settings { IsLawfulRun workers target }
         requires holds { holds self.now progress }
-        requires left { done self.now progress ≡ false }
         requires part { StandsForRun (work self.now progress) part }
         requires entry { Reports (work self.now progress).needed (work self.now progress).leaves (work self.now progress).full entry.now.leaves (count_of entry.now) (cut_of entry.now) }
         ensures holds { IfOk result (holds self.now) }
-        ensures entries { (entries : List Outcome) → told_so_far self.now progress entries → IfOk result (λ after. told_so_far self.now after (entries ++ entry.now ∷ [])) }
-        ensures fewer { IfOk result (λ after. waiting self.now after < waiting self.now progress) };
+        ensures entries { done self.now progress ≡ false → (entries : List Outcome) → told_so_far self.now progress entries → IfOk result (λ after. told_so_far self.now after (entries ++ entry.now ∷ [])) }
+        ensures fewer { done self.now progress ≡ false → IfOk result (λ after. waiting self.now after < waiting self.now progress) };
 
     /// Runs a leaf of the last run, through a stage into a collector.
     fn run_last_leaf<

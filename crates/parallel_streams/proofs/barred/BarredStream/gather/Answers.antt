@@ -19,7 +19,7 @@ returns-clause-holds g c =
     (held.0, made.1)
 
 pub returns-clause-entries : goal.returns-clause-entries
-returns-clause-entries g c = λ entries told.
+returns-clause-entries g c = λ left entries told.
     let s = c.args.self.now in
     let U = g.U.Stream in
     let p = c.args.progress.before in
@@ -28,5 +28,5 @@ returns-clause-entries g c = λ entries told.
     let made = gathered-own (U.work s.upstream p) g.U.Item.Value.is_value (g.B.Demand.needed s.barrier) (g.B.Demand.counted s.barrier) (g.B.Barrier.value s.barrier) (g.met.B.Barrier.enough_law s.barrier)
     g.U.Item.Value.content (U.value s.upstream) (U.parts s.upstream p) (U.done s.upstream p) (g.met.U.Stream.parts_law s.upstream p held.0) c.args.part c.in-Own.items c.in_ok-items-in-Own.items c.in_ok-places-in-Own.places c.args.entry.now c.in-Own.is c.requires.part c.requires.entry c.in_ok-items-in-Own.ensures (subst Q c.as_slice.ensures.value c.in_ok-places-in-Own.ensures) in
     let Reported = IsReported (g.B.Demand.needed s.barrier) (g.B.Demand.counted s.barrier) (U.value s.upstream) (g.B.Barrier.value s.barrier) in
-    let before = told-before (U.told_so_far s.upstream p) (EndsWith (U.reported s.upstream) Reported) c.args.progress.listed entries c.requires.left told in
+    let before = told-before (U.told_so_far s.upstream p) (EndsWith (U.reported s.upstream) Reported) c.args.progress.listed entries left told in
     (entries, c.args.entry.now, refl, g.met.U.Stream.reported_law s.upstream p entries made.0 before, made.2)
