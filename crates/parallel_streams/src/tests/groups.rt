@@ -17,7 +17,7 @@ use std::thread::Threads;
 use stealing_pool::NoGate;
 
 /// Checks the entries of a map, in their order.
-fn check_entries<V: PartialEq>(rt: &impl Abort, found: &IndexMap<i64, V>, expected: &[(i64, V)]) {
+pub fn check_entries<V: PartialEq>(rt: &impl Abort, found: &IndexMap<i64, V>, expected: &[(i64, V)]) {
     assert_eq!(rt; found.len(), expected.len());
     for ((key, value), entry) in found.iter().zip(expected) {
         assert_eq!(rt; *key, entry.0);
@@ -129,8 +129,8 @@ fn single_values<R: Threads + Abort + Alloc<A = Global> + Sync>(
 
 #[test]
 fn groups_at_each_number_of_workers(rt: HostRuntime) -> Result<(), Fail> {
-    for workers in WORKERS {
-        for target in TARGETS {
+    for target in TARGETS {
+        for workers in WORKERS {
             let run = Run {
                 workers,
                 target,

@@ -29,8 +29,8 @@ fn matches_of<R: Threads + Abort + Alloc<A = Global> + Sync>(
 
 #[test]
 fn matches_at_each_number_of_workers(rt: HostRuntime) -> Result<(), Fail> {
-    for workers in WORKERS {
-        for target in TARGETS {
+    for target in TARGETS {
+        for workers in WORKERS {
             let run = Run {
                 workers,
                 target,

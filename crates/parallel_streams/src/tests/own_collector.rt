@@ -61,8 +61,8 @@ fn count_and_sum<
 
 #[test]
 fn a_collector_of_the_callers_own(rt: HostRuntime) -> Result<(), Fail> {
-    for workers in WORKERS {
-        for target in TARGETS {
+    for target in TARGETS {
+        for workers in WORKERS {
             let run = Run {
                 workers,
                 target,

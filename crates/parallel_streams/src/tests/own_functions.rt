@@ -69,8 +69,8 @@ fn total<R: Threads + Alloc<A = Global> + Sync>(
 
 #[test]
 fn functions_of_the_callers_own(rt: HostRuntime) -> Result<(), Fail> {
-    for workers in WORKERS {
-        for target in TARGETS {
+    for target in TARGETS {
+        for workers in WORKERS {
             let run = Run {
                 workers,
                 target,

@@ -66,8 +66,8 @@ fn a_source_of_the_callers_own(rt: HostRuntime) -> Result<(), Fail> {
     let alloc = rt.alloc();
     let sevens = of(Again { number: 7, left: 3 });
     assert_eq!(rt; sevens.known_size(), None);
-    for workers in WORKERS {
-        for target in TARGETS {
+    for target in TARGETS {
+        for workers in WORKERS {
             let run = Run {
                 workers,
                 target,

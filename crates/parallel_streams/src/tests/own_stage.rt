@@ -49,8 +49,8 @@ impl Stage for WithNext {
 #[test]
 fn a_stage_of_the_callers_own(rt: HostRuntime) -> Result<(), Fail> {
     let alloc = rt.alloc();
-    for workers in WORKERS {
-        for target in TARGETS {
+    for target in TARGETS {
+        for workers in WORKERS {
             let run = Run {
                 workers,
                 target,

@@ -44,8 +44,8 @@ fn counts_of_known_sizes<R: Threads + Abort + Alloc<A = Global> + Sync>(
 #[test]
 fn a_count_of_a_known_size_runs_no_leaf(rt: HostRuntime) -> Result<(), Fail> {
     let gate = Counts::new();
-    for workers in WORKERS {
-        for target in TARGETS {
+    for target in TARGETS {
+        for workers in WORKERS {
             let run = Run {
                 workers,
                 target,

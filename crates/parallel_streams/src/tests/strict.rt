@@ -1,6 +1,7 @@
 //! Maps with no merge function.
 
 use super::functions::{Itself, Plus};
+use super::groups::check_entries;
 use super::words::{Length, Text};
 use super::{TARGETS, WORKERS};
 use crate::{MapError, Run, Stream, of};
@@ -44,18 +45,18 @@ fn maps<R: Threads + Abort + Alloc<A = Global> + Sync>(
 ) -> Result<(), Fail> {
     let alloc = rt.alloc();
     let next = of(RangeSplit::range(3, 5)?).to_map_strict(rt, alloc, run, &Itself, &Plus(1))?;
-    assert!(rt; next.iter().eq([(&3, &4), (&4, &5)]));
+    check_entries(rt, &next, &[(3, 4), (4, 5)]);
     let none = of(RangeSplit::range(5, 5)?).to_map_strict(rt, alloc, run, &Itself, &Itself)?;
     assert!(rt; none.is_empty());
     let lines = of(LinesSplit::new("ab\nc\n")).to_map_strict(rt, alloc, run, &Length, &Text)?;
-    assert!(rt; lines.iter().eq([(&2, &"ab"), (&1, &"c")]));
+    check_entries(rt, &lines, &[(2, "ab"), (1, "c")]);
     Ok(())
 }
 
 #[test]
 fn strict_maps_at_each_number_of_workers(rt: HostRuntime) -> Result<(), Fail> {
-    for workers in WORKERS {
-        for target in TARGETS {
+    for target in TARGETS {
+        for workers in WORKERS {
             let run = Run {
                 workers,
                 target,

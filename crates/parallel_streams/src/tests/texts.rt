@@ -1,6 +1,7 @@
 //! Streams of texts.
 
 use super::functions::Itself;
+use super::groups::check_entries;
 use super::words::{Length, Words};
 use super::{TARGETS, WORKERS};
 use crate::{Run, Stream, of};
@@ -49,14 +50,14 @@ fn by_length<R: Threads + Abort + Alloc<A = Global> + Sync>(
     let lengths = MappingTo::<&str, _, _>::new(Length, SummingLong::new(Itself));
     let sums = GroupingBy::new(alloc, Length, lengths);
     let found = of(LinesSplit::new("a b\nc\na\n")).collect(rt, alloc, run, &sums)?;
-    assert!(rt; found.iter().eq([(&3, &3), (&1, &2)]));
+    check_entries(rt, &found, &[(3, 3), (1, 2)]);
     Ok(())
 }
 
 #[test]
 fn texts_at_each_number_of_workers(rt: HostRuntime) -> Result<(), Fail> {
-    for workers in WORKERS {
-        for target in TARGETS {
+    for target in TARGETS {
+        for workers in WORKERS {
             let run = Run {
                 workers,
                 target,
