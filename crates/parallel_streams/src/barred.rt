@@ -1,6 +1,6 @@
 //! A barrier behind a stream.
 ghost use Rattle.std.specs.Prelude.{◌≡◌, List, [], map};
-ghost use Rattle.spliterator.specs.Clones.{ClonesAlike, TestsClonesAlike};
+ghost use Rattle.spliterator.specs.Clones.{ClonesAlike};
 ghost use Rattle.collectors.specs.NestedLaws.{push};
 ghost use Rattle.stealing_pool.specs.Fronts.{folding, work_of};
 ghost use Rattle.parallel_streams.specs.Reports.{IsReported};
@@ -19,23 +19,13 @@ use stages::{Nothing, Stage, StreamFlags};
 use std::alloc::Global;
 use stealing_pool::{LeafEnd, RunEntry, run_leaf};
 
-/// A stream's items through a barrier.
+/// A stream's items through a barrier. A clone of an item must have the item's content: that is part of what the stream relies on.
+///
+/// The type asks nothing of the stream before it, since a bound here would bind that stream's lifetimes in every call of a stream that borrows.
 #[derive(Drop)]
-pub struct Barred<U: Stream, B> {
+pub struct Barred<U, B> {
     pub upstream: U,
     pub barrier: B,
-    ghost clones_alike: { TestsClonesAlike U.Item.same U.Item.is_clone U.Item.content },
-}
-
-impl<U: Stream, B> Barred<U, B> {
-    /// A clone of an item must have the item's content.
-    pub fn new(upstream: U, barrier: B) -> Barred<U, B>
-        requires { ClonesAlike U.Item.is_clone U.Item.content }
-        ensures upstream { result.upstream ≡ upstream }
-        ensures barrier { result.barrier ≡ barrier }
-    {
-        Barred { upstream, barrier }
-    }
 }
 
 impl<U: Stream, B: Barrier<U::Item>> Stream for Barred<U, B> {
@@ -48,7 +38,7 @@ impl<U: Stream, B: Barrier<U::Item>> Stream for Barred<U, B> {
 
     type Part = Part<U::Part, U::Item>;
 
-    ghost ready = { λ s. U.ready s.upstream × B.Demand.ready s.barrier };
+    ghost ready = { λ s. U.ready s.upstream × B.Demand.ready s.barrier × ClonesAlike U.Item.is_clone U.Item.content };
 
     ghost value = { λ s. B.value s.barrier (U.value s.upstream) };
 

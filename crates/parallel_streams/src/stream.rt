@@ -55,6 +55,7 @@ pub trait Stream {
     /// What is kept of leaves in a barrier's run.
     type Part: Drop;
 
+    // what the methods rely on: stored closures meet their definitions, and behind a barrier an item's clone has its content
     ghost ready: { Self → Type 0 } = { λ _. ⊤ };
 
     // the contents of all the items, in encounter order
@@ -146,6 +147,7 @@ pub trait Stream {
         kept: &mut Self::Part,
         following: Self::Part,
     ) -> Result<(), NoMemory>
+        requires { ready self.now }
         ensures { OnOk result (Combines (work self.now progress.now) kept.old following kept.new) };
 
     /// Gathers what the run of the next barrier kept into the barrier's list.
@@ -275,12 +277,14 @@ pub trait Stream {
     final fn limit(self, most: u64) -> Barred<Self, Limit>
     where
         Self: Sized,
-        requires clones { ClonesAlike Self.Item.is_clone Self.Item.content }
-        requires fits { most < 2 ^ 63 }
+        requires { most < 2 ^ 63 }
         ensures upstream { result.upstream ≡ self }
         ensures barrier { result.barrier.most ≡ most }
     {
-        Barred::new(self, Limit::new(most))
+        Barred {
+            upstream: self,
+            barrier: Limit::new(most),
+        }
     }
 
     /// The items after the first ones: a number below 2^63.
@@ -288,12 +292,14 @@ pub trait Stream {
     final fn skip(self, number: u64) -> Barred<Self, Skip>
     where
         Self: Sized,
-        requires clones { ClonesAlike Self.Item.is_clone Self.Item.content }
-        requires fits { number < 2 ^ 63 }
+        requires { number < 2 ^ 63 }
         ensures upstream { result.upstream ≡ self }
         ensures barrier { result.barrier.number ≡ number }
     {
-        Barred::new(self, Skip::new(number))
+        Barred {
+            upstream: self,
+            barrier: Skip::new(number),
+        }
     }
 
     /// The longest front whose items all meet a test.
@@ -301,11 +307,13 @@ pub trait Stream {
     final fn take_while<P: Test<Self::Item>>(self, test: P) -> Barred<Self, TakeWhile<P>>
     where
         Self: Sized,
-        requires { ClonesAlike Self.Item.is_clone Self.Item.content }
         ensures upstream { result.upstream ≡ self }
         ensures barrier { result.barrier.test ≡ test }
     {
-        Barred::new(self, TakeWhile::new(test))
+        Barred {
+            upstream: self,
+            barrier: TakeWhile::new(test),
+        }
     }
 
     /// What follows the longest front whose items all meet a test.
@@ -313,11 +321,13 @@ pub trait Stream {
     final fn drop_while<P: Test<Self::Item>>(self, test: P) -> Barred<Self, DropWhile<P>>
     where
         Self: Sized,
-        requires { ClonesAlike Self.Item.is_clone Self.Item.content }
         ensures upstream { result.upstream ≡ self }
         ensures barrier { result.barrier.test ≡ test }
     {
-        Barred::new(self, DropWhile::new(test))
+        Barred {
+            upstream: self,
+            barrier: DropWhile::new(test),
+        }
     }
 
     /// Of equal items the first, in the order of the items.
@@ -325,10 +335,12 @@ pub trait Stream {
     final fn distinct(self) -> Barred<Self, Distinct>
     where
         Self: Sized,
-        requires { ClonesAlike Self.Item.is_clone Self.Item.content }
         ensures { result.upstream ≡ self }
     {
-        Barred::new(self, Distinct)
+        Barred {
+            upstream: self,
+            barrier: Distinct,
+        }
     }
 
     /// The result of a collector on all the items.
