@@ -4,7 +4,8 @@
     checks/refused_tests.py CRATE..
 
 The crate's tests have to be built before (`rt test` in its folder). Memory is refused by a small library of this folder, built by
-`rustc` and loaded before the C library. Of each test the first 200 requests are refused, one a run.
+`rustc` and loaded before the C library. The requests are refused one a run, the first, the second, and so on, until a run meets none;
+of a test with more than 1,000 requests the first 1,000.
 """
 
 import os
@@ -15,7 +16,7 @@ import sys
 CHECKS = pathlib.Path(__file__).resolve().parent
 CRATES = CHECKS.parent / "crates"
 BUILT = CHECKS / "out"
-REQUESTS = 200
+REQUESTS = 1000
 WANTS = ("NoMemory", "AllocError", "AllocFailed")
 
 
@@ -28,10 +29,14 @@ def library():
     return built
 
 
-def run(program, test, environment):
-    """The status of one test, and what it wrote of its failure."""
-    done = subprocess.run([program, test], capture_output=True, text=True, env=dict(os.environ) | environment, timeout=60)
-    return done.returncode, done.stdout + done.stderr
+def run(program, test, **environment):
+    """The status of one test, what it wrote of its failure, and whether a request for memory was refused."""
+    told, told_on = os.pipe()
+    environment = dict(os.environ) | environment | {"REFUSAL_TOLD_ON": str(told_on)}
+    done = subprocess.run([program, test], capture_output=True, text=True, env=environment, pass_fds=[told_on], timeout=60)
+    os.close(told_on)
+    with open(told, "rb") as refusals:
+        return done.returncode, done.stdout + done.stderr, refusals.read() != b""
 
 
 def is_want_of_memory(text):
@@ -41,15 +46,18 @@ def is_want_of_memory(text):
 
 
 def findings(program, test, refusing):
-    """Each refusal that a test answers by anything but its result or a want of memory."""
-    status, text = run(program, test, {})
+    """The number of requests that were refused, and each refusal that the test answers by anything but its result or a want of memory."""
+    status, text, _ = run(program, test)
     if status != 0:
-        yield f"{test}: fails with ample memory: {text.strip()}"
-        return
+        return 0, [f"{test}: fails with ample memory: {text.strip()}"]
+    found = []
     for number in range(1, REQUESTS + 1):
-        status, text = run(program, test, {"LD_PRELOAD": str(refusing), "REFUSED_REQUEST": str(number)})
+        status, text, refused = run(program, test, LD_PRELOAD=str(refusing), REFUSED_REQUEST=str(number))
         if status != 0 and not is_want_of_memory(text):
-            yield f"{test}: request {number} refused: {text.strip()}"
+            found.append(f"{test}: request {number} refused: {text.strip()}")
+        if not refused:
+            return number - 1, found
+    return REQUESTS, found
 
 
 def main():
@@ -60,10 +68,9 @@ def main():
         listed = subprocess.run([program, "--list"], capture_output=True, text=True, check=True).stdout
         tests = [line.removesuffix(": test") for line in listed.splitlines() if line.endswith(": test")]
         for test in tests:
-            for finding in findings(program, test, refusing):
-                count += 1
-                print(finding)
-        print(f"{crate}: {len(tests)} tests, each of {REQUESTS} requests refused in turn")
+            requests, found = findings(program, test, refusing)
+            count += len(found)
+            print(f"{crate} {test}: {requests} requests refused in turn", *found, sep="\n")
     sys.exit(count > 0)
 
 

@@ -3,15 +3,25 @@
 mod borrowed;
 mod functions;
 mod gates;
+mod groups;
+mod held;
 mod matches;
-mod own;
+mod own_collector;
+mod own_functions;
+mod own_source;
+mod own_stage;
+mod refusals;
 mod reports;
 mod rows;
 mod settings;
 mod sizes;
+mod strict;
+mod texts;
+mod words;
 
-/// The numbers of workers that each row runs with.
-const WORKERS: [u32; 4] = [1, 2, 7, 64];
-
-/// The targets: a leaf an item, and the default.
+/// The targets that each row runs at: a leaf an item, and the default.
 const TARGETS: [u64; 2] = [1, 0];
+
+/// The numbers of workers that each row runs with at each target. The first two are those at which each request for memory is refused in
+/// turn (checks/refused_tests.py).
+const WORKERS: [u32; 4] = [1, 7, 2, 64];

@@ -1,9 +1,9 @@
-//! Matches and strict maps.
+//! Matches.
 
-use super::functions::{Below, Itself, Plus};
+use super::functions::Below;
 use super::{TARGETS, WORKERS};
-use crate::{MapError, Run, Stream, of};
-use sources::{RangeSplit, SliceSplit};
+use crate::{Run, Stream, of};
+use sources::RangeSplit;
 use std::alloc::Global;
 use std::process::Abort;
 use std::test::Fail;
@@ -27,36 +27,16 @@ fn matches_of<R: Threads + Abort + Alloc<A = Global> + Sync>(
     Ok(())
 }
 
-fn maps<R: Threads + Abort + Alloc<A = Global> + Sync>(
-    rt: &R,
-    run: &Run<'_, NoGate>,
-) -> Result<(), Fail> {
-    let alloc = rt.alloc();
-    let repeated = of(SliceSplit::new(&[1, 2, 2, 1])).to_map_strict(
-        rt, alloc, run, &Itself, &Itself,
-    );
-    assert!(rt; matches!(repeated, Err(MapError::DuplicateKey(2))));
-    let next = of(RangeSplit::range(3, 5)?).to_map_strict(rt, alloc, run, &Itself, &Plus(1));
-    let Ok(next) = next else {
-        assert!(rt; false);
-        return Ok(());
-    };
-    assert_eq!(rt; next.len(), 2);
-    assert_eq!(rt; next.get(&3).copied(), Some(4));
-    Ok(())
-}
-
 #[test]
 fn matches_at_each_number_of_workers(rt: HostRuntime) -> Result<(), Fail> {
-    for workers in WORKERS {
-        for target in TARGETS {
+    for target in TARGETS {
+        for workers in WORKERS {
             let run = Run {
                 workers,
                 target,
                 gate: &NoGate,
             };
             matches_of(&rt, &run)?;
-            maps(&rt, &run)?;
         }
     }
     Ok(())

@@ -1,23 +1,25 @@
 //! What reports say: counts, cuts and skipped leaves.
 
-use super::functions::{Above, Below, Plus};
-use super::gates::HoldsFirst;
+use super::functions::{Below, Plus};
 use crate::{Run, Stream, of};
 use collectors::ToList;
 use sources::RangeSplit;
-use std::sync::atomic::Ordering;
+use spliterator::NoMemory;
+use std::alloc::Global;
 use std::test::Fail;
 use stealing_pool::{NoGate, RunEntry};
 
-/// How many of an entry's leaves were skipped.
-fn skipped(entry: &RunEntry) -> usize {
-    let mut number: usize = 0;
+/// The count of each leaf of an entry, or nothing where it was skipped.
+pub fn counts(alloc: Global, entry: &RunEntry) -> Result<Vec<Option<u64>>, NoMemory> {
+    let mut counts = Vec::new(alloc);
     for leaf in 0..entry.leaves() {
-        if entry.was_skipped(leaf) {
-            number = number.wrapping_add(1);
-        }
+        counts.push(if entry.was_skipped(leaf) {
+            None
+        } else {
+            entry.count(leaf)
+        })?;
     }
-    number
+    Ok(counts)
 }
 
 #[test]
@@ -33,20 +35,13 @@ fn a_limit_cuts_where_it_has_enough(rt: HostRuntime) -> Result<(), Fail> {
         .collect_reported(&rt, alloc, &run, &ToList::new(alloc))?;
     assert_eq!(rt; items.as_slice(), [0, 1, 2].as_slice());
     let [first, last] = report.entries() else {
-        assert!(rt; false);
-        return Ok(());
+        return Err("two runs have two entries".into());
     };
-    assert_eq!(rt; first.leaves(), 4);
+    let first_counts = [Some(2), Some(3), None, None];
+    assert_eq!(rt; counts(alloc, first)?.as_slice(), first_counts.as_slice());
     assert_eq!(rt; first.cut(), Some(1));
-    let counts = [Some(2), Some(3), None, None];
-    for leaf in 0..first.leaves() {
-        if leaf < counts.len() {
-            assert_eq!(rt; first.count(leaf), counts[leaf]);
-        }
-    }
-    assert_eq!(rt; last.leaves(), 1);
+    assert_eq!(rt; counts(alloc, last)?.as_slice(), [Some(0)].as_slice());
     assert_eq!(rt; last.cut(), None);
-    assert_eq!(rt; skipped(last), 0);
     Ok(())
 }
 
@@ -63,38 +58,44 @@ fn a_take_while_cuts_at_its_first_failure(rt: HostRuntime) -> Result<(), Fail> {
         .collect_reported(&rt, alloc, &run, &ToList::new(alloc))?;
     assert_eq!(rt; items.as_slice(), [0, 1, 2].as_slice());
     let [first, last] = report.entries() else {
-        assert!(rt; false);
-        return Ok(());
+        return Err("two runs have two entries".into());
     };
-    assert_eq!(rt; first.leaves(), 16);
+    let mut first_counts = [None; 16];
+    first_counts[0] = Some(1);
+    assert_eq!(rt; counts(alloc, first)?.as_slice(), first_counts.as_slice());
     assert_eq!(rt; first.cut(), Some(0));
-    assert_eq!(rt; skipped(first), 15);
-    assert_eq!(rt; last.leaves(), 1);
+    assert_eq!(rt; counts(alloc, last)?.as_slice(), [Some(0)].as_slice());
+    assert_eq!(rt; last.cut(), None);
     Ok(())
 }
 
+// One entry a barrier, and one for the terminal operation. A barrier whose items all count for nothing cuts nowhere.
 #[test]
-fn a_held_first_leaf(rt: HostRuntime) -> Result<(), Fail> {
+fn each_barrier_has_an_entry(rt: HostRuntime) -> Result<(), Fail> {
     let alloc = rt.alloc();
-    let gate = HoldsFirst::new();
     let run = Run {
-        workers: 2,
-        target: 1000,
-        gate: &gate,
+        workers: 1,
+        target: 1,
+        gate: &NoGate,
     };
-    let (items, report) = of(RangeSplit::range(0, 1_000_000)?)
-        .map(Plus(3))
-        .filter(Above(100))
+    let (items, report) = of(RangeSplit::range(4, 7)?)
+        .skip(1)
         .limit(1)
+        .map(Plus(1))
         .collect_reported(&rt, alloc, &run, &ToList::new(alloc))?;
-    assert_eq!(rt; items.as_slice(), [101].as_slice());
-    assert_eq!(rt; gate.missed.load(Ordering::SeqCst), 0);
-    let [first, _last] = report.entries() else {
-        assert!(rt; false);
-        return Ok(());
+    assert_eq!(rt; items.as_slice(), [6].as_slice());
+    let [skip, limit, last] = report.entries() else {
+        return Err("three runs have three entries".into());
     };
-    assert_eq!(rt; first.leaves(), 1024);
-    assert_eq!(rt; first.cut(), Some(0));
-    assert_eq!(rt; skipped(first), 1021);
+    let none = [Some(0), Some(0), Some(0)];
+    assert_eq!(rt; counts(alloc, skip)?.as_slice(), none.as_slice());
+    assert_eq!(rt; skip.cut(), None);
+    assert_eq!(rt;
+        counts(alloc, limit)?.as_slice(),
+        [Some(1), None].as_slice()
+    );
+    assert_eq!(rt; limit.cut(), Some(0));
+    assert_eq!(rt; counts(alloc, last)?.as_slice(), [Some(0)].as_slice());
+    assert_eq!(rt; last.cut(), None);
     Ok(())
 }
