@@ -1,10 +1,10 @@
 #!/usr/bin/env python3
-"""Refuses each request for memory of a crate's tests in turn: a test has to pass still, or to end in a want of memory.
+"""Refuses each request for memory and each thread of a crate's tests in turn: a test has to pass still, or to end in a want of memory.
 
     checks/refused_tests.py CRATE..
 
 The crate's tests have to be built before (`rt test` in its folder). Memory is refused by a small library of this folder, built by
-`rustc` and loaded before the C library. Of each test the first 200 requests are refused, one a run.
+`rustc` and loaded before the C library. Of each test the first 200 requests are refused, one a run, and the first 16 threads.
 """
 
 import os
@@ -15,7 +15,7 @@ import sys
 CHECKS = pathlib.Path(__file__).resolve().parent
 CRATES = CHECKS.parent / "crates"
 BUILT = CHECKS / "out"
-REQUESTS = 200
+REFUSALS = {"REFUSED_REQUEST": 200, "REFUSED_THREAD": 16}
 WANTS = ("NoMemory", "AllocError", "AllocFailed")
 
 
@@ -46,10 +46,11 @@ def findings(program, test, refusing):
     if status != 0:
         yield f"{test}: fails with ample memory: {text.strip()}"
         return
-    for number in range(1, REQUESTS + 1):
-        status, text = run(program, test, {"LD_PRELOAD": str(refusing), "REFUSED_REQUEST": str(number)})
-        if status != 0 and not is_want_of_memory(text):
-            yield f"{test}: request {number} refused: {text.strip()}"
+    for kind, most in REFUSALS.items():
+        for number in range(1, most + 1):
+            status, text = run(program, test, {"LD_PRELOAD": str(refusing), kind: str(number)})
+            if status != 0 and not is_want_of_memory(text):
+                yield f"{test}: {kind} {number}: {text.strip()}"
 
 
 def main():
@@ -63,7 +64,7 @@ def main():
             for finding in findings(program, test, refusing):
                 count += 1
                 print(finding)
-        print(f"{crate}: {len(tests)} tests, each of {REQUESTS} requests refused in turn")
+        print(f"{crate}: {len(tests)} tests, each of {REFUSALS['REFUSED_REQUEST']} requests and {REFUSALS['REFUSED_THREAD']} threads refused in turn")
     sys.exit(count > 0)
 
 

@@ -1,5 +1,6 @@
 //! A leaf's items go to a sink, a stretch at a time.
-ghost use Rattle.std.specs.Prelude.{◌<◌, flat_map, length, MatchBool, OnOk, IfOk};
+ghost use Rattle.std.specs.Prelude.{◌≡◌, ◌<◌, flat_map, length, MatchBool, OnOk, IfOk};
+ghost use Rattle.stealing_pool.specs.declared.stretch.TheConstants.{STRETCH};
 ghost use Rattle.leaf_board.specs.Statuses.{SameFrom, StaysSeat};
 
 use leaf_board::Handout;
@@ -7,7 +8,19 @@ use spliterator::{NoMemory, Spliterator};
 use stages::{Sink, Stage};
 
 /// The source items between two questions whether the leaf was cut.
-const STRETCH: u32 = 1024;
+const STRETCH: u64 = 1024;
+
+/// How many source items to read before the next question: a stretch, or all that are left where these are known to be fewer.
+///
+/// Where the number is known beforehand, the loop that reads has one number to keep.
+fn stretch_of<S: Spliterator>(source: &S) -> u64
+    ensures rest { result < STRETCH → result ≡ length (S.items source.now) }
+{
+    match source.exact_size() {
+        Some(left) if left < STRETCH => left,
+        _ => STRETCH,
+    }
+}
 
 /// Feeds a stretch of what the source covers to a sink. Says whether more may make a difference.
 fn feed_stretch<S: Spliterator, G: Stage<In = S::Item>, K: Sink<G::Out>>(
@@ -23,7 +36,8 @@ fn feed_stretch<S: Spliterator, G: Stage<In = S::Item>, K: Sink<G::Out>>(
     ensures ready { OnOk result (K.ready sink.new) }
     ensures more { IfOk result (λ more. MatchBool more (length (S.items source.new) < length (S.items source.old)) (K.takes sink.new (flat_map (G.expand stage.now) (S.items source.new)) sink.new)) }
 {
-    for _read in 0..STRETCH {
+    let wanted = stretch_of(source);
+    for _read in 0..wanted {
         if sink.is_full() {
             return Ok(false);
         }
@@ -31,6 +45,9 @@ fn feed_stretch<S: Spliterator, G: Stage<In = S::Item>, K: Sink<G::Out>>(
             return Ok(false);
         };
         stage.feed(x, sink)?;
+    }
+    if wanted < STRETCH {
+        return Ok(false);
     }
     Ok(true)
 }
