@@ -377,6 +377,19 @@ fn one_worker_meets_no_refusal_right_of_what_is_wanted(rt: HostRuntime) -> Resul
         &NoGate,
     )?;
     assert_eq!(rt; found.acc, Some(0));
+    // All ten stand in one leaf, which reads none behind the item that is enough.
+    let one_leaf = plan_of(alloc, 10, 1, 16)?;
+    let found = run_leaves(
+        &rt,
+        alloc,
+        &one_leaf,
+        &stage,
+        &Total::new(1),
+        &First::new(),
+        1,
+        &NoGate,
+    )?;
+    assert_eq!(rt; found.acc, Some(0));
     let whole = run_leaves(
         &rt,
         alloc,
