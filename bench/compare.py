@@ -1,7 +1,7 @@
 #!/usr/bin/env python3
 """Compares the least times of each case: ours beside each peer's.
 
-    bench/compare.py OURS NAME=PEER.. [--at-most RATIO CASE..].. [--beside-first]
+    bench/compare.py OURS NAME=PEER.. [--at-most RATIO CASE..].. [--beside-one-worker]
 
 OURS and each PEER are files of lines `CASE NANOSECONDS VALUE..`, a line a reading. All readings of a case have to give one value, in
 every file. A peer may lack a case. Status 1: a case cost more than the ratio that it may.
@@ -44,11 +44,13 @@ def above(ours, values, name, peer, limit):
     return number
 
 
-def beside_first(ours):
-    """Tells how much faster each case is than the first one."""
-    first, *others = ours
-    for case in others:
-        print(f"{case}: {ours[first] / ours[case]:.2f} times as fast as {first}")
+def beside_one_worker(ours):
+    """Tells how much faster each case `WORK-WORKERSxITEMS` is than the same work of one worker."""
+    for case in ours:
+        work, workers = case.split("x")[0].rsplit("-", 1)
+        alone = f"{work}-1x{case.split('x', 1)[1]}"
+        if workers != "1" and alone in ours:
+            print(f"{case}: {ours[alone] / ours[case]:.2f} times as fast as {alone}")
 
 
 def main():
@@ -56,13 +58,13 @@ def main():
     parser.add_argument("ours")
     parser.add_argument("peers", nargs="+", metavar="NAME=PEER")
     parser.add_argument("--at-most", nargs="+", action="append", default=[], metavar="RATIO CASE")
-    parser.add_argument("--beside-first", action="store_true", help="tell how much faster each case is than the first")
+    parser.add_argument("--beside-one-worker", action="store_true", help="tell how much faster each case is than one worker")
     options = parser.parse_args()
     ours, values = least(options.ours)
     peers = [peer.split("=", 1) for peer in options.peers]
     number = sum(above(ours, values, name, path, limits(options)) for name, path in peers)
-    if options.beside_first:
-        beside_first(ours)
+    if options.beside_one_worker:
+        beside_one_worker(ours)
     sys.exit(number > 0)
 
 

@@ -1,11 +1,11 @@
 #!/usr/bin/env python3
-"""Refuses each request for memory of a crate's tests in turn: a test has to pass still, or to end in a want of memory.
+"""Refuses each request for memory of a crate's tests in turn, and each start of a thread: a test has to pass still, or to end in a want of memory.
 
     checks/refused_tests.py CRATE..
 
 The crate's tests have to be built before (`rt test` in its folder). Memory is refused by a small library of this folder, built by
 `rustc` and loaded before the C library. The requests are refused one a run, the first, the second, and so on, until a run meets none;
-of a test with more than 1,000 requests the first 1,000.
+of a test with more than 1,000 requests the first 1,000, and of the starts of threads the first 64.
 """
 
 import os
@@ -16,7 +16,7 @@ import sys
 CHECKS = pathlib.Path(__file__).resolve().parent
 CRATES = CHECKS.parent / "crates"
 BUILT = CHECKS / "out"
-REQUESTS = 1000
+REFUSALS = {"REFUSED_REQUEST": 1000, "REFUSED_THREAD": 64}
 WANTS = ("NoMemory", "AllocError", "AllocFailed")
 
 
@@ -30,7 +30,7 @@ def library():
 
 
 def run(program, test, **environment):
-    """The status of one test, what it wrote of its failure, and whether a request for memory was refused."""
+    """The status of one test, what it wrote of its failure, and whether a request was refused."""
     told, told_on = os.pipe()
     environment = dict(os.environ) | environment | {"REFUSAL_TOLD_ON": str(told_on)}
     done = subprocess.run([program, test], capture_output=True, text=True, env=environment, pass_fds=[told_on], timeout=60)
@@ -46,18 +46,21 @@ def is_want_of_memory(text):
 
 
 def findings(program, test, refusing):
-    """The number of requests that were refused, and each refusal that the test answers by anything but its result or a want of memory."""
+    """How many requests of each kind were refused, and each refusal that the test answers by anything but its result or a want of memory."""
     status, text, _ = run(program, test)
     if status != 0:
-        return 0, [f"{test}: fails with ample memory: {text.strip()}"]
-    found = []
-    for number in range(1, REQUESTS + 1):
-        status, text, refused = run(program, test, LD_PRELOAD=str(refusing), REFUSED_REQUEST=str(number))
-        if status != 0 and not is_want_of_memory(text):
-            found.append(f"{test}: request {number} refused: {text.strip()}")
-        if not refused:
-            return number - 1, found
-    return REQUESTS, found
+        return {}, [f"{test}: fails with ample memory: {text.strip()}"]
+    counts, found = {}, []
+    for kind, most in REFUSALS.items():
+        counts[kind] = most
+        for number in range(1, most + 1):
+            status, text, refused = run(program, test, **{"LD_PRELOAD": str(refusing), kind: str(number)})
+            if status != 0 and not is_want_of_memory(text):
+                found.append(f"{test}: {kind} {number}: {text.strip()}")
+            if not refused:
+                counts[kind] = number - 1
+                break
+    return counts, found
 
 
 def main():
@@ -68,9 +71,9 @@ def main():
         listed = subprocess.run([program, "--list"], capture_output=True, text=True, check=True).stdout
         tests = [line.removesuffix(": test") for line in listed.splitlines() if line.endswith(": test")]
         for test in tests:
-            requests, found = findings(program, test, refusing)
+            counts, found = findings(program, test, refusing)
             count += len(found)
-            print(f"{crate} {test}: {requests} requests refused in turn", *found, sep="\n")
+            print(f"{crate} {test}: refused in turn {counts}", *found, sep="\n")
     sys.exit(count > 0)
 
 

@@ -12,6 +12,6 @@ def seconds(words, given):
 
 ours, peer = [], []
 for _ in range(40):
-    ours.append(seconds([sys.argv[1]], b"4 10\n"))
+    ours.append(seconds([sys.argv[1]], b"sum 4 10\n"))
     peer.append(seconds([sys.argv[2]], b""))
 print(f"the whole process on ten numbers: {min(ours) / min(peer):.2f} times a program that starts and joins four threads")

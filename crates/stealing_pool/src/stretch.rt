@@ -7,7 +7,82 @@ use spliterator::{NoMemory, Spliterator};
 use stages::{Sink, Stage};
 
 /// The source items between two questions whether the leaf was cut.
-const STRETCH: u32 = 1024;
+const STRETCH: u64 = 1024;
+
+/// Feeds one of the source's items to a sink. Says whether it did: nothing is left, or no item makes a difference any more.
+fn feed_one<S: Spliterator, G: Stage<In = S::Item>, K: Sink<G::Out>>(
+    stage: &G,
+    source: &mut S,
+    sink: &mut K,
+) -> Result<bool, NoMemory>
+    requires stage { G.ready stage.now }
+    requires sink { K.ready sink.old }
+    ensures taken { OnOk result ((end : K)
+        → K.takes sink.new (flat_map (G.expand stage.now) (S.items source.new)) end
+        → K.takes sink.old (flat_map (G.expand stage.now) (S.items source.old)) end) }
+    ensures ready { OnOk result (K.ready sink.new) }
+    ensures more { IfOk result (λ more. MatchBool more (length (S.items source.new) < length (S.items source.old)) (K.takes sink.new (flat_map (G.expand stage.now) (S.items source.new)) sink.new)) }
+{
+    if sink.is_full() {
+        return Ok(false);
+    }
+    let Some(x) = source.try_advance()? else {
+        return Ok(false);
+    };
+    stage.feed(x, sink)?;
+    Ok(true)
+}
+
+/// Feeds a stretch of a source that can't tell how many items are left. Says whether more may make a difference.
+fn feed_uncounted<S: Spliterator, G: Stage<In = S::Item>, K: Sink<G::Out>>(
+    stage: &G,
+    source: &mut S,
+    sink: &mut K,
+) -> Result<bool, NoMemory>
+    requires stage { G.ready stage.now }
+    requires sink { K.ready sink.old }
+    ensures taken { OnOk result ((end : K)
+        → K.takes sink.new (flat_map (G.expand stage.now) (S.items source.new)) end
+        → K.takes sink.old (flat_map (G.expand stage.now) (S.items source.old)) end) }
+    ensures ready { OnOk result (K.ready sink.new) }
+    ensures more { IfOk result (λ more. MatchBool more (length (S.items source.new) < length (S.items source.old)) (K.takes sink.new (flat_map (G.expand stage.now) (S.items source.new)) sink.new)) }
+{
+    for _read in 0..STRETCH {
+        if !feed_one(stage, source, sink)? {
+            return Ok(false);
+        }
+    }
+    Ok(true)
+}
+
+/// Feeds a source's items to a sink until it tells that no more than so many are left. Says whether more may make a difference.
+///
+/// The loop keeps one number, the source's own, and that there is a next item follows from it.
+fn feed_counted<S: Spliterator, G: Stage<In = S::Item>, K: Sink<G::Out>>(
+    stage: &G,
+    source: &mut S,
+    sink: &mut K,
+    rest: u64,
+) -> Result<bool, NoMemory>
+    requires stage { G.ready stage.now }
+    requires sink { K.ready sink.old }
+    ensures taken { OnOk result ((end : K)
+        → K.takes sink.new (flat_map (G.expand stage.now) (S.items source.new)) end
+        → K.takes sink.old (flat_map (G.expand stage.now) (S.items source.old)) end) }
+    ensures ready { OnOk result (K.ready sink.new) }
+    ensures more { IfOk result (λ more. MatchBool more (length (S.items source.new) < length (S.items source.old)) (K.takes sink.new (flat_map (G.expand stage.now) (S.items source.new)) sink.new)) }
+{
+    'reading: loop {
+        if !feed_one(stage, source, sink)? {
+            return Ok(false);
+        }
+        match source.exact_size() {
+            Some(left) if rest < left => {}
+            Some(0) => return Ok(false),
+            _ => return Ok(true),
+        }
+    }
+}
 
 /// Feeds a stretch of what the source covers to a sink. Says whether more may make a difference.
 fn feed_stretch<S: Spliterator, G: Stage<In = S::Item>, K: Sink<G::Out>>(
@@ -23,16 +98,11 @@ fn feed_stretch<S: Spliterator, G: Stage<In = S::Item>, K: Sink<G::Out>>(
     ensures ready { OnOk result (K.ready sink.new) }
     ensures more { IfOk result (λ more. MatchBool more (length (S.items source.new) < length (S.items source.old)) (K.takes sink.new (flat_map (G.expand stage.now) (S.items source.new)) sink.new)) }
 {
-    for _read in 0..STRETCH {
-        if sink.is_full() {
-            return Ok(false);
-        }
-        let Some(x) = source.try_advance()? else {
-            return Ok(false);
-        };
-        stage.feed(x, sink)?;
+    match source.exact_size() {
+        Some(0) => Ok(false),
+        Some(left) => feed_counted(stage, source, sink, left.saturating_sub(STRETCH)),
+        None => feed_uncounted(stage, source, sink),
     }
-    Ok(true)
 }
 
 /// Feeds what the source covers to a sink, until no more makes a difference, or the leaf is cut. Says whether it wasn't cut.

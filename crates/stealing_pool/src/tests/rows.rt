@@ -3,14 +3,14 @@ ghost use Rattle.std.specs.Prelude.{◌≤◌};
 
 use super::gates::{FirstWithin, HoldsFirst, Meeting, SecondFirst};
 use super::plan_of;
-use super::watched::{Above, Itself, MeetingLists, RefusesAt, Watched};
+use super::watched::{Above, Itself, MeetingLists, RefusesAt, Times, Watched};
 use crate::{NoGate, RunReport, run_leaves};
 use barriers::{FirstHit, Total, Whole};
 use collectors::{Counting, First, SummingLong, ToList};
 use sources::RangeSplit;
 use split_tree::Plan;
 use spliterator::NoMemory;
-use stages::{Filter, Map, Nothing};
+use stages::{Filter, Map, Nothing, Then};
 use std::alloc::Global;
 use std::sync::atomic::{AtomicU64, Ordering};
 use std::test::Fail;
@@ -25,17 +25,17 @@ fn all_came(missed: &AtomicU64) -> Result<(), NoMemory> {
     }
 }
 
-/// The sum of the numbers from 0 up to an end.
+/// The sum of the numbers of a range.
 fn sum<R: Threads + Sync>(
     rt: &R,
     alloc: Global,
-    end: i64,
+    range: RangeSplit,
     workers: u32,
     target: u64,
 ) -> Result<i64, Fail>
     requires { (1 ≤ workers) × (workers ≤ 64) }
 {
-    let plan = plan_of(alloc, end, workers, target)?;
+    let plan = Plan::make(alloc, range, workers, target)?;
     let collector = SummingLong::new(Itself);
     let run = run_leaves(
         rt,
@@ -50,15 +50,47 @@ fn sum<R: Threads + Sync>(
     Ok(run.acc)
 }
 
+/// Whether so many workers find this sum, at a target of 1 and at the default.
+fn find_sum<R: Threads + Sync>(
+    rt: &R,
+    alloc: Global,
+    range: RangeSplit,
+    workers: u32,
+    wanted: i64,
+) -> Result<bool, Fail>
+    requires { (1 ≤ workers) × (workers ≤ 64) }
+{
+    let apart = sum(rt, alloc, range, workers, 1)?;
+    let by_default = sum(rt, alloc, range, workers, 0)?;
+    Ok(apart == wanted && by_default == wanted)
+}
+
+/// Whether 1, 2, 7 and 64 workers all find this sum.
+fn all_find_sum<R: Threads + Sync>(
+    rt: &R,
+    alloc: Global,
+    range: RangeSplit,
+    wanted: i64,
+) -> Result<bool, Fail> {
+    let few = find_sum(rt, alloc, range, 1, wanted)? && find_sum(rt, alloc, range, 2, wanted)?;
+    let many = find_sum(rt, alloc, range, 7, wanted)? && find_sum(rt, alloc, range, 64, wanted)?;
+    Ok(few && many)
+}
+
 #[test]
-fn sums_and_counts_are_those_of_one_thread(rt: HostRuntime) -> Result<(), Fail> {
+fn sums_are_those_of_one_thread(rt: HostRuntime) -> Result<(), Fail> {
     let alloc = rt.alloc();
-    assert_eq!(rt; sum(&rt, alloc, 100, 1, 1)?, 4950);
-    assert_eq!(rt; sum(&rt, alloc, 100, 2, 1)?, 4950);
-    assert_eq!(rt; sum(&rt, alloc, 100, 7, 1)?, 4950);
-    assert_eq!(rt; sum(&rt, alloc, 100, 64, 1)?, 4950);
-    assert_eq!(rt; sum(&rt, alloc, 100, 7, 0)?, 4950);
-    assert_eq!(rt; sum(&rt, alloc, 0, 7, 1)?, 0);
+    assert!(rt; all_find_sum(&rt, alloc, RangeSplit::range(1, 6)?, 15)?);
+    assert!(rt; all_find_sum(&rt, alloc, RangeSplit::range(5, 5)?, 0)?);
+    let greatest = RangeSplit::closed(9_223_372_036_854_775_806, 9_223_372_036_854_775_807)?;
+    assert!(rt; all_find_sum(&rt, alloc, greatest, -3)?);
+    assert!(rt; all_find_sum(&rt, alloc, RangeSplit::range(0, 100)?, 4950)?);
+    Ok(())
+}
+
+#[test]
+fn a_count_is_that_of_one_thread(rt: HostRuntime) -> Result<(), Fail> {
+    let alloc = rt.alloc();
     let plan = plan_of(alloc, 100_000, 4, 0)?;
     let run = run_leaves(
         &rt,
@@ -79,7 +111,8 @@ fn sums_and_counts_are_those_of_one_thread(rt: HostRuntime) -> Result<(), Fail> 
 
 #[test]
 fn sixty_four_workers_share_one_item(rt: HostRuntime) -> Result<(), Fail> {
-    assert_eq!(rt; sum(&rt, rt.alloc(), 1, 64, 1)?, 0);
+    let one = RangeSplit::range(7, 8)?;
+    assert_eq!(rt; sum(&rt, rt.alloc(), one, 64, 1)?, 7);
     let plan = plan_of(rt.alloc(), 1, 64, 1)?;
     let run = run_leaves(
         &rt,
@@ -302,7 +335,10 @@ fn the_first_of_a_million_is_found(rt: HostRuntime) -> Result<(), Fail> {
     let alloc = rt.alloc();
     let plan = plan_of(alloc, 1_000_000, 2, 1000)?;
     let gate = SecondFirst::new();
-    let stage = Filter::new(Above { limit: 33 });
+    let stage = Then::new(
+        Map::new(Times { factor: 3 }),
+        Filter::new(Above { limit: 100 }),
+    );
     let run = run_leaves(
         &rt,
         alloc,
@@ -314,7 +350,7 @@ fn the_first_of_a_million_is_found(rt: HostRuntime) -> Result<(), Fail> {
         &gate,
     )?;
     all_came(&gate.missed)?;
-    assert_eq!(rt; run.acc.as_slice(), [34].as_slice());
+    assert_eq!(rt; run.acc.as_slice(), [102].as_slice());
     let leaves = run.entry.leaves();
     assert_eq!(rt; leaves, 1024);
     assert_eq!(rt; run.entry.cut(), Some(0));
@@ -334,6 +370,19 @@ fn one_worker_meets_no_refusal_right_of_what_is_wanted(rt: HostRuntime) -> Resul
         &rt,
         alloc,
         &plan,
+        &stage,
+        &Total::new(1),
+        &First::new(),
+        1,
+        &NoGate,
+    )?;
+    assert_eq!(rt; found.acc, Some(0));
+    // All ten stand in one leaf, which reads none behind the item that is enough.
+    let one_leaf = plan_of(alloc, 10, 1, 16)?;
+    let found = run_leaves(
+        &rt,
+        alloc,
+        &one_leaf,
         &stage,
         &Total::new(1),
         &First::new(),

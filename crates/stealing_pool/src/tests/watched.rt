@@ -1,7 +1,8 @@
 //! Functions of stages and collectors that tests watch.
-ghost use Rattle.std.specs.Prelude.{◌≡◌, ℤ, List, [], ◌++◌, int_lt, pos};
+ghost use Rattle.std.specs.Prelude.{◌≡◌, ◌*ℤ◌, ℤ, List, [], ◌++◌, int_lt, pos};
 ghost use Rattle.collectors.specs.NestedLaws.{push, list_laws};
 ghost use Rattle.spliterator.specs.Values.{IsI64};
+ghost use Rattle.stages.specs.Wrapping.{wrapped, wrapped-value};
 
 use super::gates::wait_for;
 use collectors::Collector;
@@ -23,6 +24,24 @@ impl Mapping<i64> for Itself {
 
     fn image(&self, x: &i64) -> Result<i64, NoMemory> {
         Ok(*x)
+    }
+}
+
+/// A multiple of each number.
+#[derive(Drop)]
+pub struct Times {
+    pub factor: i64,
+}
+
+impl Mapping<i64> for Times {
+    type Out = i64;
+
+    ghost image = { λ m x. wrapped (x *ℤ m.factor) };
+
+    ghost images_are_values = { λ m x h. wrapped-value (x *ℤ m.factor) };
+
+    fn image(&self, x: &i64) -> Result<i64, NoMemory> {
+        Ok(x.wrapping_mul(self.factor))
     }
 }
 
