@@ -22,14 +22,28 @@ pub data Condition : Type 0 where
   Starts : List ℕ → Condition
   Longer : ℕ → Condition
 
+-- what is made of items at once
+pub data Base : Type 0 where
+  CountItems : Base
+  SumItems : Base
+  Greatest : Base
+  Least : Base
+  FirstItem : Base
+  ItemList : Base
+  Joined : List ℕ → Base
+
+-- what is made of them inside another collector: at once, of their values, or of those that pass
+pub data Inner : Type 0 where
+  InnerBase : Base → Inner
+  InnerMapped : Function → Base → Inner
+  InnerFiltered : Condition → Base → Inner
+
+-- what is made of them: at once, of their values, of those that pass, or of those of each key
 pub data Summary : Type 0 where
-  CountItems : Summary
-  SumItems : Summary
-  Greatest : Summary
-  Least : Summary
-  FirstItem : Summary
-  ItemList : Summary
-  Joined : List ℕ → Summary
+  OfBase : Base → Summary
+  Mapped : Function → Inner → Summary
+  Filtered : Condition → Inner → Summary
+  Grouped : Function → Inner → Summary
 
 pub data Merge : Type 0 where
   KeepFirst : Merge
@@ -71,6 +85,7 @@ pub data Terminal : Type 0 where
   GroupBy : Function → Summary → Terminal
   Partition : Condition → Summary → Terminal
   ToMap : Function → Function → Merge → Terminal
+  ToMapStrict : Function → Function → Terminal
   Teeing : Summary → Summary → Terminal
 
 pub data Origin : Type 0 where
@@ -98,15 +113,28 @@ condition_slots Empty = Name (codes "empty") ∷ []
 condition_slots (Starts front) = Name (codes "starts") ∷ AnyWord front ∷ []
 condition_slots (Longer n) = Name (codes "longer") ∷ natural n ∷ []
 
+-- BASE
+abbrev pub base_slots : Base → List Slot
+base_slots CountItems = EitherName (codes "count") (codes "counting") ∷ []
+base_slots SumItems = Name (codes "sum") ∷ []
+base_slots Greatest = Name (codes "max") ∷ []
+base_slots Least = Name (codes "min") ∷ []
+base_slots FirstItem = Name (codes "first") ∷ []
+base_slots ItemList = Name (codes "tolist") ∷ []
+base_slots (Joined between) = Name (codes "joining") ∷ AnyWord between ∷ []
+
+-- INNER
+abbrev pub inner_slots : Inner → List Slot
+inner_slots (InnerBase base) = base_slots base
+inner_slots (InnerMapped f base) = Name (codes "mapping") ∷ function_slots f ++ base_slots base
+inner_slots (InnerFiltered p base) = Name (codes "filtering") ∷ condition_slots p ++ base_slots base
+
 -- COLL
 abbrev pub summary_slots : Summary → List Slot
-summary_slots CountItems = EitherName (codes "count") (codes "counting") ∷ []
-summary_slots SumItems = Name (codes "sum") ∷ []
-summary_slots Greatest = Name (codes "max") ∷ []
-summary_slots Least = Name (codes "min") ∷ []
-summary_slots FirstItem = Name (codes "first") ∷ []
-summary_slots ItemList = Name (codes "tolist") ∷ []
-summary_slots (Joined between) = Name (codes "joining") ∷ AnyWord between ∷ []
+summary_slots (OfBase base) = base_slots base
+summary_slots (Mapped f inner) = Name (codes "mapping") ∷ function_slots f ++ inner_slots inner
+summary_slots (Filtered p inner) = Name (codes "filtering") ∷ condition_slots p ++ inner_slots inner
+summary_slots (Grouped f inner) = Name (codes "groupby") ∷ function_slots f ++ inner_slots inner
 
 -- MERGE
 abbrev pub merge_slots : Merge → List Slot
@@ -151,6 +179,7 @@ terminal_slots (Joining joint) = Name (codes "joining") ∷ joint_slots joint
 terminal_slots (GroupBy f summary) = Name (codes "groupby") ∷ function_slots f ++ summary_slots summary
 terminal_slots (Partition p summary) = Name (codes "partition") ∷ condition_slots p ++ summary_slots summary
 terminal_slots (ToMap key value merge) = Name (codes "tomap") ∷ function_slots key ++ (function_slots value ++ merge_slots merge)
+terminal_slots (ToMapStrict key value) = Name (codes "tomapstrict") ∷ function_slots key ++ function_slots value
 terminal_slots (Teeing one other) = Name (codes "teeing") ∷ summary_slots one ++ summary_slots other
 
 abbrev pub origin_slots : Origin → List Slot
@@ -226,14 +255,26 @@ condition_takes kind Empty = is_text kind
 condition_takes kind (Starts front) = is_text kind
 condition_takes kind (Longer n) = is_text kind
 
+abbrev pub base_takes : Kind → Base → Bool
+base_takes kind CountItems = true
+base_takes kind SumItems = is_number kind
+base_takes kind Greatest = is_number kind
+base_takes kind Least = is_number kind
+base_takes kind FirstItem = true
+base_takes kind ItemList = true
+base_takes kind (Joined between) = is_text kind
+
+-- Behind a function come items of the kind of its values.
+abbrev pub inner_takes : Kind → Inner → Bool
+inner_takes kind (InnerBase base) = base_takes kind base
+inner_takes kind (InnerMapped f base) = function_takes kind f && base_takes (value_kind kind f) base
+inner_takes kind (InnerFiltered p base) = condition_takes kind p && base_takes kind base
+
 abbrev pub summary_takes : Kind → Summary → Bool
-summary_takes kind CountItems = true
-summary_takes kind SumItems = is_number kind
-summary_takes kind Greatest = is_number kind
-summary_takes kind Least = is_number kind
-summary_takes kind FirstItem = true
-summary_takes kind ItemList = true
-summary_takes kind (Joined between) = is_text kind
+summary_takes kind (OfBase base) = base_takes kind base
+summary_takes kind (Mapped f inner) = function_takes kind f && inner_takes (value_kind kind f) inner
+summary_takes kind (Filtered p inner) = condition_takes kind p && inner_takes kind inner
+summary_takes kind (Grouped f inner) = function_takes kind f && inner_takes kind inner
 
 abbrev pub merge_takes : Kind → Merge → Bool
 merge_takes kind KeepFirst = true
@@ -282,6 +323,7 @@ terminal_takes kind (Joining joint) = is_text kind
 terminal_takes kind (GroupBy f summary) = function_takes kind f && summary_takes kind summary
 terminal_takes kind (Partition p summary) = condition_takes kind p && summary_takes kind summary
 terminal_takes kind (ToMap key value merge) = function_takes kind key && (function_takes kind value && merge_takes (value_kind kind value) merge)
+terminal_takes kind (ToMapStrict key value) = function_takes kind key && function_takes kind value
 terminal_takes kind (Teeing one other) = summary_takes kind one && summary_takes kind other
 
 -- A line of the body is a stage or the terminal: the names of both stand at its first place.
