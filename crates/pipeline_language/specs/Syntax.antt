@@ -1,8 +1,10 @@
 -- What may stand in a file, each thing with its words, and the items that it takes.
 use Rattle.std.specs.Prelude.{ℕ, ◌+◌, ◌+ℤ◌, ◌-ℤ◌, ℤ, pos, Bool, true, false, ◌&&◌, nat_le, nat_lt, List, [], ◌∷◌, ◌++◌, map, codes}
 use Rattle.pipeline_language.specs.declared.fault.FileError.TheVariants.{RangeTooLong, TooManyStages}
+use Rattle.pipeline_language.specs.declared.version.Version.{Version}
+use Rattle.pipeline_language.specs.declared.version.Version.TheVariants.{One, Two}
 use Rattle.pipeline_language.specs.Steps.{steps_up}
-use Rattle.pipeline_language.specs.Form.{Slot, Name, EitherName, Number, AnyWord, number, natural, divisor, Forms}
+use Rattle.pipeline_language.specs.Form.{Slot, Name, EitherName, Number, AnyWord, number, natural, divisor, Forms, all_known}
 
 -- A number stands for itself, a text for its bytes.
 pub data Function : Type 0 where
@@ -200,7 +202,25 @@ is_short (Numbers ns) = true
 is_short (Lines n) = true
 
 abbrev pub origins : Forms Origin
-origins = record { slots = origin_slots; takes_kind = λ _. true; in_limits = is_short; limit_fault = RangeTooLong }
+origins = record { slots = origin_slots; known = all_known; takes_kind = λ _. true; in_limits = is_short; limit_fault = RangeTooLong }
+
+-- The names `mapping`, `filtering` and `groupby` of collectors, and `tomapstrict`, are of the second version.
+abbrev pub has_new_names : Version → Bool
+has_new_names One = false
+has_new_names Two = true
+
+abbrev pub summary_known : Version → Summary → Bool
+summary_known version (OfBase base) = true
+summary_known version (Mapped f inner) = has_new_names version
+summary_known version (Filtered p inner) = has_new_names version
+summary_known version (Grouped f inner) = has_new_names version
+
+abbrev pub terminal_known : Version → Terminal → Bool
+terminal_known version (GroupBy f summary) = summary_known version summary
+terminal_known version (Partition p summary) = summary_known version summary
+terminal_known version (ToMapStrict key value) = has_new_names version
+terminal_known version (Teeing one other) = summary_known version one && summary_known version other
+terminal_known version terminal = true
 
 -- Kinds of items.
 pub data Kind : Type 0 where
@@ -335,6 +355,10 @@ abbrev pub body_slots : BodyLine → List Slot
 body_slots (StageLine stage) = stage_slots stage
 body_slots (TerminalLine terminal) = terminal_slots terminal
 
+abbrev pub body_known : Version → BodyLine → Bool
+body_known version (StageLine stage) = true
+body_known version (TerminalLine terminal) = terminal_known version terminal
+
 abbrev pub body_takes : Kind → BodyLine → Bool
 body_takes kind (StageLine stage) = stage_takes kind stage
 body_takes kind (TerminalLine terminal) = terminal_takes kind terminal
@@ -347,17 +371,18 @@ abbrev pub has_room : ℕ → BodyLine → Bool
 has_room before (StageLine stage) = nat_lt before most_stages
 has_room before (TerminalLine terminal) = true
 
--- What comes to a line: items of a kind, from so many stages.
+-- What comes to a line of a file of a version: items of a kind, from so many stages.
 pub record Coming : Type 0 where
+  pub version : Version
   pub kind : Kind
   pub stages : ℕ
 
 -- what comes to the line after a stage
 abbrev pub after_stage : Coming → Stage → Coming
-after_stage coming stage = record { kind = kind_after coming.kind stage; stages = coming.stages + 1 }
+after_stage coming stage = record { version = coming.version; kind = kind_after coming.kind stage; stages = coming.stages + 1 }
 
 abbrev pub bodies : Coming → Forms BodyLine
-bodies coming = record { slots = body_slots; takes_kind = body_takes coming.kind; in_limits = has_room coming.stages; limit_fault = TooManyStages }
+bodies coming = record { slots = body_slots; known = body_known coming.version; takes_kind = body_takes coming.kind; in_limits = has_room coming.stages; limit_fault = TooManyStages }
 
 -- A pipeline by its content: a list has no place and no room.
 pub record Program : Type 0 where

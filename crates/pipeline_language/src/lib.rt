@@ -8,6 +8,7 @@ mod number;
 mod pipeline;
 mod reading;
 mod syntax;
+mod version;
 mod words;
 
 pub use fault::{FileError, FileFault, ReadError};
