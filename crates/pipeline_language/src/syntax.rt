@@ -283,10 +283,7 @@ fn read_terminal<'a>(
         "anymatch" => Ok(Terminal::AnyMatch(read_condition(words)?)),
         "nonematch" => Ok(Terminal::NoneMatch(read_condition(words)?)),
         "joining" => Ok(Terminal::Joining(read_joint(words)?)),
-        "groupby" => Ok(Terminal::GroupBy(
-            read_function(words)?,
-            read_summary(version, words)?,
-        )),
+        "groupby" => Ok(Terminal::GroupBy(read_function(words)?, read_summary(version, words)?)),
         "partition" => Ok(Terminal::Partition(
             read_condition(words)?,
             read_summary(version, words)?,
