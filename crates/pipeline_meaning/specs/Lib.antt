@@ -1,0 +1,4 @@
+pub mod Functions
+pub mod Prepared
+pub mod PreparedLaws
+pub mod Stages

@@ -1,0 +1,10 @@
+//! What the parts of a pipeline mean: functions, steps and collectors, and the texts of values.
+#![tactic(auto)]
+
+mod divisor;
+mod functions;
+
+pub use divisor::Divisor;
+pub use functions::{
+    Itself, NumberCheck, NumberMapping, NumberMerging, TextCheck, TextLength, TextMerging,
+};
