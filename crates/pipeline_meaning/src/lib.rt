@@ -3,8 +3,12 @@
 
 mod divisor;
 mod functions;
+mod number_steps;
+mod text_steps;
 
 pub use divisor::Divisor;
 pub use functions::{
     Itself, NumberCheck, NumberMapping, NumberMerging, TextCheck, TextLength, TextMerging,
 };
+pub use number_steps::NumberSteps;
+pub use text_steps::TextSteps;
