@@ -1,7 +1,7 @@
 -- What prepared steps over texts give.
-use Rattle.std.specs.Prelude.{◌≡◌, ◌<◌, ℕ, Bool, true, false, cond, List, [], ◌∷◌, Option, None, Some, flat_map, length, refl}
+use Rattle.std.specs.Prelude.{◌≡◌, ◌<◌, ◌+◌, ℕ, Bool, true, false, cond, List, [], ◌∷◌, Option, None, Some, flat_map, length, refl}
 use Rattle.std.proofs.Math.ListN.{replicate}
-use Rattle.std.proofs.Common.{sym, true≢false, Bor}
+use Rattle.std.proofs.Common.{sym, true≢false}
 use Rattle.std.specs.List.{list_all}
 use Rattle.std.specs.declared.cmp.Ordering.{Ordering}
 use Rattle.stages.specs.Flags.{KeepsSound}
@@ -38,10 +38,14 @@ IsFewer Dropped n = Unit {0}
 IsFewer (Copied m rest) n = length rest.now < n
 IsFewer (Cut rest) n = length rest.now < n
 
--- the words that are left
-abbrev pub words_left : Option (Bor (List ℕ)) → List (List ℕ)
-words_left None = []
-words_left (Some text) = words_of text.now
+-- the words that are left, and how much there is to cut
+abbrev pub words_left : {T : Type 0} → (T → List ℕ) → Option T → List (List ℕ)
+words_left content None = []
+words_left content (Some text) = words_of (content text)
+
+abbrev pub letters_left : {T : Type 0} → (T → List ℕ) → Option T → ℕ
+letters_left content None = 0
+letters_left content (Some text) = length (content text) + 1
 
 abbrev pub is_map_step : TextStep → Bool
 is_map_step Itself = true

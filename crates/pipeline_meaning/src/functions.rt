@@ -135,7 +135,7 @@ pub struct TextCheck<'a> {
 
 impl<'a> TextCheck<'a> {
     pub fn of(test: TextTest<'a>) -> TextCheck<'a>
-        ensures { result.test ≡ test }
+        ensures { result.test ≡ test.entry }
     {
         TextCheck { test }
     }

@@ -1,18 +1,18 @@
 //! The stages over texts that look at one item at a time, as one stage that walks them.
-ghost use Rattle.std.specs.Prelude.{◌≡◌, ◌≤◌, ◌<◌, ℕ, IsTrue, IfOk, IfSome, OnOk, OnErr, List, ◌∷◌, Option, MatchOption, flat_map, length, take};
+ghost use Rattle.std.specs.Prelude.{◌≡◌, ◌≤◌, ◌<◌, ℕ, IsTrue, IfOk, OnOk, OnErr, List, ◌∷◌, Option, MatchOption, flat_map, length, take};
 ghost use Rattle.std.specs.List.{HoldsAt, list_all};
 ghost use Rattle.std.specs.Ordering.{nat_cmp};
 ghost use Rattle.std.specs.Cmp.Lexicographic.{slice_cmp};
 ghost use Rattle.std.proofs.Math.ListN.{replicate};
 ghost use Rattle.pipeline_language.specs.Words.{words_of};
 ghost use Rattle.pipeline_meaning.specs.Rows.{row_of, size_of};
-ghost use Rattle.pipeline_meaning.specs.TextSteps.{text_images, text_step_images, walked_images, IsFewer, words_left, is_map_step, only_maps, KeepsSound-text_steps};
+ghost use Rattle.pipeline_meaning.specs.TextSteps.{text_images, text_step_images, walked_images, IsFewer, words_left, letters_left, is_map_step, only_maps, KeepsSound-text_steps};
 ghost use Rattle.pipeline_meaning.specs.Stages.{text_stage, text_stages, is_text_barrier, is_text_map};
 ghost use Rattle.pipeline_meaning.specs.WalkLaws.{IsStep};
 
 use crate::TextCheck;
 use pipeline_language::TextStage;
-use spliterator::NoMemory;
+use spliterator::{NoMemory, Text};
 use stages::{Operation, Sink, Stage, Test};
 use std::alloc::Global;
 
@@ -85,6 +85,23 @@ impl<'a> TextSteps<'a> {
     }
 }
 
+/// A text that can be cut at its spaces. The cycle of calls below is over this trait, since none can be over a bound that names a lifetime.
+trait Cut: Text + Copy {
+    /// What stands before the first space, and what follows it.
+    fn first_word(self) -> (Self, Option<Self>)
+        ensures words { words_of (Self.content self) ≡ Self.content result.0 ∷ words_left Self.content result.1 }
+        ensures shorter { letters_left Self.content result.1 ≤ length (Self.content self) };
+}
+
+impl Cut for &str {
+    fn first_word(self) -> (Self, Option<Self>) {
+        match self.split_once(' ') {
+            Some((word, later)) => (word, Some(later)),
+            None => (self, None),
+        }
+    }
+}
+
 /// How far a text goes before it is dropped, copied or cut.
 enum Walked<'s, 'a> {
     Passed,
@@ -96,15 +113,15 @@ enum Walked<'s, 'a> {
 }
 
 // Walks a text through the steps up to the first that gives several.
-fn walk<'s, 'a>(steps: &'s [TextStep<'a>], text: &str) -> Walked<'s, 'a>
-    ensures images { walked_images text.now result ≡ text_images steps.now text.now }
+fn walk<'s, 'a, T: Cut>(steps: &'s [TextStep<'a>], text: &T) -> Walked<'s, 'a>
+    ensures images { walked_images (T.content text.now) result ≡ text_images steps.now (T.content text.now) }
     ensures fewer { IsFewer result (length steps.now) }
 {
     for (place, step) in steps.iter().enumerate() {
         match step {
             TextStep::Itself => {}
             TextStep::Filter(check) => {
-                if !check.holds(&text) {
+                if !check.holds(text) {
                     return Walked::Dropped;
                 }
             }
@@ -117,16 +134,16 @@ fn walk<'s, 'a>(steps: &'s [TextStep<'a>], text: &str) -> Walked<'s, 'a>
 
 // Walks a text through the steps, into a sink.
 #[cycle(feeding_texts)]
-fn feed_steps<'a, K: Sink<&'a str>>(
+fn feed_steps<T: Cut, K: Sink<T>>(
     steps: &[TextStep<'_>],
-    text: &'a str,
+    text: T,
     sink: &mut K,
 ) -> Result<(), NoMemory>
     requires { K.ready sink.old }
-    ensures taken { OnOk result (K.takes sink.old (text_images steps.now text.now) sink.new) }
+    ensures taken { OnOk result (K.takes sink.old (text_images steps.now (T.content text)) sink.new) }
     ensures spoilt { OnErr result (K.spoils sink.old sink.new) }
 {
-    match walk(steps, text) {
+    match walk(steps, &text) {
         Walked::Passed => sink.take(text),
         Walked::Dropped => Ok(()),
         Walked::Copied(n, rest) => feed_copies(n, rest, text, sink),
@@ -136,14 +153,14 @@ fn feed_steps<'a, K: Sink<&'a str>>(
 
 // The same of copies of a text, as long as they make a difference.
 #[cycle(feeding_texts)]
-fn feed_copies<'a, K: Sink<&'a str>>(
+fn feed_copies<T: Cut, K: Sink<T>>(
     n: u64,
     steps: &[TextStep<'_>],
-    text: &'a str,
+    text: T,
     sink: &mut K,
 ) -> Result<(), NoMemory>
     requires { K.ready sink.old }
-    ensures taken { OnOk result (K.takes sink.old (flat_map (text_images steps.now) (replicate n text.now)) sink.new) }
+    ensures taken { OnOk result (K.takes sink.old (flat_map (text_images steps.now) (replicate n (T.content text))) sink.new) }
     ensures spoilt { OnErr result (K.spoils sink.old sink.new) }
 {
     for _ in 0..n {
@@ -157,13 +174,13 @@ fn feed_copies<'a, K: Sink<&'a str>>(
 
 // The same of the words of a text.
 #[cycle(feeding_texts)]
-fn feed_words<'a, K: Sink<&'a str>>(
+fn feed_words<T: Cut, K: Sink<T>>(
     steps: &[TextStep<'_>],
-    text: &'a str,
+    text: T,
     sink: &mut K,
 ) -> Result<(), NoMemory>
     requires { K.ready sink.old }
-    ensures taken { OnOk result (K.takes sink.old (flat_map (text_images steps.now) (words_of text.now)) sink.new) }
+    ensures taken { OnOk result (K.takes sink.old (flat_map (text_images steps.now) (words_of (T.content text))) sink.new) }
     ensures spoilt { OnErr result (K.spoils sink.old sink.new) }
 {
     let mut left = Some(text);
@@ -171,22 +188,11 @@ fn feed_words<'a, K: Sink<&'a str>>(
         if sink.is_full() {
             return Ok(());
         }
-        let (word, later) = first_word(text);
+        let (word, later) = text.first_word();
         feed_steps(steps, word, sink)?;
         left = later;
     }
     Ok(())
-}
-
-// What stands before the first space, and what follows it.
-fn first_word(text: &str) -> (&str, Option<&str>)
-    ensures words { words_of text.now ≡ result.0.now ∷ words_left result.1 }
-    ensures shorter { IfSome result.1 (λ later. length later.now < length text.now) }
-{
-    match text.split_once(' ') {
-        Some((word, later)) => (word, Some(later)),
-        None => (text, None),
-    }
 }
 
 impl<'a> Stage for TextSteps<'a> {

@@ -1,8 +1,7 @@
-use Rattle.std.proofs.Common.{◌+◌, ◌*◌, ℕ, List, Option, Some, None, Bor, flat_map, length}
+use Rattle.std.proofs.Common.{◌+◌, ◌*◌, ℕ, List, flat_map, length}
 use Rattle.std.proofs.Math.ListN.{replicate}
 use Rattle.pipeline_language.specs.Words.{words_of}
-use Rattle.pipeline_meaning.specs.TextSteps.{text_images, words_left}
-use Rattle.pipeline_meaning.proofs.TextFronts.{letters_left}
+use Rattle.pipeline_meaning.specs.TextSteps.{text_images, words_left, letters_left}
 use Rattle.pipeline_meaning.proofs.text_steps.+feeding_texts.Given as goal
 
 abbrev pub decreases-feed_steps : goal.decreases-feed_steps
@@ -15,12 +14,13 @@ abbrev pub decreases-feed_words : goal.decreases-feed_words
 decreases-feed_words g l = 2 * length l.steps.now + 1
 
 abbrev pub invariant-feed_copies-loop : goal.invariant-feed_copies-loop
-invariant-feed_copies-loop g l = g.K.Sink.ready l.sink × g.K.Sink.takes l.fn.sink (flat_map (text_images l.steps) (replicate l.counter l.text)) l.sink
+invariant-feed_copies-loop g l = g.K.Sink.ready l.sink × g.K.Sink.takes l.fn.sink (flat_map (text_images l.steps) (replicate l.counter (g.T.Value.content l.text))) l.sink
 
-abbrev pub invariant-feed_words-loop-text : goal.invariant-feed_words-loop-text
-invariant-feed_words-loop-text g l =
+abbrev pub invariant-feed_words-loop-left : goal.invariant-feed_words-loop-left
+invariant-feed_words-loop-left g l =
     g.K.Sink.ready l.sink
-    × ((end : _) → g.K.Sink.takes l.sink (flat_map (text_images l.steps) (words_left l.left)) end → g.K.Sink.takes l.fn.sink (flat_map (text_images l.steps) (words_of l.fn.text)) end)
+    × ((end : _) → g.K.Sink.spoils l.sink end → g.K.Sink.spoils l.fn.sink end)
+    × ((end : _) → g.K.Sink.takes l.sink (flat_map (text_images l.steps) (words_left g.T.Value.content l.left)) end → g.K.Sink.takes l.fn.sink (flat_map (text_images l.steps) (words_of (g.T.Value.content l.fn.text))) end)
 
-abbrev pub decreases-feed_words-loop-text : goal.decreases-feed_words-loop-text
-decreases-feed_words-loop-text g l = letters_left l.left
+abbrev pub decreases-feed_words-loop-left : goal.decreases-feed_words-loop-left
+decreases-feed_words-loop-left g l = letters_left g.T.Value.content l.left
