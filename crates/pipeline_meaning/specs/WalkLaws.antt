@@ -117,5 +117,6 @@ module _ {S A : Type 0} (images : S → A → List A) where
         let P : List S → Type 0 = λ steps. IsFront is_map is_stage_map steps (take (i + 1) stages) in
         let Q : List G → Type 0 = λ stages. IsFront is_map is_stage_map (steps ++ step ∷ []) stages in
         subst P (sym e) (subst Q (sym (take_more stages i d within)) (
-            front-one-more steps step (take i stages) (get_or stages i d) h.0 k.0,
-            list_all-append is_map steps (step ∷ []) ∙ ap₂ (λ a b. a && (b && true)) h.1 k.1 ∙ sym (list_all-append is_stage_map (take i stages) (get_or stages i d ∷ []))))
+          front-one-more steps step (take i stages) (get_or stages i d) h.0 k.0,
+          list_all-append is_map steps (step ∷ []) ∙ ap₂ (λ a b. a && (b && true)) h.1 k.1 ∙ sym (list_all-append is_stage_map (take i stages) (get_or stages i d ∷ [])),
+        ))

@@ -12,3 +12,6 @@ pub use functions::{
 };
 pub use number_steps::NumberSteps;
 pub use text_steps::TextSteps;
+
+#[cfg(test)]
+mod tests;

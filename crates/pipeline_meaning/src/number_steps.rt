@@ -54,10 +54,7 @@ pub struct NumberSteps {
 
 impl NumberSteps {
     /// The stages up to the first barrier, as one stage, and how many they are.
-    pub fn front_of(
-        alloc: Global,
-        stages: &[NumberStage],
-    ) -> Result<(NumberSteps, usize), NoMemory>
+    pub fn front_of(alloc: Global, stages: &[NumberStage]) -> Result<(NumberSteps, usize), NoMemory>
         ensures within { IfOk result (λ r. r.1 ≤ length stages.now) }
         ensures means { IfOk result (λ r. (l : List ℤ) → flat_map (⟦<NumberSteps as Stage>⟧.expand r.0) l ≡ number_stages (take r.1 stages.now) l) }
         ensures barrier { IfOk result (λ r. r.1 < length stages.now → HoldsAt (λ stage. IsTrue (is_number_barrier stage)) stages.now r.1) }
