@@ -154,8 +154,13 @@ impl Stage for NumberSteps {
 
     ghost flag_law = { λ s. KeepsSound-number_steps int_cmp s.steps.items };
 
+    // The walk of a number that isn't copied makes no call, so that a loop over numbers can hold it whole.
     fn feed<K: Sink<i64>>(&self, x: i64, sink: &mut K) -> Result<(), NoMemory> {
-        feed_steps(&self.steps, x, sink)
+        match walk(&self.steps, x) {
+            Walked::Passed(number) => sink.take(number),
+            Walked::Dropped => Ok(()),
+            Walked::Copied(n, number, rest) => feed_copies(n, rest, number, sink),
+        }
     }
 
     fn operation(&self) -> Operation {

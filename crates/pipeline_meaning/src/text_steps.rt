@@ -208,8 +208,14 @@ impl<'a> Stage for TextSteps<'a> {
 
     ghost flag_law = { λ s. KeepsSound-text_steps (slice_cmp nat_cmp) s.steps.items };
 
+    // The walk of a text that gives one at most makes no call, so that a loop over texts can hold it whole.
     fn feed<K: Sink<&'a str>>(&self, x: &'a str, sink: &mut K) -> Result<(), NoMemory> {
-        feed_steps(&self.steps, x, sink)
+        match walk(&self.steps, &x) {
+            Walked::Passed => sink.take(x),
+            Walked::Dropped => Ok(()),
+            Walked::Copied(n, rest) => feed_copies(n, rest, x, sink),
+            Walked::Cut(rest) => feed_words(rest, x, sink),
+        }
     }
 
     fn operation(&self) -> Operation {
