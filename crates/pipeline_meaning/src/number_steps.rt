@@ -87,6 +87,7 @@ enum Walked<'a> {
 }
 
 // Walks a number through the steps up to the first that copies it.
+#[inline(always)]
 fn walk(steps: &[NumberStep], x: i64) -> Walked<'_>
     ensures images { walked_images result ≡ number_images steps.now x }
     ensures shorter { IsFewer result (length steps.now) }
@@ -121,6 +122,8 @@ fn feed_steps<K: Sink<i64>>(steps: &[NumberStep], x: i64, sink: &mut K) -> Resul
 }
 
 // The same of copies of a number, as long as they make a difference.
+#[cold]
+#[inline(never)]
 #[cycle(feeding)]
 fn feed_copies<K: Sink<i64>>(
     n: u64,
@@ -155,6 +158,7 @@ impl Stage for NumberSteps {
     ghost flag_law = { λ s. KeepsSound-number_steps int_cmp s.steps.items };
 
     // The walk of a number that isn't copied makes no call, so that a loop over numbers can hold it whole.
+    #[inline(always)]
     fn feed<K: Sink<i64>>(&self, x: i64, sink: &mut K) -> Result<(), NoMemory> {
         match walk(&self.steps, x) {
             Walked::Passed(number) => sink.take(number),

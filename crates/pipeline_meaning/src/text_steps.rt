@@ -113,6 +113,7 @@ enum Walked<'s, 'a> {
 }
 
 // Walks a text through the steps up to the first that gives several.
+#[inline(always)]
 fn walk<'s, 'a, T: Cut>(steps: &'s [TextStep<'a>], text: &T) -> Walked<'s, 'a>
     ensures images { walked_images (T.content text.now) result ≡ text_images steps.now (T.content text.now) }
     ensures fewer { IsFewer result (length steps.now) }
