@@ -61,47 +61,35 @@ fn remainders_are_never_negative(rt: HostRuntime) -> Result<(), Fail> {
     Ok(())
 }
 
-/// Java's `Math.floorMod` and Rust's `rem_euclid` give the same at positive divisors.
+/// The number, the divisor, and the least remainder that isn't negative. A divisor below 1 counts as 1.
 #[test]
 fn prepared_divisors_divide(rt: HostRuntime) -> Result<(), Fail> {
-    let numbers = [
-        0,
-        1,
-        -1,
-        2,
-        -2,
-        3,
-        6,
-        7,
-        -7,
-        999,
-        1_000,
-        -1_000,
-        1 << 32,
-        i64::MAX,
-        i64::MAX - 1,
-        i64::MIN,
-        i64::MIN + 1,
+    let rows: [(i64, i64, i64); 20] = [
+        (0, 7, 0),
+        (6, 7, 6),
+        (7, 7, 0),
+        (-7, 7, 0),
+        (-8, 7, 6),
+        (999, 1000, 999),
+        (-1000, 1000, 0),
+        (-1001, 1000, 999),
+        (1 << 32, (1 << 32) + 1, 1 << 32),
+        (i64::MAX, 1000, 807),
+        (i64::MAX, i64::MAX, 0),
+        (i64::MAX - 1, i64::MAX, i64::MAX - 1),
+        (i64::MIN, 1000, 192),
+        (i64::MIN, i64::MAX, i64::MAX - 1),
+        (i64::MIN + 1, i64::MAX, 0),
+        (i64::MAX, 1 << 62, 4611686018427387903),
+        (i64::MIN, 1 << 62, 0),
+        (i64::MIN + 1, 1 << 62, 1),
+        (i64::MIN, 0, 0),
+        (5, -3, 0),
     ];
-    let divisors = [
-        1,
-        2,
-        3,
-        7,
-        10,
-        1_000,
-        1 << 31,
-        (1 << 32) + 1,
-        1 << 62,
-        i64::MAX,
-    ];
-    for number in divisors {
+    for (x, number, rest) in rows {
         let divisor = Divisor::new(number);
-        for x in numbers {
-            let rest = x.rem_euclid(number);
-            assert!(rt; divisor.remainder(x) == rest, "{x} mod {number}");
-            assert!(rt; divisor.divides(x) == (rest == 0), "{number} divides {x}");
-        }
+        assert!(rt; divisor.remainder(x) == rest, "{x} mod {number}");
+        assert!(rt; divisor.divides(x) == (rest == 0), "{number} divides {x}");
     }
     Ok(())
 }

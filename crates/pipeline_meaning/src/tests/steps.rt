@@ -8,7 +8,7 @@ use std::process::Abort;
 use std::test::Fail;
 
 /// What a stage makes of items.
-fn fed<'a, S: Stage<In = i64, Out = i64>>(
+fn fed<S: Stage<In = i64, Out = i64>>(
     alloc: Global,
     stage: &S,
     items: &[i64],
@@ -138,10 +138,10 @@ fn maps_alone_keep_the_size(rt: HostRuntime) -> Result<(), Fail> {
     Ok(())
 }
 
-fn check_texts(
+fn check_texts<'a>(
     rt: &(impl Abort + Alloc<A = Global>),
-    stages: &[TextStage<'_>],
-    items: &[&str],
+    stages: &[TextStage<'a>],
+    items: &[&'a str],
     wanted: &[&str],
     taken: usize,
 ) -> Result<(), Fail> {
