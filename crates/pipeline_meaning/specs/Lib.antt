@@ -1,1 +1,5 @@
+pub mod Functions
+pub mod Prepared
+pub mod PreparedLaws
+pub mod Stages
 pub mod Texts

@@ -1,9 +1,14 @@
 //! What the parts of a pipeline mean: functions, steps and collectors, and the texts of values.
 #![tactic(auto)]
 
+mod divisor;
+mod functions;
+mod summarizes;
 mod written;
 
+pub use divisor::Divisor;
+pub use functions::{
+    Itself, NumberCheck, NumberMapping, NumberMerging, TextCheck, TextLength, TextMerging,
+};
+pub use summarizes::Summarizes;
 pub use written::Written;
-
-
-
