@@ -2,4 +2,5 @@ pub mod Functions
 pub mod Prepared
 pub mod PreparedLaws
 pub mod Stages
+pub mod Summaries
 pub mod Texts
