@@ -3,4 +3,5 @@ pub mod Prepared
 pub mod PreparedLaws
 pub mod Stages
 pub mod Summaries
+pub mod SummaryLaws
 pub mod Texts

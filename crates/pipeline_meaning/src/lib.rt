@@ -3,6 +3,8 @@
 
 mod divisor;
 mod functions;
+mod number_summaries;
+mod spelled;
 mod summarizes;
 mod written;
 
@@ -10,5 +12,10 @@ pub use divisor::Divisor;
 pub use functions::{
     Itself, NumberCheck, NumberMapping, NumberMerging, TextCheck, TextLength, TextMerging,
 };
+pub use number_summaries::{
+    NumberBaseCollector, NumberInnerCollector, NumberSummaryCollector, number_base, number_inner,
+    number_summary,
+};
+pub use spelled::Spelled;
 pub use summarizes::Summarizes;
 pub use written::Written;

@@ -1,11 +1,25 @@
 //! Collectors whose results have texts that follow from the items.
-ghost use Rattle.std.specs.Prelude.{◌≡◌, ◌++◌, ℕ, pos, List, OnOk, string_bytes, length, All};
+ghost use Rattle.std.specs.Prelude.{◌≡◌, ◌++◌, ℕ, pos, List, length, map, filter};
 ghost use Rattle.std.specs.Fmt.{signed_decimal};
+ghost use Rattle.either.specs.Either.{either};
 ghost use Rattle.stages.specs.Wrapping.{wrapped};
+ghost use Rattle.collectors.specs.Reductions.{reduced, first, delimited};
+ghost use Rattle.collectors.specs.Sums.{int_sum};
+ghost use Rattle.pipeline_meaning.specs.Summaries.{groups_text, parts_text};
+ghost use Rattle.pipeline_meaning.specs.Texts.{optional_text, list_text, partition_text};
+ghost use Rattle.pipeline_meaning.specs.SummaryLaws.{optional_tells, list_tells, either_tells, groups_tell};
+ghost use Rattle.std.proofs.Common.{ap, ap₂};
+ghost use Rattle.collectors.specs.NestedLaws.{fails};
 
-use crate::Written;
-use collectors::{Collector, Counting};
-use spliterator::{NoMemory, Value};
+use crate::{Spelled, Written};
+use collectors::{
+    Collector, Counting, FilteringTo, First, GroupingBy, Joining, MappingTo, PartitioningBy,
+    Reducing, SummingLong, ToList,
+};
+use either::Either;
+use spliterator::{Text, Value};
+use stages::{Mapping, Operator, Test};
+use std::hash::{BuildHasher, Hash};
 
 /// A collector whose result's text follows from the items.
 pub trait Summarizes: Collector
@@ -15,17 +29,89 @@ where
     // the text of the result on a list of items
     ghost summary: { Self → List Self.Item.Content → List ℕ };
 
-    fn is_summary(&self) -> bool;
-
     ghost tells: { (c : Self) (l : List Self.Item.Content) (made : Self.Out) → Self.gives c l made → Self.Out.text made ≡ summary c l };
 }
 
 impl<T: Value> Summarizes for Counting<T> {
     ghost summary = { λ _ l. signed_decimal (wrapped (pos (length l))) };
 
-    fn is_summary(&self) -> bool {
-        true
-    }
+    ghost tells = { λ _ _ _ h. ap signed_decimal h };
+}
 
-    ghost tells = { Prim.search };
+impl<T: Value, M: Mapping<T, Out = i64>> Summarizes for SummingLong<T, M> {
+    ghost summary = { λ c l. signed_decimal (wrapped (int_sum (map (M.image c.number) l))) };
+
+    ghost tells = { λ _ _ _ h. ap signed_decimal h };
+}
+
+impl<T: Spelled + Clone + Drop, O: Operator<T>> Summarizes for Reducing<T, O> {
+    ghost summary = { λ c l. optional_text T.spelling (reduced (O.join c.operator) l) };
+
+    ghost tells = { λ c l made. optional_tells T.text T.content T.spelling T.spelled made (reduced (O.join c.operator) l) };
+}
+
+impl<T: Spelled + Clone + Drop> Summarizes for First<T> {
+    ghost summary = { λ _ l. optional_text T.spelling (first l) };
+
+    ghost tells = { λ _ l made. optional_tells T.text T.content T.spelling T.spelled made (first l) };
+}
+
+impl<T: Spelled + Clone + Drop> Summarizes for ToList<T> {
+    ghost summary = { λ _ l. list_text T.spelling l };
+
+    ghost tells = { λ _ l made. list_tells T.text T.content T.spelling T.spelled made.items l };
+}
+
+impl<'a, T: Text> Summarizes for Joining<'a, T> {
+    ghost summary = { λ c l. c.prefix.now ++ delimited c.delimiter.now l ++ c.suffix.now };
+
+    ghost tells = { λ _ _ _ h. h };
+}
+
+impl<A: Summarizes, B: Summarizes + Collector<Item = A::Item>> Summarizes for Either<A, B>
+where
+    A::Out: Written,
+    B::Out: Written,
+{
+    ghost summary = { either A.summary B.summary };
+
+    ghost tells = { either_tells A.gives B.gives A.Out.text B.Out.text A.summary B.summary A.tells B.tells };
+}
+
+impl<T: Value, D: Summarizes, M: Mapping<T, Out = D::Item>> Summarizes for MappingTo<T, M, D>
+where
+    D::Item: Drop,
+    D::Out: Written,
+{
+    ghost summary = { λ c l. D.summary c.downstream (map (M.image c.mapping) l) };
+
+    ghost tells = { λ c l. D.tells c.downstream (map (M.image c.mapping) l) };
+}
+
+impl<D: Summarizes, P: Test<D::Item>> Summarizes for FilteringTo<P, D>
+where
+    D::Out: Written,
+{
+    ghost summary = { λ c l. D.summary c.downstream (filter (P.holds c.test) l) };
+
+    ghost tells = { λ c l. D.tells c.downstream (filter (P.holds c.test) l) };
+}
+
+impl<D: Summarizes, P: Test<D::Item>> Summarizes for PartitioningBy<P, D>
+where
+    D::Out: Written,
+{
+    ghost summary = { λ c. parts_text (P.holds c.test) (D.summary c.downstream) };
+
+    ghost tells = { λ c l made h. ap₂ partition_text (D.tells c.downstream (filter (fails (P.holds c.test)) l) made.no h.0) (D.tells c.downstream (filter (P.holds c.test) l) made.yes h.1) };
+}
+
+impl<D: Summarizes, K: Mapping<D::Item>, S: BuildHasher + Copy> Summarizes for GroupingBy<K, D, S>
+where
+    K::Out: Spelled + Hash + Drop,
+    D::Out: Written,
+{
+    ghost summary = { λ c. groups_text K.Out.spelling K.Out.same (K.image c.key) (D.summary c.downstream) };
+
+    ghost tells = { λ c l made. groups_tell K.Out.text K.Out.content K.Out.spelling K.Out.spelled K.Out.same (K.image c.key) D.Out.text (D.gives c.downstream) (D.summary c.downstream) (D.tells c.downstream) l made.entries };
 }

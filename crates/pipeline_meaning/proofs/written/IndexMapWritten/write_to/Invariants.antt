@@ -12,4 +12,4 @@ invariant-loop-key g l =
     (goal.iterator-loop-key g).can_next l.key-iterator ×
     (goal.iterator-loop-key g).is_finite l.key-iterator ×
     shadow (Utf8 l.between)
-    × ?
+    × (string_bytes l.out ++ behind l.between (map (entry_text g.K.Written.text g.V.Written.text) l.key-iterator) ≡ string_bytes l.fn.out ++ codes "{" ++ with_commas (map (entry_text g.K.Written.text g.V.Written.text) l.self.entries))
