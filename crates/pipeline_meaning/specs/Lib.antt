@@ -1,3 +1,4 @@
+pub mod Adapting
 pub mod Functions
 pub mod Prepared
 pub mod PreparedLaws

@@ -1,12 +1,14 @@
 -- The texts of results, by what the results are seen as.
-use Rattle.std.specs.Prelude.{◌≡◌, ℕ, Bool, List, [], ◌∷◌, ◌++◌, All, map, filter, refl, codes, Option, Some, None, option_map}
+use Rattle.std.specs.Prelude.{◌≡◌, ℕ, Bool, List, [], ◌∷◌, ◌++◌, All, fold, map, filter, refl, codes, Option, Some, None, option_map}
 use Rattle.std.specs.Option.{option_map_or}
 use Rattle.std.proofs.Common.{sym, ap, ap₂, ◌∙◌}
 use Rattle.std.proofs.lemmas.List.Elements.{All-head, All-tail}
 use Rattle.either.specs.declared.Either.{Either}
 use Rattle.either.specs.declared.Either.TheVariants.{Left, Right}
 use Rattle.either.specs.Either.{either}
+use Rattle.stages.specs.Choices.{first_of}
 use Rattle.stages.specs.Distinct.{distinct}
+use Rattle.collectors.specs.Reductions.{reduced, first}
 use Rattle.collectors.specs.Either.{either_gives}
 use Rattle.collectors.specs.Grouping.{IsGrouping, of_key, pairs, contents}
 use Rattle.pipeline_meaning.specs.Texts.{optional_text, list_text, map_text, entry_text, with_commas}
@@ -77,3 +79,17 @@ module _ {K J V : Type 0} (text : K → List ℕ) (content : K → J) (spelling 
     pub contents_tell : (es : List (K × V)) (fs : List (J × C)) → contents content value_content es ≡ fs → map_text text value_text es ≡ map_text spelling value_spelling fs
     contents_tell es fs h =
         ap (λ ts. codes "{" ++ with_commas ts ++ codes "}") (contents-same es ∙ ap (map (entry_text spelling value_spelling)) h)
+
+kept_from : {C : Type 0} (a : C) (l : List C) → fold first_of a l ≡ a
+kept_from a [] = refl
+kept_from a (x ∷ l) = kept_from a l
+
+-- the first item is what keeping the earlier of two leaves
+pub reduced-first_of : {C : Type 0} (l : List C) → reduced first_of l ≡ first l
+reduced-first_of [] = refl
+reduced-first_of (x ∷ l) = ap Some (kept_from x l)
+
+-- groups by keys that are one, with texts that are one
+pub groups-same : {X K : Type 0} (key_text : K → List ℕ) (same : K → K → Bool) (key key' : X → K) (text text' : List X → List ℕ) → key ≡ key' → ((l : List X) → text l ≡ text' l)
+    → (l : List X) → groups_text key_text same key text l ≡ groups_text key_text same key' text' l
+groups-same key_text same key key' text text' keys texts l = λ i. groups_text key_text same (keys i) (λ s. texts s i) l

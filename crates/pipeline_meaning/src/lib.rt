@@ -1,6 +1,7 @@
 //! What the parts of a pipeline mean: functions, steps and collectors, and the texts of values.
 #![tactic(auto)]
 
+mod adapted;
 mod divisor;
 mod functions;
 mod number_summaries;
@@ -8,6 +9,7 @@ mod spelled;
 mod summarizes;
 mod written;
 
+pub use adapted::{Adapted, Adapting};
 pub use divisor::Divisor;
 pub use functions::{
     Itself, NumberCheck, NumberMapping, NumberMerging, TextCheck, TextLength, TextMerging,
