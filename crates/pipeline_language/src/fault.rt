@@ -1,12 +1,14 @@
 //! What is wrong with a pipeline file, and why one was not read.
 
-ghost use Rattle.std.specs.Prelude.{◌≡◌};
+ghost use Rattle.std.specs.Prelude.{◌≡◌, Some};
 ghost use Rattle.pipeline_language.specs.declared.fault.ReadError.TheVariants.{NoMemory};
 ghost use Rattle.pipeline_language.specs.declared.fault.LineError.TheVariants as lines;
-ghost use Rattle.pipeline_language.specs.Faults.{read_error_at};
+ghost use Rattle.pipeline_language.specs.Faults.{fault_name, fault_text, read_error_at};
 
 use std::alloc::{AllocError, AllocFailed};
+use std::error::Error;
 use std::fmt;
+use thiserror::Error;
 
 /// A fault of a line, by its number in the language; within a line the lowest number is told.
 #[derive(Clone, Copy, Debug, PartialEq, Eq)]
@@ -15,7 +17,7 @@ pub enum FileError {
     BadText = 1,
     /// The file has more than 1,048,576 bytes. The line told is 0.
     TooLarge = 2,
-    /// The first line isn't `pipeline 1`.
+    /// The first line is neither `pipeline 1` nor `pipeline 2`.
     BadVersion = 3,
     /// A word stands where a name is wanted and isn't one of the names of that place.
     UnknownWord = 4,
@@ -43,8 +45,10 @@ pub struct FileFault {
 }
 
 impl FileError {
-    /// The name of the fault.
-    pub fn name(self) -> &'static str {
+    /// The name of the fault, as `BAD_ARITY`.
+    pub fn name(self) -> &'static str
+        ensures { result.now ≡ fault_name self }
+    {
         match self {
             FileError::BadText => "BAD_TEXT",
             FileError::TooLarge => "TOO_LARGE",
@@ -61,7 +65,21 @@ impl FileError {
     }
 }
 
+impl fmt::Display for FileError {
+    ghost output = { λ kind. Some (fault_name kind) };
+
+    fn fmt<W: fmt::Write>(&self, f: &mut fmt::Formatter<W>) -> fmt::Result {
+        let name = self.name();
+        write!(f, "{name}")
+    }
+}
+
+impl Error for FileError {}
+
+/// As `line 3: BAD_ARITY`.
 impl fmt::Display for FileFault {
+    ghost output = { λ fault. Some (fault_text fault) };
+
     fn fmt<W: fmt::Write>(&self, f: &mut fmt::Formatter<W>) -> fmt::Result {
         let line = self.line;
         let name = self.kind.name();
@@ -69,10 +87,14 @@ impl fmt::Display for FileFault {
     }
 }
 
+impl Error for FileFault {}
+
 /// Why no pipeline was read.
-#[derive(Debug, Drop)]
+#[derive(Clone, Copy, Debug, PartialEq, Eq, Error)]
 pub enum ReadError {
+    #[error("{0}")]
     Fault(FileFault),
+    #[error("out of memory")]
     NoMemory,
 }
 
