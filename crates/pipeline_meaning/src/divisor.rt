@@ -54,6 +54,10 @@ impl Divisor {
     {
         let quotient = ((x as u128 * self.reciprocal as u128) >> 64) as u64;
         let rest = x - quotient * self.number;
-        if rest < self.number { rest } else { rest - self.number }
+        if rest < self.number {
+            rest
+        } else {
+            rest - self.number
+        }
     }
 }

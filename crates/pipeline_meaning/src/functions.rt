@@ -34,6 +34,18 @@ impl NumberMapping {
             NumberFunction::Itself => NumberMapping::Itself,
         }
     }
+
+    pub(crate) fn image_of(&self, x: i64) -> i64
+        ensures { result ≡ mapping_image self.now x }
+    {
+        match self {
+            NumberMapping::Add(n) => x.wrapping_add(*n),
+            NumberMapping::Mul(n) => x.wrapping_mul(*n),
+            NumberMapping::Negate => x.wrapping_neg(),
+            NumberMapping::Mod(divisor) => divisor.remainder(x),
+            NumberMapping::Itself => x,
+        }
+    }
 }
 
 impl Mapping<i64> for NumberMapping {
@@ -44,13 +56,7 @@ impl Mapping<i64> for NumberMapping {
     ghost images_are_values = { mapping_image-value };
 
     fn image(&self, x: &i64) -> Result<i64, NoMemory> {
-        Ok(match self {
-            NumberMapping::Add(n) => x.wrapping_add(*n),
-            NumberMapping::Mul(n) => x.wrapping_mul(*n),
-            NumberMapping::Negate => x.wrapping_neg(),
-            NumberMapping::Mod(divisor) => divisor.remainder(*x),
-            NumberMapping::Itself => *x,
-        })
+        Ok(self.image_of(*x))
     }
 }
 
@@ -129,7 +135,7 @@ pub struct TextCheck<'a> {
 
 impl<'a> TextCheck<'a> {
     pub fn of(test: TextTest<'a>) -> TextCheck<'a>
-        ensures { result.test ≡ test }
+        ensures { result.test ≡ test.entry }
     {
         TextCheck { test }
     }

@@ -4,9 +4,12 @@
 mod adapted;
 mod divisor;
 mod functions;
+mod number_steps;
 mod number_summaries;
 mod spelled;
 mod summarizes;
+mod text_steps;
+mod text_summaries;
 mod written;
 
 pub use adapted::{Adapted, Adapting};
@@ -14,10 +17,19 @@ pub use divisor::Divisor;
 pub use functions::{
     Itself, NumberCheck, NumberMapping, NumberMerging, TextCheck, TextLength, TextMerging,
 };
+pub use number_steps::NumberSteps;
 pub use number_summaries::{
     NumberBaseCollector, NumberInnerCollector, NumberSummaryCollector, number_base, number_inner,
     number_summary,
 };
 pub use spelled::Spelled;
-pub use summarizes::Summarizes;
+pub use summarizes::{Both, Summarizes};
+pub use text_steps::TextSteps;
+pub use text_summaries::{
+    TextBaseCollector, TextInnerCollector, TextSummaryCollector, text_base, text_inner,
+    text_summary,
+};
 pub use written::Written;
+
+#[cfg(test)]
+mod tests;

@@ -1,0 +1,3 @@
+//! What the language's functions and stages give, at concrete types through their bounds.
+mod functions;
+mod steps;
