@@ -23,13 +23,14 @@ pub use number_summaries::{
     number_summary,
 };
 pub use spelled::Spelled;
-pub use summarizes::{Both, Summarizes};
+pub use summarizes::{Both, Summarizes, write_result};
 pub use text_steps::TextSteps;
 pub use text_summaries::{
-    TextBaseCollector, TextInnerCollector, TextSummaryCollector, text_base, text_inner,
-    text_summary,
+    TextBaseCollector, TextInnerCollector, TextPlainCollector, TextsByLength, TextsByThemselves,
+    text_base, text_inner, text_lengths, text_plain, texts_by_length, texts_by_themselves,
 };
 pub use written::Written;
+
 
 #[cfg(test)]
 mod tests;

@@ -104,13 +104,13 @@ impl<K: Written + Eq + Hash, V: Written, S: BuildHasher> Written for IndexMap<K,
 
     fn write_to(&self, out: &mut String) -> Result<(), NoMemory> {
         out.push_str("{")?;
-        let mut between = "";
+        let mut separator = "";
         for (key, value) in self.iter() {
-            out.push_str(between)?;
+            out.push_str(separator)?;
             key.write_to(out)?;
             out.push_str("=")?;
             value.write_to(out)?;
-            between = ", ";
+            separator = ", ";
         }
         out.push_str("}")?;
         Ok(())

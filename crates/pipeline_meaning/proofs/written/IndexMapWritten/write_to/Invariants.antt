@@ -11,5 +11,5 @@ abbrev pub invariant-loop-key : goal.invariant-loop-key
 invariant-loop-key g l =
     (goal.iterator-loop-key g).can_next l.key-iterator ×
     (goal.iterator-loop-key g).is_finite l.key-iterator ×
-    shadow (Utf8 l.between)
-    × (string_bytes l.out ++ behind l.between (map (entry_text g.K.Written.text g.V.Written.text) l.key-iterator) ≡ string_bytes l.fn.out ++ codes "{" ++ with_commas (map (entry_text g.K.Written.text g.V.Written.text) l.self.entries))
+    shadow (Utf8 l.separator)
+    × (string_bytes l.out ++ behind l.separator (map (entry_text g.K.Written.text g.V.Written.text) l.key-iterator) ≡ string_bytes l.fn.out ++ codes "{" ++ with_commas (map (entry_text g.K.Written.text g.V.Written.text) l.self.entries))
