@@ -3,6 +3,7 @@ ghost use Rattle.std.specs.Prelude.{◌≡◌, ℕ, ℤ, List};
 ghost use Rattle.pipeline_meaning.specs.Summaries.{number_base_text, number_inner_text, number_summary_text};
 
 use crate::{Adapted, Adapting, Itself, NumberCheck, NumberMapping, NumberMerging, Summarizes};
+use crate::summarizes::grouped;
 use collectors::{
     Collector, Counting, GroupingBy, Reducing, SummingLong, ToList,
 };
@@ -81,7 +82,7 @@ pub fn number_summary(
             Adapting::Filtering(NumberCheck::of(test)),
             number_inner(alloc, inner),
         )),
-        NumberSummary::GroupBy(function, inner) => Right(GroupingBy::with_hasher(
+        NumberSummary::GroupBy(function, inner) => Right(grouped(
             alloc,
             NumberMapping::of(function),
             number_inner(alloc, inner),

@@ -19,6 +19,7 @@ use collectors::{
 use either::Either;
 use spliterator::{NoMemory, Text, Value};
 use stages::{Mapping, Operator, Test};
+use std::alloc::Global;
 use std::hash::{BuildHasher, Hash};
 
 /// A collector whose result's text follows from the items.
@@ -43,6 +44,23 @@ where
     ensures { (l : List C.Item.Content) → C.gives _collector.now l made.now → OnOk result (string_bytes out.new ≡ string_bytes out.old ++ C.summary _collector.now l) }
 {
     made.write_to(out)
+}
+
+/// Groups by a hasher, with the text of the groups in terms of the key's and the downstream's.
+pub(crate) fn grouped<D: Summarizes, K: Mapping<D::Item>, S: BuildHasher + Copy>(
+    alloc: Global,
+    key: K,
+    downstream: D,
+    hashes: S,
+) -> GroupingBy<K, D, S>
+where
+    K::Out: Spelled + Hash + Drop,
+    D::Out: Written,
+    ensures key { result.key ≡ key }
+    ensures downstream { result.downstream ≡ downstream }
+    ensures summary { (l : List D.Item.Content) → ⟦<GroupingBy<K, D, S> as Summarizes>⟧.summary result l ≡ groups_text K.Out.spelling K.Out.same (K.image key) (D.summary downstream) l }
+{
+    GroupingBy::with_hasher(alloc, key, downstream, hashes)
 }
 
 /// The two results of a `Teeing`, side by side.
