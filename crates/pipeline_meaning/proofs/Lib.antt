@@ -1,3 +1,4 @@
 pub mod NumberFronts
 pub mod Quotients
+pub mod Separated
 pub mod TextFronts

@@ -1,9 +1,13 @@
+pub mod Adapting
 pub mod Functions
 pub mod NumberSteps
 pub mod Prepared
 pub mod PreparedLaws
 pub mod Rows
 pub mod Stages
+pub mod Summaries
+pub mod SummaryLaws
 pub mod TextSteps
+pub mod Texts
 pub mod WalkLaws
 pub mod Walks

@@ -1,3 +1,4 @@
-//! What the language's functions and stages give, at concrete types through their bounds.
+//! What the language's functions, stages and collectors give, at concrete types through their bounds.
 mod functions;
 mod steps;
+mod summaries;

@@ -1,5 +1,6 @@
 //! Results as Java prints them.
 use crate::{DuplicateKey, Partition};
+use either::{Either, Left, Right};
 use indexmap::IndexMap;
 use spliterator::NoMemory;
 use std::alloc::Global;
@@ -111,6 +112,15 @@ impl<M: Shown, K: Shown> Shown for Result<M, DuplicateKey<K>> {
                 text.push_str("duplicate key ")?;
                 duplicate.key.show(alloc, text)
             }
+        }
+    }
+}
+
+impl<A: Shown, B: Shown> Shown for Either<A, B> {
+    fn show(&self, alloc: Global, text: &mut String) -> Result<(), NoMemory> {
+        match self {
+            Left(value) => value.show(alloc, text),
+            Right(value) => value.show(alloc, text),
         }
     }
 }

@@ -1,0 +1,72 @@
+//! One collector of two types.
+ghost use Rattle.either.specs.declared.Either.{Either};
+ghost use Rattle.either.specs.Either.{MatchEither};
+ghost use Rattle.std.specs.Prelude.{Option};
+ghost use Rattle.collectors.specs.Either.{either_content, either_empty, either_add, either_merge, either_gives, either_laws};
+
+use crate::Collector;
+use either::{Either, Left, Right};
+use spliterator::NoMemory;
+
+/// It does what its side does, and its containers and results are of that side: a collector that is chosen at run time.
+///
+/// A container of the other side, which no such collector makes, takes nothing in and is finished as one of no items.
+impl<A: Collector, B: Collector<Item = A::Item>> Collector for Either<A, B> {
+    type Item = A::Item;
+
+    type Acc = Either<A::Acc, B::Acc>;
+
+    type Out = Either<A::Out, B::Out>;
+
+    ghost ready = { λ c. MatchEither c A.ready B.ready };
+
+    ghost Content = { Option (Either A.Content B.Content) };
+
+    ghost content = { either_content A.content B.content };
+
+    ghost empty = { either_empty A.empty B.empty };
+
+    ghost add = { either_add A.add B.add };
+
+    ghost merge = { either_merge A.merge B.merge };
+
+    ghost gives = { either_gives A.gives B.gives };
+
+    ghost laws = { either_laws A.Item.is_value A.empty B.empty A.add B.add A.merge B.merge A.laws B.laws };
+
+    fn supply(&self) -> Result<Either<A::Acc, B::Acc>, NoMemory> {
+        match self {
+            Left(side) => Ok(Left(side.supply()?)),
+            Right(side) => Ok(Right(side.supply()?)),
+        }
+    }
+
+    fn accumulate(&self, acc: &mut Either<A::Acc, B::Acc>, x: &A::Item) -> Result<(), NoMemory> {
+        match (self, acc) {
+            (Left(side), Left(acc)) => side.accumulate(acc, x),
+            (Right(side), Right(acc)) => side.accumulate(acc, x),
+            _ => Ok(()),
+        }
+    }
+
+    fn combine(
+        &self,
+        left: &mut Either<A::Acc, B::Acc>,
+        right: Either<A::Acc, B::Acc>,
+    ) -> Result<(), NoMemory> {
+        match (self, left, right) {
+            (Left(side), Left(left), Left(right)) => side.combine(left, right),
+            (Right(side), Right(left), Right(right)) => side.combine(left, right),
+            _ => Ok(()),
+        }
+    }
+
+    fn finish(&self, acc: Either<A::Acc, B::Acc>) -> Result<Either<A::Out, B::Out>, NoMemory> {
+        match (self, acc) {
+            (Left(side), Left(acc)) => Ok(Left(side.finish(acc)?)),
+            (Right(side), Right(acc)) => Ok(Right(side.finish(acc)?)),
+            (Left(side), Right(_)) => Ok(Left(side.finish(side.supply()?)?)),
+            (Right(side), Left(_)) => Ok(Right(side.finish(side.supply()?)?)),
+        }
+    }
+}
