@@ -16,9 +16,11 @@ CHECKS = pathlib.Path(__file__).resolve().parent
 PSTREAM = CHECKS.parent / "crates" / "pstream" / "out" / "pstream"
 EXAMPLES = CHECKS.parent / "examples"
 BUILT = CHECKS / "out"
-SUM = EXAMPLES / "sum.pipeline"
+SUM = EXAMPLES / "01-sum.pipeline"
 # above the number of requests of any run here
 MOST_REQUESTS = 400
+# examples with many leaves at target 1, whose requests are too many to refuse each
+LARGE = ["10-find-first"]
 
 
 def run(words, refused=0, library=None, **streams):
@@ -48,12 +50,13 @@ def refusals(library):
     """Runs in which one request for memory is refused: each ends as with ample memory, or says so."""
     cases = [
         [SUM],
-        [EXAMPLES / "count.pipeline"],
         [SUM, "--workers", "64", "--target", "1"],
         [SUM, "--workers", "65"],
         ["--help"],
         [],
     ]
+    few = (file for file in sorted(EXAMPLES.glob("*.pipeline")) if file.stem not in LARGE)
+    cases += [[file, "--workers", workers, "--target", "1"] for file in few for workers in ["1", "7"]]
     want_of_memory = (3, b"", b"out of memory\n")
     for words in cases:
         ample = run(words, 0, library)

@@ -12,7 +12,7 @@ def cases(Case, pstream, rust):
         peer=[rust(HERE / "peer_sum.rs"), "0", "100000000"],
         limit=1.5,
     )
-    row = HERE.parent.parent / "examples" / "sum.pipeline"
+    row = HERE.parent.parent / "examples" / "01-sum.pipeline"
     yield Case(
         name="range 1 6, sum, whole process",
         ours=[pstream, row],
