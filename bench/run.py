@@ -56,7 +56,7 @@ class Tools:
         """The program of a Rust file, built anew where the file is younger."""
         program = BUILT / source.stem
         if is_older(program, source):
-            subprocess.run(["rustc", "--edition", "2021", "-O", "-o", program, source], check=True)
+            subprocess.run(["rustc", "--edition", "2021", "-O", "-C", "target-cpu=x86-64-v2", "-o", program, source], check=True)
         return program
 
     def java(self, source):
