@@ -1,12 +1,12 @@
 #!/usr/bin/env python3
 """Runs each case here and in its peers, side by side in one run, and prints ratios.
 
-    bench/run.py [--runs N] [--only WORD]
+    bench/run.py [--turns N] [--only WORD]
 
-The machine is shared and noisy, so a case and its peers take turns, the best run of each counts, and only ratios are told.
-`bench/FOLDER/cases.py` names the cases of a layer; a peer is a Rust file beside it, built by `rustc -O`, a Java file, built by `javac`,
-or a line of awk. Ours is always the whole process. Only a warmed Java program tells its own time: that of its best round, without
-the start of its machine. A case that the program refuses is told as such. The program has to be built before (`rt run` in
+The machine is shared and noisy, so a case and its peers take turns of two seconds each, the best run of each counts, and only ratios are
+told. `bench/FOLDER/cases.py` names the cases of a layer; a peer is a Rust file beside it, built by `rustc -O`, a Java file, built by
+`javac`, or a line of awk. Ours is always the whole process. Only a warmed Java program tells its own time: that of its best round,
+without the start of its machine. A case that the program refuses is told as such. The program has to be built before (`rt run` in
 crates/pstream). The status is 1 where a ratio lies above its limit, or a case is refused.
 """
 
@@ -21,6 +21,8 @@ import time
 BENCH = pathlib.Path(__file__).resolve().parent
 PSTREAM = BENCH.parent / "crates" / "pstream" / "out" / "pstream"
 BUILT = BENCH / "out"
+# seconds of a turn; a warmed Java program takes as long
+TURN = 2
 
 
 @dataclasses.dataclass
@@ -85,24 +87,36 @@ def cases():
         yield from module.cases(Tools())
 
 
-def seconds(command, tells_time=False):
-    """How long one run took, and what it wrote."""
+def run(command, tells_time=False):
+    """How long one run took, in seconds, and what it wrote."""
     start = time.perf_counter()
     done = subprocess.run(command, capture_output=True, check=True)
     taken = int(done.stderr) / 1e9 if tells_time else time.perf_counter() - start
     return taken, done.stdout
 
 
-def best_times(case, runs):
-    """The best time of ours and of each peer, in turns."""
+def take_turn(command):
+    """The best time of the runs of a turn, and what they wrote."""
+    start = time.perf_counter()
+    best, written = run(command)
+    while time.perf_counter() - start < TURN:
+        taken, again = run(command)
+        if again != written:
+            sys.exit(f"{command}: wrote {again[:200]!r} after {written[:200]!r}")
+        best = min(best, taken)
+    return best, written
+
+
+def best_times(case, turns):
+    """The best time of ours and of each peer."""
     ours, peers = [], [[] for _ in case.peers]
-    for turn in range(runs):
-        taken, written = seconds(case.ours)
+    for turn in range(turns):
+        taken, written = take_turn(case.ours)
         ours.append(taken)
         for peer, times in zip(case.peers, peers):
             if peer.slow and turn > 0:
                 continue
-            taken, wanted = seconds(peer.command, peer.tells_time)
+            taken, wanted = run(peer.command, True) if peer.tells_time else take_turn(peer.command)
             times.append(taken)
             if written != wanted:
                 sys.exit(f"{case.name}: wrote {written[:200]!r}, and {peer.name} {wanted[:200]!r}")
@@ -117,7 +131,7 @@ def refusal(case):
 
 def main():
     parser = argparse.ArgumentParser()
-    parser.add_argument("--runs", type=int, default=5)
+    parser.add_argument("--turns", type=int, default=3)
     parser.add_argument("--only", default="", help="cases whose name has this word")
     options = parser.parse_args()
     if not PSTREAM.exists():
@@ -131,7 +145,7 @@ def main():
             missed += 1
             print(f"{case.name}: today's program refuses it: {refused}", flush=True)
             continue
-        ours, peers = best_times(case, options.runs)
+        ours, peers = best_times(case, options.turns)
         for peer, time_taken in zip(case.peers, peers):
             found = ours / time_taken
             above = peer.limit is not None and found > peer.limit
