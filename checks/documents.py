@@ -13,6 +13,7 @@ import argparse
 import os
 import pathlib
 import re
+import shlex
 import subprocess
 import sys
 import tempfile
@@ -22,6 +23,9 @@ from program import PSTREAM, run
 
 DOCS = pathlib.Path(__file__).resolve().parent.parent / "docs"
 FENCE = re.compile(r"^```(pipeline|sh)\n(.*?)^```\n(.*?)(?=^```|^#|\Z)", re.MULTILINE | re.DOTALL)
+# macros of the man page that put no space between their words, and those that begin a paragraph
+JOINING = (".BI", ".BR", ".IR", ".RB")
+PARAGRAPHS = (".PP", ".TP")
 OPTION = re.compile(r"^ +(?:-h, )?(--\w+)(?: <(\w)>)? +(.*?)(?: \[default: (\d+)\])?$", re.MULTILINE)
 
 
@@ -50,12 +54,11 @@ class Help:
 # What the man page says.
 
 def spoken(line):
-    """The text of a line of the man page, without marks of fonts and with its macro's words as it joins them."""
+    """The text of a line, with a macro's words as it joins them."""
     if line.startswith("."):
-        macro, _, rest = line.partition(" ")
-        words = [quoted or bare for quoted, bare in re.findall(r'"([^"]*)"|(\S+)', rest)]
-        line = ("" if len(macro) == 3 and macro not in (".SH", ".TP") else " ").join(words)
-    return re.sub(r"\\f[BIR]", "", line).replace("\\-", "-").replace("\\e", "\\")
+        macro, *words = shlex.split(line)
+        return ("" if macro in JOINING else " ").join(words)
+    return line.replace("\\-", "-").replace("\\e", "\\")
 
 
 class Manual:
@@ -73,11 +76,22 @@ class Manual:
         return squeezed(" ".join(spoken(line) for line in self.sections[section]))
 
     def blocks(self, section):
-        """The section's blocks that aren't filled, each with the paragraph before it and the one behind it."""
-        text = "\n".join(spoken(line) if line not in (".nf", ".fi", ".PP", ".TP") else line for line in self.sections[section])
-        pieces = [piece.removesuffix(".PP\n").removesuffix("\n.PP") for piece in re.split(r"^\.(?:nf|fi)\n?", text, flags=re.MULTILINE)]
-        for before, block, after in zip(pieces[::2], pieces[1::2], pieces[2::2]):
-            yield squeezed(before.split(".PP")[-1]), textwrap.dedent(block).rstrip("\n"), squeezed(re.split(r"\.[PT]P", after.removeprefix(".PP"))[0])
+        """The section's blocks that keep their lines, each behind the paragraph before it."""
+        paragraph, block, ended = [], None, False
+        for line in self.sections[section]:
+            if line == ".nf":
+                block = []
+            elif line == ".fi":
+                yield squeezed(" ".join(paragraph)), textwrap.dedent("\n".join(block))
+                block, ended = None, True
+            elif block is not None:
+                block.append(spoken(line))
+            elif line in PARAGRAPHS:
+                ended = True
+            else:
+                paragraph = [] if ended else paragraph
+                paragraph.append(spoken(line))
+                ended = False
 
     def items(self, section):
         """The section's tagged paragraphs."""
@@ -86,7 +100,7 @@ class Manual:
         for at, line in enumerate(lines):
             if line == ".TP":
                 rest = lines[at + 2:]
-                end = next((i for i, other in enumerate(rest) if other in (".TP", ".PP")), len(rest))
+                end = next((i for i, other in enumerate(rest) if other in PARAGRAPHS), len(rest))
                 found[spoken(lines[at + 1])] = squeezed(" ".join(spoken(other) for other in rest[:end]))
         return found
 
@@ -95,19 +109,18 @@ class Manual:
 
 def man_page(manual, told):
     """The man page beside the help."""
-    synopsis = manual.text("SYNOPSIS").replace("[ ", "[").replace(" ]", "]")
+    options = " ".join(f"[{flag} {value}]" for flag, (value, _, _) in told.options.items() if value)
+    yield "synopsis of the man page", manual.text("SYNOPSIS"), f"pstream {options} FILE pstream --help"
+    yield "usage of the help", told.usage, "pstream [OPTIONS] <FILE>"
     for flag, (value, words, default) in told.options.items():
         tag = f"-h, {flag}" if flag == "--help" else f"{flag} {value}"
         said = manual.items("OPTIONS").get(tag, "")
         yield f"{flag} in the man page", (said.startswith(words), f"The default is {default}." in said or not default), (True, True)
-        yield f"{flag} in the synopsis", flag in synopsis, True
     yield "options of the man page", len(manual.items("OPTIONS")), len(told.options)
-    yield "the file in the synopsis", (synopsis.split(" pstream ")[0].split()[-1], told.usage.split()[-1]), ("FILE", "<FILE>")
     yield "statuses of the man page", manual.items("EXIT STATUS"), told.statuses
-    forms = [(block, after) for _, block, after in manual.blocks("THE FILE")]
-    yield "forms of the man page", forms, [(told.grammar, told.ranges)]
-    examples = [(before, block) for before, block, _ in manual.blocks("EXAMPLES")]
-    yield "examples of the man page", examples[:len(told.examples)], told.examples
+    yield "forms of the man page", [block for _, block in manual.blocks("THE FILE")], [told.grammar]
+    yield "ranges of the man page", told.ranges in manual.text("THE FILE"), True
+    yield "examples of the man page", list(manual.blocks("EXAMPLES"))[:len(told.examples)], told.examples
     yield "number of the help's examples", len(told.examples), 2
 
 
@@ -133,8 +146,7 @@ def shown_files():
         yield f"docs/{page} shows files", bool(found), True
         for kind, text, behind in found:
             file = text.encode() if kind == "pipeline" else subprocess.run(["sh", "-c", text], capture_output=True).stdout
-            wanted = next(mark for mark in re.findall(r"`([^`]+)`", behind) if mark != "pstream FILE")
-            yield f"docs/{page}: {squeezed(text)[:60]}", printed(file), wanted
+            yield f"docs/{page}: {squeezed(text)[:60]}", printed(file), re.search(r"`([^`]+)`", behind).group(1)
 
 
 def help_examples(told):
@@ -146,7 +158,7 @@ def sessions(manual):
     """The commands of the man page, in one folder."""
     with tempfile.TemporaryDirectory() as folder:
         environment = dict(os.environ) | {"PATH": f"{PSTREAM.parent}:{os.environ['PATH']}"}
-        for _, block, _ in manual.blocks("EXAMPLES"):
+        for _, block in manual.blocks("EXAMPLES"):
             for session in re.findall(r"^\$ (.*\n(?:> .*\n)*)((?:(?!\$ ).*\n)*)", block + "\n", re.MULTILINE):
                 command = session[0].replace("\n> ", "\n")
                 done = subprocess.run(["sh", "-c", command], stdout=subprocess.PIPE, stderr=subprocess.STDOUT, cwd=folder, env=environment)
