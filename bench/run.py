@@ -1,11 +1,13 @@
 #!/usr/bin/env python3
-"""Runs each case here and in a peer, side by side in one run, and prints ratios.
+"""Runs each case here and in its peers, side by side in one run, and prints ratios.
 
-    bench/run.py [--runs N] [--only WORD]
+    bench/run.py [--turns N] [--only WORD]
 
-The machine is shared and noisy, so a case and its peer take turns, the best run of each counts, and only their ratio is
-told. `bench/FOLDER/cases.py` names the cases of a layer; a peer is a Rust file beside it, built by `rustc -O`. The
-program has to be built before (`rt run` in crates/pstream).
+The machine is shared and noisy, so a case and its peers take turns of two seconds each, the best run of each counts, and only ratios are
+told. `bench/FOLDER/cases.py` names the cases of a layer; a peer is a Rust file beside it, built by `rustc -O`, a Java file, built by
+`javac`, or a line of awk. Ours is always the whole process. Only a warmed Java program tells its own time: that of its best round,
+without the start of its machine. A case that the program refuses is told as such. The program has to be built before (`rt run` in
+crates/pstream). The status is 1 where a ratio lies above its limit, or a case is refused.
 """
 
 import argparse
@@ -19,25 +21,62 @@ import time
 BENCH = pathlib.Path(__file__).resolve().parent
 PSTREAM = BENCH.parent / "crates" / "pstream" / "out" / "pstream"
 BUILT = BENCH / "out"
+# seconds of a turn; a warmed Java program takes as long
+TURN = 2
+
+
+@dataclasses.dataclass
+class Peer:
+    """A command that writes what ours writes, and the most that ours may take, in times of it, where there is a limit."""
+
+    name: str
+    command: list
+    limit: float | None = None
+    # It writes the nanoseconds of its best round to standard error.
+    tells_time: bool = False
+    # It runs in the first turn alone.
+    slow: bool = False
 
 
 @dataclasses.dataclass
 class Case:
-    """What is compared: two commands that write the same, and the ratio that ours may cost."""
+    """What is compared: our command, and its peers."""
 
     name: str
     ours: list
-    peer: list
-    limit: float
+    peers: list
 
 
-def rust(source):
-    """The program of a Rust file, built anew where the file is younger."""
-    program = BUILT / source.stem
-    if not program.exists() or program.stat().st_mtime < source.stat().st_mtime:
-        BUILT.mkdir(exist_ok=True)
-        subprocess.run(["rustc", "-O", "-o", program, source], check=True)
-    return program
+class Tools:
+    """What the cases of a layer are made with."""
+
+    Case = Case
+    Peer = Peer
+    pstream = PSTREAM
+
+    def rust(self, source):
+        """The program of a Rust file, built anew where the file is younger."""
+        program = BUILT / source.stem
+        if is_older(program, source):
+            subprocess.run(["rustc", "--edition", "2021", "-O", "-C", "target-cpu=x86-64-v2", "-o", program, source], check=True)
+        return program
+
+    def java(self, source):
+        """The words before those of a Java program, built anew where the file is younger."""
+        if is_older(BUILT / f"{source.stem}.class", source):
+            subprocess.run(["javac", "-d", BUILT, source], check=True)
+        # three threads beside the one that calls
+        return ["java", "-cp", BUILT, "-Djava.util.concurrent.ForkJoinPool.common.parallelism=3", source.stem]
+
+    def file(self, name, lines):
+        """A file of these lines."""
+        path = BUILT / f"{name}.pipeline"
+        path.write_text("".join(f"{line}\n" for line in lines))
+        return path
+
+
+def is_older(built, source):
+    return not built.exists() or built.stat().st_mtime < source.stat().st_mtime
 
 
 def cases():
@@ -45,44 +84,75 @@ def cases():
         spec = importlib.util.spec_from_file_location(f"cases_{path.parent.name}", path)
         module = importlib.util.module_from_spec(spec)
         spec.loader.exec_module(module)
-        yield from module.cases(Case, PSTREAM, rust)
+        yield from module.cases(Tools())
 
 
-def seconds(command):
-    """How long one run took, and what it wrote."""
+def run(command, tells_time=False):
+    """How long one run took, in seconds, and what it wrote."""
     start = time.perf_counter()
-    done = subprocess.run(command, stdout=subprocess.PIPE, check=True)
-    return time.perf_counter() - start, done.stdout
+    done = subprocess.run(command, capture_output=True, check=True)
+    taken = int(done.stderr) / 1e9 if tells_time else time.perf_counter() - start
+    return taken, done.stdout
 
 
-def ratio(case, runs):
-    """Best of ours by best of the peer's, in turns."""
-    ours, peer = [], []
-    for _ in range(runs):
-        taken, written = seconds(case.ours)
+def take_turn(command):
+    """The best time of the runs of a turn, and what they wrote."""
+    start = time.perf_counter()
+    best, written = run(command)
+    while time.perf_counter() - start < TURN:
+        taken, again = run(command)
+        if again != written:
+            sys.exit(f"{command}: wrote {again[:200]!r} after {written[:200]!r}")
+        best = min(best, taken)
+    return best, written
+
+
+def best_times(case, turns):
+    """The best time of ours and of each peer."""
+    ours, peers = [], [[] for _ in case.peers]
+    for turn in range(turns):
+        taken, written = take_turn(case.ours)
         ours.append(taken)
-        taken, wanted = seconds(case.peer)
-        peer.append(taken)
-        if written != wanted:
-            sys.exit(f"{case.name}: wrote {written!r}, and the peer {wanted!r}")
-    return min(ours) / min(peer)
+        for peer, times in zip(case.peers, peers):
+            if peer.slow and turn > 0:
+                continue
+            taken, wanted = run(peer.command, True) if peer.tells_time else take_turn(peer.command)
+            times.append(taken)
+            if written != wanted:
+                sys.exit(f"{case.name}: wrote {written[:200]!r}, and {peer.name} {wanted[:200]!r}")
+    return min(ours), [min(times) for times in peers]
+
+
+def refusal(case):
+    """What the program says of a case that it can't do."""
+    done = subprocess.run(case.ours, capture_output=True)
+    return done.stderr.decode().strip() if done.returncode else None
 
 
 def main():
     parser = argparse.ArgumentParser()
-    parser.add_argument("--runs", type=int, default=15)
+    parser.add_argument("--turns", type=int, default=3)
     parser.add_argument("--only", default="", help="cases whose name has this word")
     options = parser.parse_args()
     if not PSTREAM.exists():
         sys.exit("crates/pstream/out/pstream is missing: `rt run` in crates/pstream builds it")
-    above = 0
+    BUILT.mkdir(exist_ok=True)
+    missed = 0
     for case in cases():
         if options.only not in case.name:
             continue
-        found = ratio(case, options.runs)
-        above += found > case.limit
-        print(f"{case.name}: {found:.2f} times the peer (at most {case.limit})")
-    sys.exit(1 if above else 0)
+        if refused := refusal(case):
+            missed += 1
+            print(f"{case.name}: today's program refuses it: {refused}", flush=True)
+            continue
+        ours, peers = best_times(case, options.turns)
+        for peer, time_taken in zip(case.peers, peers):
+            found = ours / time_taken
+            above = peer.limit is not None and found > peer.limit
+            missed += above
+            limit = "" if peer.limit is None else f" (at most {peer.limit}{', MISSED' if above else ''})"
+            print(f"{case.name}: {found:.3g} times {peer.name}{limit}", flush=True)
+    sys.exit(1 if missed else 0)
 
 
 if __name__ == "__main__":

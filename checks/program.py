@@ -16,16 +16,18 @@ CHECKS = pathlib.Path(__file__).resolve().parent
 PSTREAM = CHECKS.parent / "crates" / "pstream" / "out" / "pstream"
 EXAMPLES = CHECKS.parent / "examples"
 BUILT = CHECKS / "out"
-SUM = EXAMPLES / "sum.pipeline"
-# above the number of requests of any run here
-MOST_REQUESTS = 400
+SUM = EXAMPLES / "01-sum.pipeline"
+# how many requests of a run are refused, evenly spread where it makes more
+MOST_REFUSALS = 400
+# the status of a run that got to its last request
+REACHED = 77
 
 
-def run(words, refused=0, library=None, **streams):
+def run(words, library=None, refused=0, last=0, **streams):
     """Status, standard output and standard error of one run."""
     environment = dict(os.environ)
     if library:
-        environment |= {"LD_PRELOAD": str(library), "REFUSED_REQUEST": str(refused)}
+        environment |= {"LD_PRELOAD": str(library), "REFUSED_REQUEST": str(refused), "LAST_REQUEST": str(last)}
     streams.setdefault("stdout", subprocess.PIPE)
     done = subprocess.run([PSTREAM, *words], stderr=subprocess.PIPE, env=environment, timeout=60, **streams)
     return done.returncode, done.stdout or b"", done.stderr
@@ -48,19 +50,31 @@ def refusals(library):
     """Runs in which one request for memory is refused: each ends as with ample memory, or says so."""
     cases = [
         [SUM],
-        [EXAMPLES / "count.pipeline"],
         [SUM, "--workers", "64", "--target", "1"],
         [SUM, "--workers", "65"],
         ["--help"],
         [],
     ]
+    examples = sorted(EXAMPLES.glob("*.pipeline"))
+    cases += [[file, "--workers", workers, "--target", "1"] for file in examples for workers in ["1", "7"]]
     want_of_memory = (3, b"", b"out of memory\n")
     for words in cases:
-        ample = run(words, 0, library)
-        ends = [run(words, refused, library) for refused in range(1, MOST_REQUESTS)]
-        wrong = [(at, end) for at, end in enumerate(ends, 1) if end not in (ample, want_of_memory)]
-        name = f"memory refused in turn, {[str(word) for word in words]}, {ends.count(want_of_memory)} times"
-        yield name, (wrong, ends[-1]), ([], ample)
+        ample = run(words, library)
+        above = above_requests(words, library)
+        numbers = range(1, above, max(above // MOST_REFUSALS, 1))
+        ends = [(number, run(words, library, refused=number)) for number in numbers]
+        wrong = [(number, end) for number, end in ends if end not in (ample, want_of_memory)]
+        wants = sum(end == want_of_memory for _, end in ends)
+        spoken = " ".join(getattr(word, "stem", word) for word in words)
+        yield f"memory refused in turn, `{spoken}`: {wants} wants of memory in {len(ends)} runs", (wrong, wants > 0), ([], True)
+
+
+def above_requests(words, library):
+    """A number above that of the requests of a run."""
+    number = 64
+    while run(words, library, last=number)[0] == REACHED:
+        number *= 2
+    return number
 
 
 def main():

@@ -1,21 +1,104 @@
-"""The program beside plain Rust programs."""
+"""The program beside Java's streams, plain Rust programs and awk.
+
+Java's warmed streams are the measure for 100,000,000 numbers and for collectors, a plain loop of Rust threads for numbers, Java's whole
+process for the smallest file. Times of awk are told where it can say the same, with no limit: it has one thread and its numbers are
+floats.
+"""
 
 import pathlib
+import random
 
 HERE = pathlib.Path(__file__).resolve().parent
+MANY = 100_000_000
+SOME = 10_000_000
+WORKERS = 4
+
+# the lines behind the range, the constants, and what awk does where its numbers are exact: an item, and the end
+NUMBERS = {
+    "sum": (["sum"], [], ("s += i", 'printf "%.0f\\n", s')),
+    "map-sum": (["map mul 3", "sum"], [3], None),
+    "filter-sum": (["filter divisible 7", "sum"], [7], ("if (i % 7 == 0) s += i", 'printf "%.0f\\n", s')),
+    "map-filter-sum": (["map mul 3", "filter greater 1000", "sum"], [3, 1000], None),
+    "mod-max": (["map mod 1000", "max"], [1000], ("r = i % 1000; if (r > m) m = r", 'printf "Optional[%d]\\n", m')),
+    "map-filter-max": (["map mul 3", "filter divisible 7", "max"], [3, 7], None),
+}
+
+# a map of counts, keys in the order of their first item
+COUNT = "if (!(k in c)) o[m++] = k; c[k]++"
+PRINT_COUNTS = 'printf "{"; for (j = 0; j < m; j++) printf "%s%d=%d", j ? ", " : "", o[j], c[o[j]]; print "}"'
+
+COLLECTORS = {
+    "group": (SOME, ["groupby mod 1000 counting"], [1000], ("k = i % 1000; " + COUNT, PRINT_COUNTS)),
+    "distinct": (SOME, ["map mod 100000", "distinct", "count"], [100000], ("k = i % 100000; if (!(k in c)) { c[k]; m++ }", "print m")),
+    "list": (1_000_000, ["tolist"], [], ('printf "%s%d", i ? ", " : "[", i', 'print "]"')),
+}
 
 
-def cases(Case, pstream, rust):
-    yield Case(
-        name="sum of 100,000,000 numbers, whole process",
-        ours=[pstream, HERE / "hundred_million.pipeline"],
-        peer=[rust(HERE / "peer_sum.rs"), "0", "100000000"],
-        limit=1.5,
-    )
-    row = HERE.parent.parent / "examples" / "sum.pipeline"
-    yield Case(
-        name="range 1 6, sum, whole process",
-        ours=[pstream, row],
-        peer=[rust(HERE / "peer_row.rs"), row],
-        limit=3.0,
-    )
+def number_cases(tools):
+    peer = tools.rust(HERE / "peer_numbers.rs")
+    java = tools.java(HERE / "Pipelines.java")
+    for name, (lines, constants, awk) in NUMBERS.items():
+        file = tools.file(name, ["pipeline 1", f"range 0 {MANY}", *lines])
+        words = [str(word) for word in [0, MANY, *constants]]
+        peers = [
+            tools.Peer("Java's warmed parallel stream", [*java, "warm", name, *words], limit=1, tells_time=True),
+            tools.Peer("Rust threads by hand", [peer, name, str(WORKERS), *words], limit=2),
+            tools.Peer("Java's whole process", [*java, "cold", name, *words]),
+            *awk_peers(tools, MANY, awk),
+        ]
+        yield tools.Case(f"{MANY:,} numbers, {name}", [tools.pstream, file, "--workers", str(WORKERS)], peers)
+
+
+def collector_cases(tools):
+    java = tools.java(HERE / "Pipelines.java")
+    for name, (count, lines, constants, awk) in COLLECTORS.items():
+        file = tools.file(name, ["pipeline 1", f"range 0 {count}", *lines])
+        words = [str(word) for word in [0, count, *constants]]
+        peers = [
+            tools.Peer("Java's warmed best", [*java, "warm", name, *words], limit=1, tells_time=True),
+            tools.Peer("Java's whole process", [*java, "cold", name, *words]),
+            *awk_peers(tools, count, awk),
+        ]
+        yield tools.Case(f"{count:,} numbers, {name}", [tools.pstream, file, "--workers", str(WORKERS)], peers)
+
+
+def awk_peers(tools, count, awk):
+    if awk:
+        item, end = awk
+        program = f"BEGIN {{ for (i = 0; i < {count}; i++) {{ {item} }} {end} }}"
+        yield tools.Peer("awk", ["awk", program], slow=True)
+
+
+def line_case(tools):
+    """A megabyte of lines, grouped by length."""
+    lines, size = [], 0
+    letters = random.Random(1)
+    while size < 1_000_000:
+        lines.append("".join(letters.choices("abcdefghij klmnop", k=letters.randrange(60))))
+        size += len(lines[-1]) + 1
+    file = tools.file("lines", ["pipeline 1", f"lines {len(lines)}", *lines, "groupby length count"])
+    java = tools.java(HERE / "Pipelines.java")
+    program = f"NR > 2 && NR <= {len(lines) + 2} {{ k = length($0); {COUNT} }} END {{ {PRINT_COUNTS} }}"
+    peers = [
+        tools.Peer("Java's warmed best", [*java, "warm", "lines", file], limit=1, tells_time=True),
+        tools.Peer("Java's whole process", [*java, "cold", "lines", file]),
+        tools.Peer("awk", ["awk", program, file]),
+    ]
+    yield tools.Case("a megabyte of lines grouped by length", [tools.pstream, file, "--workers", str(WORKERS)], peers)
+
+
+def small_case(tools):
+    """The whole process on five numbers."""
+    file = HERE.parent.parent / "examples" / "01-sum.pipeline"
+    peers = [
+        tools.Peer("Java's whole process", [*tools.java(HERE / "Pipelines.java"), "cold", "sum", "1", "6"], limit=1 / 50),
+        tools.Peer("a Rust program that reads the file and prints 15", [tools.rust(HERE / "peer_row.rs"), file], limit=3),
+    ]
+    yield tools.Case("five numbers, sum", [tools.pstream, file], peers)
+
+
+def cases(tools):
+    yield from small_case(tools)
+    yield from line_case(tools)
+    yield from collector_cases(tools)
+    yield from number_cases(tools)

@@ -6,17 +6,69 @@ use std::alloc::{AllocError, Global};
 use std::test::Fail;
 use std::thread::Threads;
 
-const HELP: &str = "Runs a pipeline file
+const HELP: &str = "Runs a pipeline file, and writes its answer
 
 Usage: pstream [OPTIONS] <FILE>
 
 Arguments:
-  <FILE>  The pipeline file
+  <FILE>  The pipeline file; /dev/stdin is standard input
 
 Options:
-      --workers <W>  How many workers run the leaves [default: 4]
+      --workers <W>  How many workers run the leaves, 1 to 64 [default: 4]
       --target <T>   The most items of a leaf; 0 chooses it [default: 0]
   -h, --help         Print help
+
+FILE has a line for each of these, its words one space apart:
+
+  VERSION   pipeline 1 | pipeline 2, which adds what stands behind 2:
+  SOURCE    range N N | closed N N | numbers N .. | lines N, and N lines of text
+  STAGE     none to 32 of them:
+            map MAP | filter TEST | flatmap repeat N | flatmap words | distinct
+            limit N | skip N | takewhile TEST | dropwhile TEST
+  TERMINAL  sum | product | max | min | count | findfirst | tolist
+            allmatch TEST | anymatch TEST | nonematch TEST
+            joining W | joining W W W
+            groupby MAP COLL | partition TEST COLL | teeing COLL COLL
+            tomap MAP MAP MERGE
+            2: tomapstrict MAP MAP
+
+  MAP       add N | mul N | negate | mod N | length | self
+  TEST      less N | greater N | equals N | divisible N
+            empty | starts W | longer N
+  MERGE     first | last | sum | max | min
+  COLL      BASE
+            2: mapping MAP INNER | filtering TEST INNER | groupby MAP INNER
+  INNER     BASE | mapping MAP BASE | filtering TEST BASE
+  BASE      count | counting | sum | max | min | first | tolist | joining W
+
+W is any word, N a number of 64 bits with its sign: at least 1 after mod and
+divisible, 0 after limit, skip and longer, 0 to 1000 after repeat, 0 to 1000000
+after lines. Only texts have length, words, empty, starts, longer and joining;
+only numbers have add, mul, negate, mod, less, greater, equals, divisible, sum,
+product, max and min.
+
+The multiples of 3 below 100, doubled and summed; it writes 3366:
+
+  pipeline 1
+  range 0 100
+  filter divisible 3
+  map mul 2
+  sum
+
+How often each word stands in a line; it writes {to=2, be=2, or=1, not=1}:
+
+  pipeline 1
+  lines 1
+  to be or not to be
+  flatmap words
+  groupby self count
+
+Status:
+
+  0  the answer or this help was written
+  2  a fault of the command line or of the file
+  3  out of memory, or a file that can't be read or written
+  4  a key of tomapstrict that comes twice
 ";
 
 /// A program's end: its status, what it wrote, and what it told.
