@@ -105,7 +105,7 @@ first_answer coming n line lines (Ok (TerminalLine terminal)) is rest h = termin
 pub body_answer : (lines : List (List ℕ)) (coming : Coming) (n : ℕ) → AnswersBody coming n lines (body_from coming n lines)
 body_answer [] coming n = inl (record { front = []; left = []; steps = []; whole = refl; stages = tt; line = omega arith; here = refl })
 body_answer (line ∷ lines) coming n =
-    first_answer coming n line lines (line_of (bodies coming) body_of line) (line_answer (bodies coming) body_of body_phrase line)
+    first_answer coming n line lines (line_of (bodies coming) (body_of coming.version) line) (line_answer (bodies coming) (body_of coming.version) (body_phrase coming.version) line)
     (λ stage. body_from (after_stage coming stage) (n + 1) lines) (λ stage. body_answer lines (after_stage coming stage) (n + 1))
 
 -- stages in front of a body
@@ -126,13 +126,13 @@ with_ending stages terminal (Ok x) = ap (λ ss. let b : Body = (ss, terminal) in
 with_ending stages terminal (Err fault) = refl
 
 -- one line of a body
-pub stage_is_read : (coming : Coming) (n : ℕ) (line : List ℕ) (lines : List (List ℕ)) (stage : Stage) → line_of (bodies coming) body_of line ≡ Ok (StageLine stage) → body_from coming n (line ∷ lines) ≡ with_stages (stage ∷ []) (body_from (after_stage coming stage) (n + 1) lines)
+pub stage_is_read : (coming : Coming) (n : ℕ) (line : List ℕ) (lines : List (List ℕ)) (stage : Stage) → line_of (bodies coming) (body_of coming.version) line ≡ Ok (StageLine stage) → body_from coming n (line ∷ lines) ≡ with_stages (stage ∷ []) (body_from (after_stage coming stage) (n + 1) lines)
 stage_is_read coming n line lines stage e = ap (λ r. at_line n r >>= λ b. after_line b (no_more (n + 1) lines) (λ stage. body_from (after_stage coming stage) (n + 1) lines)) e
 
-pub terminal_is_read : (coming : Coming) (n : ℕ) (line : List ℕ) (lines : List (List ℕ)) (terminal : Terminal) → line_of (bodies coming) body_of line ≡ Ok (TerminalLine terminal) → body_from coming n (line ∷ lines) ≡ (no_more (n + 1) lines >>= λ _. let body : Body = ([], terminal) in Ok body)
+pub terminal_is_read : (coming : Coming) (n : ℕ) (line : List ℕ) (lines : List (List ℕ)) (terminal : Terminal) → line_of (bodies coming) (body_of coming.version) line ≡ Ok (TerminalLine terminal) → body_from coming n (line ∷ lines) ≡ (no_more (n + 1) lines >>= λ _. let body : Body = ([], terminal) in Ok body)
 terminal_is_read coming n line lines terminal e = ap (λ r. at_line n r >>= λ b. after_line b (no_more (n + 1) lines) (λ stage. body_from (after_stage coming stage) (n + 1) lines)) e
 
-pub fault_is_told : (coming : Coming) (n : ℕ) (line : List ℕ) (lines : List (List ℕ)) (kind : FileError) → line_of (bodies coming) body_of line ≡ Err kind → body_from coming n (line ∷ lines) ≡ Err (record { line = n; kind = kind })
+pub fault_is_told : (coming : Coming) (n : ℕ) (line : List ℕ) (lines : List (List ℕ)) (kind : FileError) → line_of (bodies coming) (body_of coming.version) line ≡ Err kind → body_from coming n (line ∷ lines) ≡ Err (record { line = n; kind = kind })
 fault_is_told coming n line lines kind e = ap (λ r. at_line n r >>= λ b. after_line b (no_more (n + 1) lines) (λ stage. body_from (after_stage coming stage) (n + 1) lines)) e
 
 -- Stage lines are read, and then what is left.
@@ -142,7 +142,7 @@ stages_are_read [] (stage ∷ stages) coming n left are = absurd are
 stages_are_read (line ∷ front) [] coming n left are = absurd are
 stages_are_read (line ∷ front) (stage ∷ stages) coming n left are =
     let number : (n + 1) + length front ≡ n + length (line ∷ front) = omega arith in
-    stage_is_read coming n line (front ++ left) stage (line_is_read (bodies coming) body_of body_phrase line (StageLine stage) are.0)
+    stage_is_read coming n line (front ++ left) stage (line_is_read (bodies coming) (body_of coming.version) (body_phrase coming.version) line (StageLine stage) are.0)
     ∙ ap (with_stages (stage ∷ [])) (stages_are_read front stages (after_stage coming stage) (n + 1) left are.1)
     ∙ with_first stage stages (body_from (after_stages (after_stage coming stage) stages) ((n + 1) + length front) left)
     ∙ ap (λ m. with_stages (stage ∷ stages) (body_from (after_stages (after_stage coming stage) stages) m left)) number
@@ -156,7 +156,7 @@ body_is_read coming n front left body is =
     ap (λ lines. body_from coming n (lines ++ left)) is.whole
     ∙ ap (body_from coming n) (append_assoc is.stage_lines (is.terminal_line ∷ []) left)
     ∙ stages_are_read is.stage_lines stages coming n (is.terminal_line ∷ left) is.stages
-    ∙ ap (with_stages stages) (terminal_is_read (after_stages coming stages) m is.terminal_line left body.1 (line_is_read (bodies (after_stages coming stages)) body_of body_phrase is.terminal_line (TerminalLine body.1) is.terminal))
+    ∙ ap (with_stages stages) (terminal_is_read (after_stages coming stages) m is.terminal_line left body.1 (line_is_read (bodies (after_stages coming stages)) (body_of (after_stages coming stages).version) (body_phrase (after_stages coming stages).version) is.terminal_line (TerminalLine body.1) is.terminal))
     ∙ with_ending stages body.1 (no_more (m + 1) left)
     ∙ ap (λ k. no_more k left >>= λ _. let b : Body = (body.0, body.1) in Ok b) number
 
@@ -185,7 +185,7 @@ fault_first coming n [] fault e = ap Err (err_same (record { line = n; kind = Mi
   where
     err_same : (one other : FileFault) → (let r : Result BodyLine FileFault = Err one in r) ≡ Err other → one ≡ other
     err_same one other e = cc
-fault_first coming n (line ∷ lines) fault e = err_first (no_more (n + 1) lines) (λ stage. body_from (after_stage coming stage) (n + 1) lines) (at_line n (line_of (bodies coming) body_of line)) fault e
+fault_first coming n (line ∷ lines) fault e = err_first (no_more (n + 1) lines) (λ stage. body_from (after_stage coming stage) (n + 1) lines) (at_line n (line_of (bodies coming) (body_of coming.version) line)) fault e
 
 as_stage : (ending : Result (Unit {0}) FileFault) (rest : Stage → Result Body FileFault) (r : Result BodyLine FileFault) (stage : Stage) → (r >>= λ b. ending_with b ending) ≡ Ok (StageLine stage) → (r >>= λ b. after_line b ending rest) ≡ with_stages (stage ∷ []) (rest stage)
 as_stage ending rest (Err fault) stage e = absurd cc
@@ -211,9 +211,9 @@ nothing_first n b e = cc
 pub stage_first : (coming : Coming) (n : ℕ) (lines : List (List ℕ)) (stage : Stage) → first_of coming n lines ≡ Ok (StageLine stage) → body_from coming n lines ≡ with_stages (stage ∷ []) (body_from (after_stage coming stage) (n + 1) (drop 1 lines))
 unfolding first_of
 stage_first coming n [] stage e = absurd (nothing_first n (StageLine stage) e)
-stage_first coming n (line ∷ lines) stage e = as_stage (no_more (n + 1) lines) (λ stage. body_from (after_stage coming stage) (n + 1) lines) (at_line n (line_of (bodies coming) body_of line)) stage e
+stage_first coming n (line ∷ lines) stage e = as_stage (no_more (n + 1) lines) (λ stage. body_from (after_stage coming stage) (n + 1) lines) (at_line n (line_of (bodies coming) (body_of coming.version) line)) stage e
 
 pub terminal_first : (coming : Coming) (n : ℕ) (lines : List (List ℕ)) (terminal : Terminal) → first_of coming n lines ≡ Ok (TerminalLine terminal) → body_from coming n lines ≡ Ok ([], terminal)
 unfolding first_of
 terminal_first coming n [] terminal e = absurd (nothing_first n (TerminalLine terminal) e)
-terminal_first coming n (line ∷ lines) terminal e = as_terminal (no_more (n + 1) lines) (λ stage. body_from (after_stage coming stage) (n + 1) lines) (at_line n (line_of (bodies coming) body_of line)) terminal e
+terminal_first coming n (line ∷ lines) terminal e = as_terminal (no_more (n + 1) lines) (λ stage. body_from (after_stage coming stage) (n + 1) lines) (at_line n (line_of (bodies coming) (body_of coming.version) line)) terminal e

@@ -1,5 +1,5 @@
 -- A file has one reading: what the reader answers is its meaning or its fault, and nothing else is.
-use Rattle.std.proofs.Common.{◌≡◌, ◌⊎◌, ℕ, zero, suc, ◌+◌, ◌<◌, ◌≤◌, true, List, [], ◌∷◌, ◌++◌, length, Result, Ok, Err, IfOk, IfErr, refl, sym, ap, subst, ◌∙◌, inl, inr, arith}
+use Rattle.std.proofs.Common.{◌≡◌, ◌⊎◌, ℕ, zero, suc, ◌+◌, ◌<◌, ◌≤◌, true, false, List, [], ◌∷◌, ◌++◌, length, Result, Ok, Err, IfOk, IfErr, refl, sym, ap, subst, ◌∙◌, inl, inr, arith}
 use Rattle.std.specs.Prelude.{IsUtf8, nat_lt}
 use Rattle.std.specs.Str.{is_utf8, bytes_eq, chars}
 use Rattle.std.proofs.lemmas.Bool.{cond_both, cond-true, cond-false, le-ltb, lt-ltb, ltb-true, ltb-false, false≢true, false_from_ne_true}
@@ -12,11 +12,13 @@ use Rattle.pipeline_language.specs.declared.fault.FileFault.{FileFault}
 use Rattle.pipeline_language.specs.declared.fault.ReadError.{ReadError}
 use Rattle.pipeline_language.specs.declared.fault.ReadError.TheVariants.{Fault, NoMemory}
 use Rattle.pipeline_language.specs.declared.pipeline.Pipeline.{Pipeline}
+use Rattle.pipeline_language.specs.declared.version.Version.{Version}
+use Rattle.pipeline_language.specs.declared.version.Version.TheVariants.{One, Two}
 use Rattle.pipeline_language.specs.Words.{lines_of}
 use Rattle.pipeline_language.specs.Form.{IsLineOf}
 use Rattle.pipeline_language.specs.Syntax.{Origin, origins, text_count, Coming, bodies, Program}
 use Rattle.pipeline_language.specs.Content.{Body, program_of}
-use Rattle.pipeline_language.specs.Language.{version, VersionFault, Place, VersionPlace, SourcePlace, TextPlace, BodyPlace, EndPlace, LeadsTo, FaultOfNext, IsProgramOf, AreTexts, IsBeginningOfTexts, IsBeginningOf, IsFaultOfLines, from_origin, after_stages, Means, HasFault, most_bytes}
+use Rattle.pipeline_language.specs.Language.{first_line, VersionFault, Place, VersionPlace, SourcePlace, TextPlace, BodyPlace, EndPlace, LeadsTo, FaultOfNext, IsProgramOf, AreTexts, IsBeginningOfTexts, IsBeginningOf, IsFaultOfLines, from_origin, after_stages, Means, HasFault, most_bytes}
 use Rattle.pipeline_language.specs.Reading.{◌>>=◌, line_of}
 use Rattle.pipeline_language.specs.SyntaxReading.{body_of, origin_words}
 use Rattle.pipeline_language.specs.FileReading.{IfFault, Reads, Texts, with_texts, texts_from, from_texts, at_line, version_of, after_end, no_more, with_stages, body_from, from_source, program_from, file_of}
@@ -34,31 +36,44 @@ AnswersFile file (Ok program) = Means file program
 AnswersFile file (Err fault) = HasFault file fault
 
 -- the first line
-abbrev AnswersVersion : List ℕ → Result (Unit {0}) FileError → Type 0
-AnswersVersion line (Ok x) = line ≡ version
+abbrev AnswersVersion : List ℕ → Result Version FileError → Type 0
+AnswersVersion line (Ok version) = line ≡ first_line version
 AnswersVersion line (Err kind) = VersionFault line kind
+
+-- a line that is the first of neither version
+neither : (line : List ℕ) → bytes_eq line (first_line One) ≡ false → bytes_eq line (first_line Two) ≡ false → (version : Version) → line ≡ first_line version → ⊥
+neither line one two One e = false≢true (sym one ∙ (bytes_eq-Decides line (first_line One)).1 e)
+neither line one two Two e = false≢true (sym two ∙ (bytes_eq-Decides line (first_line Two)).1 e)
 
 version_answer : (line : List ℕ) → AnswersVersion line (version_of line)
 unfolding version_of
 version_answer line = cond_both (is_utf8 line) _ (Err BadText) (AnswersVersion line)
-    (λ t. cond_both (bytes_eq line version) (Ok tt) (Err BadVersion) (AnswersVersion line)
-    (λ same. (bytes_eq-Decides line version).0 same)
-    (λ other. inr (IsUtf8-from_is_utf8 line t, (λ e. false≢true (sym other ∙ (bytes_eq-Decides line version).1 e)), refl)))
+    (λ t. cond_both (bytes_eq line (first_line One)) (Ok One) _ (AnswersVersion line)
+    (λ same. (bytes_eq-Decides line (first_line One)).0 same)
+    (λ one. cond_both (bytes_eq line (first_line Two)) (Ok Two) (Err BadVersion) (AnswersVersion line)
+    (λ same. (bytes_eq-Decides line (first_line Two)).0 same)
+    (λ two. inr (IsUtf8-from_is_utf8 line t, neither line one two, refl))))
     (λ t. inl (not_text line t, refl))
 
-version_text : is_utf8 version ≡ true
+version_text : (version : Version) → is_utf8 (first_line version) ≡ true
 unfolding is_utf8 chars lib.Utf8.encode
-version_text = refl
+version_text One = refl
+version_text Two = refl
 
-version_is_read : version_of version ≡ Ok tt
+version_is_read : (version : Version) → version_of (first_line version) ≡ Ok version
 unfolding version_of
-version_is_read = cond-true (is_utf8 version) _ (Err BadText) version_text ∙ cond-true (bytes_eq version version) (Ok tt) (Err BadVersion) ((bytes_eq-Decides version version).1 refl)
+version_is_read One = cond-true (is_utf8 (first_line One)) _ (Err BadText) (version_text One)
+version_is_read Two = cond-true (is_utf8 (first_line Two)) _ (Err BadText) (version_text Two)
+
+other_line : (line : List ℕ) (version : Version) → (line ≡ first_line version → ⊥) → bytes_eq line (first_line version) ≡ false
+other_line line version other = false_from_ne_true (bytes_eq line (first_line version)) (λ t. other ((bytes_eq-Decides line (first_line version)).0 t))
 
 version_fault_is_read : (line : List ℕ) (kind : FileError) → VersionFault line kind → version_of line ≡ Err kind
 unfolding version_of
 version_fault_is_read line kind (inl fault) = cond-false (is_utf8 line) _ (Err BadText) (false_from_ne_true (is_utf8 line) (λ t. fault.0 (IsUtf8-from_is_utf8 line t))) ∙ ap Err (sym fault.1)
 version_fault_is_read line kind (inr fault) = cond-true (is_utf8 line) _ (Err BadText) (is_utf8-from_IsUtf8 line fault.0)
-    ∙ cond-false (bytes_eq line version) (Ok tt) (Err BadVersion) (false_from_ne_true (bytes_eq line version) (λ t. fault.1 ((bytes_eq-Decides line version).0 t))) ∙ ap Err (sym fault.2)
+    ∙ cond-false (bytes_eq line (first_line One)) (Ok One) _ (other_line line One (fault.1 One))
+    ∙ cond-false (bytes_eq line (first_line Two)) (Ok Two) (Err BadVersion) (other_line line Two (fault.1 Two)) ∙ ap Err (sym fault.2)
 
 -- the texts
 abbrev IsFaultOfTexts : ℕ → ℕ → List (List ℕ) → FileFault → Type 0
@@ -108,15 +123,16 @@ text_fault_is_told (text ∷ front) (suc count) n left kind are less here =
 abbrev made : Origin → List (List ℕ) → Body → Program
 made origin texts body = record { origin = origin; texts = texts; stages = body.0; terminal = body.1 }
 
-abbrev head : List ℕ → List (List ℕ) → List (List ℕ)
-head line lines = version ∷ line ∷ lines
+abbrev head : Version → List ℕ → List (List ℕ) → List (List ℕ)
+head version line lines = first_line version ∷ line ∷ lines
 
-program_lines : (line : List ℕ) (origin : Origin) → IsLineOf origins line origin → (texts : List (List ℕ)) → AreTexts texts → length texts ≡ text_count origin → (lines : List (List ℕ)) (body : Body) → IsBodyOf (from_origin origin) lines body → IsProgramOf (head line (texts ++ lines)) (made origin texts body)
-program_lines line origin is texts are number lines body h = record {
+program_lines : (version : Version) (line : List ℕ) (origin : Origin) → IsLineOf origins line origin → (texts : List (List ℕ)) → AreTexts texts → length texts ≡ text_count origin → (lines : List (List ℕ)) (body : Body) → IsBodyOf (from_origin version origin) lines body → IsProgramOf (head version line (texts ++ lines)) (made origin texts body)
+program_lines version line origin is texts are number lines body h = record {
+  version = version;
   origin_line = line;
   stage_lines = h.stage_lines;
   terminal_line = h.terminal_line;
-  whole = ap (λ l. head line (texts ++ l)) h.whole;
+  whole = ap (λ l. head version line (texts ++ l)) h.whole;
   origin = is;
   texts = are;
   number = number;
@@ -124,51 +140,51 @@ program_lines line origin is texts are number lines body h = record {
   terminal = h.terminal;
 }
 
-after_texts : (line : List ℕ) (origin : Origin) → IsLineOf origins line origin → (texts : List (List ℕ)) → AreTexts texts → length texts ≡ text_count origin → (lines : List (List ℕ)) (r : Result Body FileFault) → AnswersBody (from_origin origin) (3 + length texts) lines r → AnswersLines (head line (texts ++ lines)) (r >>= λ body. Ok (made origin texts body))
-after_texts line origin is texts are number lines (Ok body) h = program_lines line origin is texts are number lines body h
-after_texts line origin is texts are number lines (Err fault) (inl h) = record {
-  before = head line (texts ++ h.front);
+after_texts : (version : Version) (line : List ℕ) (origin : Origin) → IsLineOf origins line origin → (texts : List (List ℕ)) → AreTexts texts → length texts ≡ text_count origin → (lines : List (List ℕ)) (r : Result Body FileFault) → AnswersBody (from_origin version origin) (3 + length texts) lines r → AnswersLines (head version line (texts ++ lines)) (r >>= λ body. Ok (made origin texts body))
+after_texts version line origin is texts are number lines (Ok body) h = program_lines version line origin is texts are number lines body h
+after_texts version line origin is texts are number lines (Err fault) (inl h) = record {
+  before = head version line (texts ++ h.front);
   left = h.left;
-  place = BodyPlace (after_stages (from_origin origin) h.steps);
-  whole = ap (λ l. head line (texts ++ l)) h.whole ∙ ap (head line) (sym (append_assoc texts h.front h.left));
-  leads = record { origin_line = line; source = origin; lines_read = texts; stage_lines = h.front; steps = h.steps; whole = refl; origin = is; texts = are; number = number; stages = h.stages; comes = refl };
+  place = BodyPlace (after_stages (from_origin version origin) h.steps);
+  whole = ap (λ l. head version line (texts ++ l)) h.whole ∙ ap (head version line) (sym (append_assoc texts h.front h.left));
+  leads = record { version = version; origin_line = line; source = origin; lines_read = texts; stage_lines = h.front; steps = h.steps; whole = refl; origin = is; texts = are; number = number; stages = h.stages; comes = refl };
   line = omega (arith, h.line, length-append texts h.front);
   here = h.here;
 }
-after_texts line origin is texts are number lines (Err fault) (inr h) = record {
-  before = head line (texts ++ h.front);
+after_texts version line origin is texts are number lines (Err fault) (inr h) = record {
+  before = head version line (texts ++ h.front);
   left = h.left;
   place = EndPlace;
-  whole = ap (λ l. head line (texts ++ l)) h.whole ∙ ap (head line) (sym (append_assoc texts h.front h.left));
-  leads = (made origin texts h.body, program_lines line origin is texts are number h.front h.body h.is);
+  whole = ap (λ l. head version line (texts ++ l)) h.whole ∙ ap (head version line) (sym (append_assoc texts h.front h.left));
+  leads = (made origin texts h.body, program_lines version line origin is texts are number h.front h.body h.is);
   line = omega (arith, h.line, length-append texts h.front);
   here = h.here;
 }
 
-after_source : (line : List ℕ) (origin : Origin) → IsLineOf origins line origin → (lines : List (List ℕ)) (r : Result Texts FileFault) → AnswersTexts (text_count origin) 3 lines r → AnswersLines (head line lines) (r >>= λ texts. body_from (from_origin origin) (3 + length texts.0) texts.1 >>= λ body. Ok (made origin texts.0 body))
-after_source line origin is lines (Ok texts) h =
-    subst (λ l. AnswersLines (head line l) (body_from (from_origin origin) (3 + length texts.0) texts.1 >>= λ body. Ok (made origin texts.0 body))) (sym h.0)
-    (after_texts line origin is texts.0 h.1 h.2 texts.1 (body_from (from_origin origin) (3 + length texts.0) texts.1) (body_answer texts.1 (from_origin origin) (3 + length texts.0)))
-after_source line origin is lines (Err fault) h = record {
-  before = head line h.0;
+after_source : (version : Version) (line : List ℕ) (origin : Origin) → IsLineOf origins line origin → (lines : List (List ℕ)) (r : Result Texts FileFault) → AnswersTexts (text_count origin) 3 lines r → AnswersLines (head version line lines) (r >>= λ texts. body_from (from_origin version origin) (3 + length texts.0) texts.1 >>= λ body. Ok (made origin texts.0 body))
+after_source version line origin is lines (Ok texts) h =
+    subst (λ l. AnswersLines (head version line l) (body_from (from_origin version origin) (3 + length texts.0) texts.1 >>= λ body. Ok (made origin texts.0 body))) (sym h.0)
+    (after_texts version line origin is texts.0 h.1 h.2 texts.1 (body_from (from_origin version origin) (3 + length texts.0) texts.1) (body_answer texts.1 (from_origin version origin) (3 + length texts.0)))
+after_source version line origin is lines (Err fault) h = record {
+  before = head version line h.0;
   left = h.1;
   place = TextPlace;
-  whole = ap (head line) h.2;
-  leads = record { origin_line = line; source = origin; lines_read = h.0; whole = refl; origin = is; texts = h.3; number = h.4 };
+  whole = ap (head version line) h.2;
+  leads = record { version = version; origin_line = line; source = origin; lines_read = h.0; whole = refl; origin = is; texts = h.3; number = h.4 };
   line = omega (arith, h.5);
   here = h.6;
 }
 
-at_source : (line : List ℕ) (lines : List (List ℕ)) (r : Result Origin FileError) → AnswersLine origins line r → AnswersLines (head line lines) (at_line 2 r >>= λ origin. from_texts origin lines)
-at_source line lines (Ok origin) is = after_source line origin is lines (texts_from (text_count origin) 3 lines) (texts_answer (text_count origin) 3 lines)
-at_source line lines (Err kind) fault = record { before = version ∷ []; left = line ∷ lines; place = SourcePlace; whole = refl; leads = refl; line = refl; here = fault }
+at_source : (version : Version) (line : List ℕ) (lines : List (List ℕ)) (r : Result Origin FileError) → AnswersLine origins line r → AnswersLines (head version line lines) (at_line 2 r >>= λ origin. from_texts version origin lines)
+at_source version line lines (Ok origin) is = after_source version line origin is lines (texts_from (text_count origin) 3 lines) (texts_answer (text_count origin) 3 lines)
+at_source version line lines (Err kind) fault = record { before = first_line version ∷ []; left = line ∷ lines; place = SourcePlace; whole = refl; leads = (version, refl); line = refl; here = fault }
 
-source_answer : (lines : List (List ℕ)) → AnswersLines (version ∷ lines) (from_source lines)
-source_answer [] = record { before = version ∷ []; left = []; place = SourcePlace; whole = refl; leads = refl; line = refl; here = refl }
-source_answer (line ∷ lines) = at_source line lines (line_of origins origin_words line) (line_answer origins origin_words origin_phrase line)
+source_answer : (version : Version) (lines : List (List ℕ)) → AnswersLines (first_line version ∷ lines) (from_source version lines)
+source_answer version [] = record { before = first_line version ∷ []; left = []; place = SourcePlace; whole = refl; leads = (version, refl); line = refl; here = refl }
+source_answer version (line ∷ lines) = at_source version line lines (line_of origins origin_words line) (line_answer origins origin_words origin_phrase line)
 
-at_version : (line : List ℕ) (lines : List (List ℕ)) (r : Result (Unit {0}) FileError) → AnswersVersion line r → AnswersLines (line ∷ lines) (at_line 1 r >>= λ _. from_source lines)
-at_version line lines (Ok x) is = subst (λ first. AnswersLines (first ∷ lines) (from_source lines)) (sym is) (source_answer lines)
+at_version : (line : List ℕ) (lines : List (List ℕ)) (r : Result Version FileError) → AnswersVersion line r → AnswersLines (line ∷ lines) (at_line 1 r >>= λ version. from_source version lines)
+at_version line lines (Ok version) is = subst (λ first. AnswersLines (first ∷ lines) (from_source version lines)) (sym is) (source_answer version lines)
 at_version line lines (Err kind) fault = record { before = []; left = line ∷ lines; place = VersionPlace; whole = refl; leads = refl; line = refl; here = fault }
 
 -- The lines have the answer that reading gives.
@@ -189,18 +205,18 @@ file_answer file = cond_both (nat_lt most_bytes (length file)) (Err (record { li
     (λ t. in_file file (ltb-false most_bytes (length file) t) (program_from (lines_of file)) (lines_answer (lines_of file)))
 
 -- behind the version and the source, texts are read, and behind them a body
-behind_source : (line : List ℕ) (origin : Origin) → IsLineOf origins line origin → (lines : List (List ℕ)) → program_from (head line lines) ≡ from_texts origin lines
+behind_source : (version : Version) (line : List ℕ) (origin : Origin) → IsLineOf origins line origin → (lines : List (List ℕ)) → program_from (head version line lines) ≡ from_texts version origin lines
 unfolding program_from
-behind_source line origin is lines =
-    ap (λ r. at_line 1 r >>= λ _. from_source (line ∷ lines)) version_is_read
-    ∙ ap (λ r. at_line 2 r >>= λ found. from_texts found lines) (line_is_read origins origin_words origin_phrase line origin is)
+behind_source version line origin is lines =
+    ap (λ r. at_line 1 r >>= λ found. from_source found (line ∷ lines)) (version_is_read version)
+    ∙ ap (λ r. at_line 2 r >>= λ found. from_texts version found lines) (line_is_read origins origin_words origin_phrase line origin is)
 
-behind_texts : (line : List ℕ) (origin : Origin) → IsLineOf origins line origin → (texts : List (List ℕ)) → AreTexts texts → length texts ≡ text_count origin → (lines : List (List ℕ)) → program_from (head line (texts ++ lines)) ≡ (body_from (from_origin origin) (3 + length texts) lines >>= λ body. Ok (made origin texts body))
-behind_texts line origin is texts are number lines =
-    behind_source line origin is (texts ++ lines)
-    ∙ ap (λ r. r >>= λ t. body_from (from_origin origin) (3 + length t.0) t.1 >>= λ body. Ok (made origin t.0 body)) (texts_are_read texts (text_count origin) 3 lines are number)
+behind_texts : (version : Version) (line : List ℕ) (origin : Origin) → IsLineOf origins line origin → (texts : List (List ℕ)) → AreTexts texts → length texts ≡ text_count origin → (lines : List (List ℕ)) → program_from (head version line (texts ++ lines)) ≡ (body_from (from_origin version origin) (3 + length texts) lines >>= λ body. Ok (made origin texts body))
+behind_texts version line origin is texts are number lines =
+    behind_source version line origin is (texts ++ lines)
+    ∙ ap (λ r. r >>= λ t. body_from (from_origin version origin) (3 + length t.0) t.1 >>= λ body. Ok (made origin t.0 body)) (texts_are_read texts (text_count origin) 3 lines are number)
 
-body_in : (lines : List (List ℕ)) (program : Program) (is : IsProgramOf lines program) → IsBodyOf (from_origin program.origin) (is.stage_lines ++ is.terminal_line ∷ []) (program.stages, program.terminal)
+body_in : (lines : List (List ℕ)) (program : Program) (is : IsProgramOf lines program) → IsBodyOf (from_origin is.version program.origin) (is.stage_lines ++ is.terminal_line ∷ []) (program.stages, program.terminal)
 body_in lines program is = record { stage_lines = is.stage_lines; terminal_line = is.terminal_line; whole = refl; stages = is.stages; terminal = is.terminal }
 
 -- the lines of a program, and what follows them
@@ -210,9 +226,9 @@ behind_program before left program is =
     let n : ℕ = 3 + length program.texts in
     let number : n + length rest ≡ length before + 1 = omega (arith, ap length is.whole, length-append program.texts rest) in
     ap (λ lines. program_from (lines ++ left)) is.whole
-    ∙ ap (λ lines. program_from (head is.origin_line lines)) (append_assoc program.texts rest left)
-    ∙ behind_texts is.origin_line program.origin is.origin program.texts is.texts is.number (rest ++ left)
-    ∙ ap (λ r. r >>= λ body. Ok (made program.origin program.texts body)) (body_is_read (from_origin program.origin) n rest left (program.stages, program.terminal) (body_in before program is))
+    ∙ ap (λ lines. program_from (head is.version is.origin_line lines)) (append_assoc program.texts rest left)
+    ∙ behind_texts is.version is.origin_line program.origin is.origin program.texts is.texts is.number (rest ++ left)
+    ∙ ap (λ r. r >>= λ body. Ok (made program.origin program.texts body)) (body_is_read (from_origin is.version program.origin) n rest left (program.stages, program.terminal) (body_in before program is))
     ∙ ended (no_more (n + length rest) left)
     ∙ ap (λ k. no_more k left >>= λ _. Ok program) number
   where
@@ -232,16 +248,16 @@ same_parts n kind fault line same = ap (λ m. let f : FileFault = record { line 
 left_fault : (coming : Coming) (n : ℕ) (left : List (List ℕ)) (fault : FileFault) → fault.line ≡ n → FaultOfNext (BodyPlace coming) left fault.kind → body_from coming n left ≡ Err fault
 left_fault coming n [] fault line here = ap Err (same_parts n MissingTerminal fault line here)
 left_fault coming n (first ∷ left) fault line here =
-    fault_is_told coming n first left fault.kind (fault_is_read (bodies coming) body_of body_phrase first fault.kind here) ∙ ap Err (same_parts n fault.kind fault line refl)
+    fault_is_told coming n first left fault.kind (fault_is_read (bodies coming) (body_of coming.version) (body_phrase coming.version) first fault.kind here) ∙ ap Err (same_parts n fault.kind fault line refl)
 
 at_body : (before left : List (List ℕ)) (place : Coming) (fault : FileFault) → IsBeginningOf before place → fault.line ≡ length before + 1 → FaultOfNext (BodyPlace place) left fault.kind → program_from (before ++ left) ≡ Err fault
 at_body before left place fault is line here =
-    let coming : Coming = from_origin is.source in
+    let coming : Coming = from_origin is.version is.source in
     let n : ℕ = 3 + length is.lines_read in
     let number : fault.line ≡ n + length is.stage_lines = omega (arith, line, ap length is.whole, length-append is.lines_read is.stage_lines) in
     ap (λ lines. program_from (lines ++ left)) is.whole
-    ∙ ap (λ lines. program_from (head is.origin_line lines)) (append_assoc is.lines_read is.stage_lines left)
-    ∙ behind_texts is.origin_line is.source is.origin is.lines_read is.texts is.number (is.stage_lines ++ left)
+    ∙ ap (λ lines. program_from (head is.version is.origin_line lines)) (append_assoc is.lines_read is.stage_lines left)
+    ∙ behind_texts is.version is.origin_line is.source is.origin is.lines_read is.texts is.number (is.stage_lines ++ left)
     ∙ ap (λ r. r >>= λ body. Ok (made is.source is.lines_read body))
     (stages_are_read is.stage_lines is.steps coming n left is.stages
     ∙ ap (with_stages is.steps) (left_fault (after_stages coming is.steps) (n + length is.stage_lines) left fault number (subst (λ p. FaultOfNext (BodyPlace p) left fault.kind) is.comes here)))
@@ -250,8 +266,8 @@ at_text : (before left : List (List ℕ)) (fault : FileFault) → IsBeginningOfT
 at_text before left fault is line here =
     let number : fault.line ≡ 3 + length is.lines_read = omega (arith, line, ap length is.whole) in
     ap (λ lines. program_from (lines ++ left)) is.whole
-    ∙ behind_source is.origin_line is.source is.origin (is.lines_read ++ left)
-    ∙ ap (λ r. r >>= λ t. body_from (from_origin is.source) (3 + length t.0) t.1 >>= λ body. Ok (made is.source t.0 body)) (text_fault_is_told is.lines_read (text_count is.source) 3 left fault.kind is.texts is.number here)
+    ∙ behind_source is.version is.origin_line is.source is.origin (is.lines_read ++ left)
+    ∙ ap (λ r. r >>= λ t. body_from (from_origin is.version is.source) (3 + length t.0) t.1 >>= λ body. Ok (made is.source t.0 body)) (text_fault_is_told is.lines_read (text_count is.source) 3 left fault.kind is.texts is.number here)
     ∙ ap Err (same_parts (3 + length is.lines_read) fault.kind fault number refl)
 
 -- a fault at each place
@@ -262,9 +278,9 @@ at_place VersionPlace before [] fault leads line here =
 at_place VersionPlace before (first ∷ left) fault leads line here =
     ap (λ lines. program_from (lines ++ first ∷ left)) leads ∙ rw (version_fault_is_read first fault.kind here) (ap Err (same_parts 1 fault.kind fault (line ∙ ap (λ lines. length lines + 1) leads) refl))
 at_place SourcePlace before [] fault leads line here =
-    ap (λ lines. program_from (lines ++ [])) leads ∙ rw version_is_read (ap Err (same_parts 2 MissingTerminal fault (line ∙ ap (λ lines. length lines + 1) leads) here))
+    ap (λ lines. program_from (lines ++ [])) leads.1 ∙ rw (version_is_read leads.0) (ap Err (same_parts 2 MissingTerminal fault (line ∙ ap (λ lines. length lines + 1) leads.1) here))
 at_place SourcePlace before (first ∷ left) fault leads line here =
-    ap (λ lines. program_from (lines ++ first ∷ left)) leads ∙ rw (version_is_read, fault_is_read origins origin_words origin_phrase first fault.kind here) (ap Err (same_parts 2 fault.kind fault (line ∙ ap (λ lines. length lines + 1) leads) refl))
+    ap (λ lines. program_from (lines ++ first ∷ left)) leads.1 ∙ rw (version_is_read leads.0, fault_is_read origins origin_words origin_phrase first fault.kind here) (ap Err (same_parts 2 fault.kind fault (line ∙ ap (λ lines. length lines + 1) leads.1) refl))
 at_place TextPlace before left fault leads line here = at_text before left fault leads line here
 at_place (BodyPlace place) before left fault leads line here = at_body before left place fault leads line here
 at_place EndPlace before [] fault leads line here = absurd here

@@ -38,7 +38,7 @@ same_in_ok x y e = cc
 pub not_text : (line : List ℕ) → is_utf8 line ≡ false → IsUtf8 line → ⊥
 not_text line untrue text = false≢true (sym untrue ∙ is_utf8-from_IsUtf8 line text)
 
-module _ {X : Type 0} (forms : Forms X) (read : Reader X) (phrase : Phrase AtEnd forms.slots read) where
+module _ {X : Type 0} (forms : Forms X) (read : Reader X) (phrase : Phrase AtEnd forms.known forms.slots read) where
   names_at_end : (x : X) (words : List (List ℕ)) → NamesFit (forms.slots x) words → NamesFit (forms.slots x ++ []) words
   names_at_end x words n = subst (λ s. NamesFit s words) (sym (append-nil (forms.slots x))) n
 
@@ -46,52 +46,52 @@ module _ {X : Type 0} (forms : Forms X) (read : Reader X) (phrase : Phrase AtEnd
   names_from_end x words n = subst (λ s. NamesFit s words) (append-nil (forms.slots x)) n
 
   -- as many words as the form has are enough
-  enough : (x : X) (words : List (List ℕ)) → NamesFit (forms.slots x) words → length (forms.slots x) ≡ length words → Enough [] (read (record { words = words; good = true }))
-  enough x words n len = (phrase.knows x).count [] refl words true (names_at_end x words n) (ap length (append-nil (forms.slots x)) ∙ len)
+  enough : (x : X) → forms.known x ≡ true → (words : List (List ℕ)) → NamesFit (forms.slots x) words → length (forms.slots x) ≡ length words → Enough [] (read (record { words = words; good = true }))
+  enough x known words n len = (phrase.knows x known).count [] refl words true (names_at_end x words n) (ap length (append-nil (forms.slots x)) ∙ len)
 
   nothing_left : (rest : List (List ℕ)) → WordsFit [] rest → rest ≡ []
   nothing_left [] w = refl
   nothing_left (word ∷ words) w = absurd w
 
   -- what is spelled is read, and nothing is left
-  spelled : (x : X) (words : List (List ℕ)) → WordsFit (forms.slots x) words → read (record { words = words; good = true }) ≡ Ok (x, record { words = []; good = true })
-  spelled x words w =
-      let k = (phrase.knows x).spelled [] refl words true (subst (λ s. WordsFit s words) (sym (append-nil (forms.slots x))) w) in
+  spelled : (x : X) → forms.known x ≡ true → (words : List (List ℕ)) → WordsFit (forms.slots x) words → read (record { words = words; good = true }) ≡ Ok (x, record { words = []; good = true })
+  spelled x known words w =
+      let k = (phrase.knows x known).spelled [] refl words true (subst (λ s. WordsFit s words) (sym (append-nil (forms.slots x))) w) in
       k.1 ∙ ap (λ rest. let found : Result (X × Left) FileError = Ok (x, record { words = rest; good = true }) in found) (nothing_left k.0 k.2)
 
-  one_thing : (x y : X) (words : List (List ℕ)) → WordsFit (forms.slots x) words → WordsFit (forms.slots y) words → x ≡ y
-  one_thing x y words v w =
+  one_thing : (x y : X) → forms.known x ≡ true → forms.known y ≡ true → (words : List (List ℕ)) → WordsFit (forms.slots x) words → WordsFit (forms.slots y) words → x ≡ y
+  one_thing x y first second words v w =
       let a : X × Left = (x, record { words = []; good = true }) in
       let b : X × Left = (y, record { words = []; good = true }) in
-      ap (λ p. p.0) (same_in_ok a b (sym (spelled x words v) ∙ spelled y words w))
+      ap (λ p. p.0) (same_in_ok a b (sym (spelled x first words v) ∙ spelled y second words w))
 
-  fits_answer : (x : X) (words : List (List ℕ)) → WordsFit (forms.slots x) words → AnswersWords forms words (fitting forms x)
-  fits_answer x words w =
+  fits_answer : (x : X) → forms.known x ≡ true → (words : List (List ℕ)) → WordsFit (forms.slots x) words → AnswersWords forms words (fitting forms x)
+  fits_answer x known words w =
       cond_both (forms.takes_kind x) _ _ (AnswersWords forms words)
       (λ kind. cond_both (forms.in_limits x) _ _ (AnswersWords forms words)
-      (λ limits. record { spelled = w; kind = kind; limits = limits })
-      (λ past. stops_at_limits forms words x w kind (λ y v k limits. false≢true (sym past ∙ ap forms.in_limits (one_thing x y words w v) ∙ limits))))
-      (λ other. stops_at_kind forms words x w (λ y v k. false≢true (sym other ∙ ap forms.takes_kind (one_thing x y words w v) ∙ k)))
+      (λ limits. record { known = known; spelled = w; kind = kind; limits = limits })
+      (λ past. stops_at_limits forms words x known w kind (λ y other v k limits. false≢true (sym past ∙ ap forms.in_limits (one_thing x y known other words w v) ∙ limits))))
+      (λ wrong. stops_at_kind forms words x known w (λ y other v k. false≢true (sym wrong ∙ ap forms.takes_kind (one_thing x y known other words w v) ∙ k)))
 
-  left_answer : (words : List (List ℕ)) (x : X) (left : List (List ℕ)) (good : Bool) → read (record { words = words; good = true }) ≡ Ok (x, record { words = left; good = good }) → Found forms.slots words true (Ok (x, record { words = left; good = good })) → AnswersWords forms words ((ended left good >>= λ _. Ok x) >>= fitting forms)
-  left_answer words x [] true e f = fits_answer x words (subst (λ s. WordsFit s words) (append-nil (forms.slots x)) ((f.2 refl).1 [] tt))
+  left_answer : (words : List (List ℕ)) (x : X) (left : List (List ℕ)) (good : Bool) → read (record { words = words; good = true }) ≡ Ok (x, record { words = left; good = good }) → Found forms.known forms.slots words true (Ok (x, record { words = left; good = good })) → AnswersWords forms words ((ended left good >>= λ _. Ok x) >>= fitting forms)
+  left_answer words x [] true e f = fits_answer x f.3 words (subst (λ s. WordsFit s words) (append-nil (forms.slots x)) ((f.2 refl).1 [] tt))
   left_answer words x [] false e f =
-      stops_at_numbers forms words x (names_from_end x words (f.1 [] tt)) (omega (arith, f.0))
-      (λ y w. let a : X × Left = (x, record { words = []; good = false }) in let b : X × Left = (y, record { words = []; good = true }) in
-      false≢true (ap (λ p. p.1.good) (same_in_ok a b (sym e ∙ spelled y words w))))
+      stops_at_numbers forms words x f.3 (names_from_end x words (f.1 [] tt)) (omega (arith, f.0))
+      (λ y known w. let a : X × Left = (x, record { words = []; good = false }) in let b : X × Left = (y, record { words = []; good = true }) in
+      false≢true (ap (λ p. p.1.good) (same_in_ok a b (sym e ∙ spelled y known words w))))
   left_answer words x (word ∷ left) good e f =
-      stops_at_length forms words x (names_from_end x words (f.1 [] tt))
-      (λ y n len. let k = enough y words n len in let a : X × Left = (x, record { words = word ∷ left; good = good }) in let b : X × Left = (k.0, k.1) in
+      stops_at_length forms words x f.3 (names_from_end x words (f.1 [] tt))
+      (λ y known n len. let k = enough y known words n len in let a : X × Left = (x, record { words = word ∷ left; good = good }) in let b : X × Left = (k.0, k.1) in
       omega (arith, k.3, ap (λ p. length p.1.words) (same_in_ok a b (sym e ∙ k.2))))
 
-  read_answer : (words : List (List ℕ)) (r : Result (X × Left) FileError) → read (record { words = words; good = true }) ≡ r → Found forms.slots words true r → AnswersWords forms words ((r >>= λ x. ended x.1.words x.1.good >>= λ _. Ok x.0) >>= fitting forms)
+  read_answer : (words : List (List ℕ)) (r : Result (X × Left) FileError) → read (record { words = words; good = true }) ≡ r → Found forms.known forms.slots words true r → AnswersWords forms words ((r >>= λ x. ended x.1.words x.1.good >>= λ _. Ok x.0) >>= fitting forms)
   read_answer words (Err kind) e (inl is) =
       subst (WordsFault forms words) (sym is)
-      (stops_at_names forms words (λ x n. unknown_is_not_arity kind is (subst (NotUnknown []) e ((phrase.knows x).names [] refl words true (names_at_end x words n)))))
+      (stops_at_names forms words (λ x known n. unknown_is_not_arity kind is (subst (NotUnknown []) e ((phrase.knows x known).names [] refl words true (names_at_end x words n)))))
   read_answer words (Err kind) e (inr is) =
       subst (WordsFault forms words) (sym is.0)
-      (stops_at_length forms words is.1.0 (names_from_end is.1.0 words (is.1.1 []))
-      (λ y n len. let k = enough y words n len in err_is_not_ok kind (k.0, k.1) (sym e ∙ k.2)))
+      (stops_at_length forms words is.1.0 is.1.2 (names_from_end is.1.0 words (is.1.1 []))
+      (λ y known n len. let k = enough y known words n len in err_is_not_ok kind (k.0, k.1) (sym e ∙ k.2)))
   read_answer words (Ok x) e f = left_answer words x.0 x.1.words x.1.good e f
 
   words_answer : (words : List (List ℕ)) → AnswersWords forms words (whole read words >>= fitting forms)
@@ -101,7 +101,7 @@ module _ {X : Type 0} (forms : Forms X) (read : Reader X) (phrase : Phrase AtEnd
   words_are_read : (words : List (List ℕ)) (x : X) → AreWordsOf forms words x → (whole read words >>= fitting forms) ≡ Ok x
   unfolding whole
   words_are_read words x is =
-      ap (λ r. (r >>= λ y. ended y.1.words y.1.good >>= λ _. Ok y.0) >>= fitting forms) (spelled x words is.spelled)
+      ap (λ r. (r >>= λ y. ended y.1.words y.1.good >>= λ _. Ok y.0) >>= fitting forms) (spelled x is.known words is.spelled)
       ∙ cond-true (forms.takes_kind x) _ (Err WrongKind) is.kind ∙ cond-true (forms.in_limits x) (Ok x) (Err forms.limit_fault) is.limits
 
   text_answer : (line : List ℕ) (r : Result X FileError) → IsUtf8 line → AnswersWords forms (words_of line) r → AnswersLine forms line r

@@ -6,6 +6,7 @@ use Rattle.pipeline_language.specs.declared.fault.FileError.TheVariants.{BadText
 use Rattle.pipeline_language.specs.declared.fault.FileFault.{FileFault}
 use Rattle.pipeline_language.specs.declared.fault.ReadError.{ReadError}
 use Rattle.pipeline_language.specs.declared.fault.ReadError.TheVariants.{Fault, NoMemory}
+use Rattle.pipeline_language.specs.declared.version.Version.{Version}
 use Rattle.pipeline_language.specs.declared.pipeline.NumberBody.{NumberBody}
 use Rattle.pipeline_language.specs.declared.pipeline.NumberFunction.{NumberFunction}
 use Rattle.pipeline_language.specs.declared.pipeline.NumberFunction.TheVariants as functions
@@ -45,8 +46,8 @@ goes_behind stages coming n lines whole stage is first =
     is ∙ ap (with_stages stages) (stage_first coming n lines stage first) ∙ with_last stages stage (body_from (after_stage coming stage) (n + 1) (drop 1 lines))
 
 -- what comes to the line at a place, where the body's first line is at another
-abbrev pub comes : Kind → ℕ → ℕ → Coming
-comes kind first at = record { kind = kind; stages = at - first }
+abbrev pub comes : Version → Kind → ℕ → ℕ → Coming
+comes version kind first at = record { version = version; kind = kind; stages = at - first }
 
 function_keeps : (f : NumberFunction) → value_kind NumberKind (number_function f) ≡ NumberKind
 function_keeps (functions.Add n) = refl
@@ -77,39 +78,39 @@ text_keeps (text_stages.Skip n) = refl
 text_keeps (text_stages.TakeWhile p) = refl
 text_keeps (text_stages.DropWhile p) = refl
 
-next_comes : (kind next : Kind) (first at : ℕ) (stage : Stage) → first ≤ at → kind_after kind stage ≡ next → after_stage (comes kind first at) stage ≡ comes next first (at + 1)
-next_comes kind next first at stage order keeps =
+next_comes : (version : Version) (kind next : Kind) (first at : ℕ) (stage : Stage) → first ≤ at → kind_after kind stage ≡ next → after_stage (comes version kind first at) stage ≡ comes version next first (at + 1)
+next_comes version kind next first at stage order keeps =
     let number : (at - first) + 1 ≡ (at + 1) - first = omega (arith, order) in
-    ap (λ k. let c : Coming = record { kind = k; stages = (at - first) + 1 } in c) keeps ∙ ap (λ m. let c : Coming = record { kind = next; stages = m } in c) number
+    ap (λ k. let c : Coming = record { version = version; kind = k; stages = (at - first) + 1 } in c) keeps ∙ ap (λ m. let c : Coming = record { version = version; kind = next; stages = m } in c) number
 
 -- one stage more, and the lines behind it
-stage_more : {S : Type 0} (content : S → Stage) (kind : Kind) (keeps : (s : S) → kind_after kind (content s) ≡ kind) (items : List S) (stage : S) (first at n : ℕ) (lines : List (List ℕ)) (whole : Result Body FileFault) → first ≤ at → whole ≡ with_stages (map content items) (body_from (comes kind first at) n lines) → first_of (comes kind first at) n lines ≡ Ok (StageLine (content stage)) → whole ≡ with_stages (map content (items ++ stage ∷ [])) (body_from (comes kind first (at + 1)) (n + 1) (drop 1 lines))
-stage_more content kind keeps items stage first at n lines whole order is found =
-    goes_behind (map content items) (comes kind first at) n lines whole (content stage) is found
-    ∙ ap (λ ss. with_stages ss (body_from (after_stage (comes kind first at) (content stage)) (n + 1) (drop 1 lines))) (sym (map-append content items (stage ∷ [])))
-    ∙ ap (λ c. with_stages (map content (items ++ stage ∷ [])) (body_from c (n + 1) (drop 1 lines))) (next_comes kind kind first at (content stage) order (keeps stage))
+stage_more : {S : Type 0} (version : Version) (content : S → Stage) (kind : Kind) (keeps : (s : S) → kind_after kind (content s) ≡ kind) (items : List S) (stage : S) (first at n : ℕ) (lines : List (List ℕ)) (whole : Result Body FileFault) → first ≤ at → whole ≡ with_stages (map content items) (body_from (comes version kind first at) n lines) → first_of (comes version kind first at) n lines ≡ Ok (StageLine (content stage)) → whole ≡ with_stages (map content (items ++ stage ∷ [])) (body_from (comes version kind first (at + 1)) (n + 1) (drop 1 lines))
+stage_more version content kind keeps items stage first at n lines whole order is found =
+    goes_behind (map content items) (comes version kind first at) n lines whole (content stage) is found
+    ∙ ap (λ ss. with_stages ss (body_from (after_stage (comes version kind first at) (content stage)) (n + 1) (drop 1 lines))) (sym (map-append content items (stage ∷ [])))
+    ∙ ap (λ c. with_stages (map content (items ++ stage ∷ [])) (body_from c (n + 1) (drop 1 lines))) (next_comes version kind kind first at (content stage) order (keeps stage))
 
-pub number_more : (items : List NumberStage) (stage : NumberStage) (first at n : ℕ) (lines : List (List ℕ)) (whole : Result Body FileFault) → first ≤ at → whole ≡ with_stages (map number_stage items) (body_from (comes NumberKind first at) n lines) → first_of (comes NumberKind first at) n lines ≡ Ok (StageLine (number_stage stage)) → whole ≡ with_stages (map number_stage (items ++ stage ∷ [])) (body_from (comes NumberKind first (at + 1)) (n + 1) (drop 1 lines))
-number_more = stage_more number_stage NumberKind number_keeps
+pub number_more : (version : Version) (items : List NumberStage) (stage : NumberStage) (first at n : ℕ) (lines : List (List ℕ)) (whole : Result Body FileFault) → first ≤ at → whole ≡ with_stages (map number_stage items) (body_from (comes version NumberKind first at) n lines) → first_of (comes version NumberKind first at) n lines ≡ Ok (StageLine (number_stage stage)) → whole ≡ with_stages (map number_stage (items ++ stage ∷ [])) (body_from (comes version NumberKind first (at + 1)) (n + 1) (drop 1 lines))
+number_more version = stage_more version number_stage NumberKind number_keeps
 
-pub text_more : (items : List TextStage) (stage : TextStage) (first at n : ℕ) (lines : List (List ℕ)) (whole : Result Body FileFault) → first ≤ at → whole ≡ with_stages (map text_stage items) (body_from (comes TextKind first at) n lines) → first_of (comes TextKind first at) n lines ≡ Ok (StageLine (text_stage stage)) → whole ≡ with_stages (map text_stage (items ++ stage ∷ [])) (body_from (comes TextKind first (at + 1)) (n + 1) (drop 1 lines))
-text_more = stage_more text_stage TextKind text_keeps
+pub text_more : (version : Version) (items : List TextStage) (stage : TextStage) (first at n : ℕ) (lines : List (List ℕ)) (whole : Result Body FileFault) → first ≤ at → whole ≡ with_stages (map text_stage items) (body_from (comes version TextKind first at) n lines) → first_of (comes version TextKind first at) n lines ≡ Ok (StageLine (text_stage stage)) → whole ≡ with_stages (map text_stage (items ++ stage ∷ [])) (body_from (comes version TextKind first (at + 1)) (n + 1) (drop 1 lines))
+text_more version = stage_more version text_stage TextKind text_keeps
 
 -- where `map length` leads to numbers
-lengths_more : (stages : List Stage) (first at n : ℕ) (lines : List (List ℕ)) (whole : Result Body FileFault) → first ≤ at → whole ≡ with_stages stages (body_from (comes TextKind first at) n lines) → first_of (comes TextKind first at) n lines ≡ Ok (StageLine (MapBy Length)) → whole ≡ with_stages (stages ++ MapBy Length ∷ []) (body_from (comes NumberKind first (at + 1)) (n + 1) (drop 1 lines))
-lengths_more stages first at n lines whole order is found =
-    goes_behind stages (comes TextKind first at) n lines whole (MapBy Length) is found
-    ∙ ap (λ c. with_stages (stages ++ MapBy Length ∷ []) (body_from c (n + 1) (drop 1 lines))) (next_comes TextKind NumberKind first at (MapBy Length) order refl)
+lengths_more : (version : Version) (stages : List Stage) (first at n : ℕ) (lines : List (List ℕ)) (whole : Result Body FileFault) → first ≤ at → whole ≡ with_stages stages (body_from (comes version TextKind first at) n lines) → first_of (comes version TextKind first at) n lines ≡ Ok (StageLine (MapBy Length)) → whole ≡ with_stages (stages ++ MapBy Length ∷ []) (body_from (comes version NumberKind first (at + 1)) (n + 1) (drop 1 lines))
+lengths_more version stages first at n lines whole order is found =
+    goes_behind stages (comes version TextKind first at) n lines whole (MapBy Length) is found
+    ∙ ap (λ c. with_stages (stages ++ MapBy Length ∷ []) (body_from c (n + 1) (drop 1 lines))) (next_comes version TextKind NumberKind first at (MapBy Length) order refl)
 
-pub lengths_read : (stages : List Stage) (first at n : ℕ) (lines : List (List ℕ)) (whole : Result Body FileFault) (body : NumberBody) → first ≤ at → whole ≡ with_stages stages (body_from (comes TextKind first at) n lines) → first_of (comes TextKind first at) n lines ≡ Ok (StageLine (MapBy Length)) → body_from (comes NumberKind first (at + 1)) (n + 1) (drop 1 lines) ≡ Ok (number_body body) → whole ≡ Ok (stages ++ (MapBy Length ∷ (number_body body).0), (number_body body).1)
-lengths_read stages first at n lines whole body order is found read =
-    lengths_more stages first at n lines whole order is found ∙ ap (with_stages (stages ++ MapBy Length ∷ [])) read
+pub lengths_read : (version : Version) (stages : List Stage) (first at n : ℕ) (lines : List (List ℕ)) (whole : Result Body FileFault) (body : NumberBody) → first ≤ at → whole ≡ with_stages stages (body_from (comes version TextKind first at) n lines) → first_of (comes version TextKind first at) n lines ≡ Ok (StageLine (MapBy Length)) → body_from (comes version NumberKind first (at + 1)) (n + 1) (drop 1 lines) ≡ Ok (number_body body) → whole ≡ Ok (stages ++ (MapBy Length ∷ (number_body body).0), (number_body body).1)
+lengths_read version stages first at n lines whole body order is found read =
+    lengths_more version stages first at n lines whole order is found ∙ ap (with_stages (stages ++ MapBy Length ∷ [])) read
     ∙ ap (λ ss. let b : Body = (ss, (number_body body).1) in let r : Result Body FileFault = Ok b in r) (append_assoc stages (MapBy Length ∷ []) (number_body body).0)
 
-pub lengths_told : {X : Type 0} (content : X → Body) (stages : List Stage) (first at n : ℕ) (lines : List (List ℕ)) (whole : Result Body FileFault) (e : ReadError) → first ≤ at → whole ≡ with_stages stages (body_from (comes TextKind first at) n lines) → first_of (comes TextKind first at) n lines ≡ Ok (StageLine (MapBy Length)) → Reads number_body (Err e) (body_from (comes NumberKind first (at + 1)) (n + 1) (drop 1 lines)) → Reads content (Err e) whole
-lengths_told content stages first at n lines whole NoMemory order is found told = tt
-lengths_told content stages first at n lines whole (Fault fault) order is found told =
-    lengths_more stages first at n lines whole order is found ∙ ap (with_stages (stages ++ MapBy Length ∷ [])) told
+pub lengths_told : {X : Type 0} (version : Version) (content : X → Body) (stages : List Stage) (first at n : ℕ) (lines : List (List ℕ)) (whole : Result Body FileFault) (e : ReadError) → first ≤ at → whole ≡ with_stages stages (body_from (comes version TextKind first at) n lines) → first_of (comes version TextKind first at) n lines ≡ Ok (StageLine (MapBy Length)) → Reads number_body (Err e) (body_from (comes version NumberKind first (at + 1)) (n + 1) (drop 1 lines)) → Reads content (Err e) whole
+lengths_told version content stages first at n lines whole NoMemory order is found told = tt
+lengths_told version content stages first at n lines whole (Fault fault) order is found told =
+    lengths_more version stages first at n lines whole order is found ∙ ap (with_stages (stages ++ MapBy Length ∷ [])) told
 
 -- texts in front of others
 texts_joined : (texts : List (List ℕ)) (text : List ℕ) (r : Result Texts FileFault) → with_texts texts (with_texts (text ∷ []) r) ≡ with_texts (texts ++ text ∷ []) r

@@ -7,7 +7,7 @@ use Rattle.std.proofs.lemmas.Bool.{cond_both, cond-true, false≢true, and_parts
 use Rattle.std.proofs.lemmas.Float.{T_from_true}
 use Rattle.std.proofs.lemmas.Int.{ints}
 use Rattle.pipeline_language.specs.declared.fault.FileError.{FileError}
-use Rattle.pipeline_language.specs.Form.{Slot, Number, number, lowest, highest, NamesFit, WordsFit}
+use Rattle.pipeline_language.specs.Form.{Slot, Number, number, lowest, highest, NamesFit, WordsFit, all_known}
 use Rattle.pipeline_language.specs.Reading.{◌>>=◌, Left, next_word, next_number, next_natural, number_at, number_of, numbers_from, with_first, all_numbers}
 use Rattle.pipeline_language.proofs.NumberLemmas.{number_of_number, number_is, fits_bounds, bounds_fit}
 use Rattle.pipeline_language.proofs.PhraseLemmas.{Anything, AtEnd, Found, NotUnknown, Enough, Spelled, Phrase, none_left}
@@ -24,20 +24,20 @@ module _ (low high : ℤ) (above : lowest ≤ℤ low) (below : high ≤ℤ highe
   abbrev in_range : ℤ → List Slot
   in_range n = Number low high n ∷ []
 
-  found_at : (word : List ℕ) (words : List (List ℕ)) (good : Bool) (o : Option ℤ) → number_of word ≡ o → Found in_range (word ∷ words) good (Ok (number_at low high (record { words = words; good = good }) o))
-  found_at word words good None is = (omega arith, (λ more n. (tt, n)), λ t. absurd (false≢true t))
-  found_at word words good (Some n) is = cond_both {A = ℤ × Left} (int_le low n && int_le n high) (n, record { words = words; good = good }) (low, record { words = words; good = false }) (λ r. Found in_range (word ∷ words) good (Ok r))
+  found_at : (word : List ℕ) (words : List (List ℕ)) (good : Bool) (o : Option ℤ) → number_of word ≡ o → Found all_known in_range (word ∷ words) good (Ok (number_at low high (record { words = words; good = good }) o))
+  found_at word words good None is = (omega arith, (λ more n. (tt, n)), (λ t. absurd (false≢true t)), refl)
+  found_at word words good (Some n) is = cond_both {A = ℤ × Left} (int_le low n && int_le n high) (n, record { words = words; good = good }) (low, record { words = words; good = false }) (λ r. Found all_known in_range (word ∷ words) good (Ok r))
       (λ t. let p = and_parts _ _ t in
-      (omega arith, (λ more k. (tt, k)), λ g. (g, λ more w. ((le_z_yes (T_from_true _ p.0), le_z_yes (T_from_true _ p.1), (number_is word n is).1), w))))
-      (λ t. (omega arith, (λ more k. (tt, k)), λ g. absurd (false≢true g)))
+      (omega arith, (λ more k. (tt, k)), (λ g. (g, λ more w. ((le_z_yes (T_from_true _ p.0), le_z_yes (T_from_true _ p.1), (number_is word n is).1), w))), refl))
+      (λ t. (omega arith, (λ more k. (tt, k)), (λ g. absurd (false≢true g)), refl))
 
   words_at : (words : List (List ℕ)) (good : Bool) (o : Option ℤ) → (number_at low high (record { words = words; good = good }) o).1.words ≡ words
   words_at words good None = refl
   words_at words good (Some n) = cond_both {A = ℤ × Left} (int_le low n && int_le n high) (n, record { words = words; good = good }) (low, record { words = words; good = false }) (λ r. r.1.words ≡ words) (λ t. refl) (λ t. refl)
 
-  number_sound : (words : List (List ℕ)) (good : Bool) → Found in_range words good (next_number low high (record { words = words; good = good }))
+  number_sound : (words : List (List ℕ)) (good : Bool) → Found all_known in_range words good (next_number low high (record { words = words; good = good }))
   unfolding next_number next_word
-  number_sound [] good = inr (refl, (low, λ more. tt))
+  number_sound [] good = inr (refl, (low, (λ more. tt), refl))
   number_sound (word ∷ words) good = found_at word words good (number_of word) refl
 
   number_names : (n : ℤ) (more : List Slot) → Anything more → (words : List (List ℕ)) (good : Bool) → NamesFit (in_range n ++ more) words → NotUnknown more (next_number low high (record { words = words; good = good }))
@@ -65,10 +65,10 @@ module _ (low high : ℤ) (above : lowest ≤ℤ low) (below : high ≤ℤ highe
       let at : number_at low high left (number_of word) ≡ (n, left) = ap (number_at low high left) read ∙ cond-true (int_le low n && int_le n high) (n, left) (low, record { words = words; good = false }) tested in
       (words, ap (λ r. let found : Result (ℤ × Left) FileError = Ok r in found) at, w.1)
 
-  pub number_phrase : Phrase Anything in_range (next_number low high)
+  pub number_phrase : Phrase Anything all_known in_range (next_number low high)
   number_phrase = record {
     sound = number_sound;
-    knows = λ n. record { names = number_names n; count = number_count n; spelled = number_spelled n };
+    knows = λ n _. record { names = number_names n; count = number_count n; spelled = number_spelled n };
   }
 
 -- a number of a range that has no negative ones
@@ -76,7 +76,7 @@ module _ (high : ℤ) (below : high ≤ℤ highest) where
   abbrev natural_slots : ℕ → List Slot
   natural_slots n = Number (pos 0) high (pos n) ∷ []
 
-  any_number : Phrase Anything (λ n. Number (pos 0) high n ∷ []) (next_number (pos 0) high)
+  any_number : Phrase Anything all_known (λ n. Number (pos 0) high n ∷ []) (next_number (pos 0) high)
   any_number = number_phrase (pos 0) high (le_z_yes tt) below
 
   same_names : (m n : ℤ) (more : List Slot) (words : List (List ℕ)) → NamesFit (Number (pos 0) high m ∷ more) words → NamesFit (Number (pos 0) high n ∷ more) words
@@ -88,21 +88,21 @@ module _ (high : ℤ) (below : high ≤ℤ highest) where
   as_natural (pos n) more (word ∷ words) w = w
   as_natural (negsuc n) more (word ∷ words) w = absurd (omega (arith, ints, w.0.0))
 
-  natural_found : (words : List (List ℕ)) (good : Bool) (r : Result (ℤ × Left) FileError) → Found (λ n. Number (pos 0) high n ∷ []) words good r → Found natural_slots words good (r >>= λ n. Ok (unsigned_abs n.0, n.1))
+  natural_found : (words : List (List ℕ)) (good : Bool) (r : Result (ℤ × Left) FileError) → Found all_known (λ n. Number (pos 0) high n ∷ []) words good r → Found all_known natural_slots words good (r >>= λ n. Ok (unsigned_abs n.0, n.1))
   natural_found words good (Err kind) (inl e) = inl e
-  natural_found words good (Err kind) (inr e) = inr (e.0, (unsigned_abs e.1.0, λ more. same_names e.1.0 (pos (unsigned_abs e.1.0)) more words (e.1.1 more)))
+  natural_found words good (Err kind) (inr e) = inr (e.0, (unsigned_abs e.1.0, (λ more. same_names e.1.0 (pos (unsigned_abs e.1.0)) more words (e.1.1 more)), refl))
   natural_found words good (Ok r) f =
-      (f.0, (λ more k. same_names r.0 (pos (unsigned_abs r.0)) more words (f.1 more k)), λ t. let h = f.2 t in (h.0, λ more w. as_natural r.0 more words (h.1 more w)))
+      (f.0, (λ more k. same_names r.0 (pos (unsigned_abs r.0)) more words (f.1 more k)), (λ t. let h = f.2 t in (h.0, λ more w. as_natural r.0 more words (h.1 more w))), refl)
 
   natural_not_unknown : (more : List Slot) (r : Result (ℤ × Left) FileError) → NotUnknown more r → NotUnknown more (r >>= λ n. let found : Result (ℕ × Left) FileError = Ok (unsigned_abs n.0, n.1) in found)
   natural_not_unknown more (Err kind) k = k
   natural_not_unknown more (Ok r) k = k
 
-  pub natural_phrase : Phrase Anything natural_slots (next_natural high)
+  pub natural_phrase : Phrase Anything all_known natural_slots (next_natural high)
   unfolding next_natural
   natural_phrase = record {
     sound = λ words good. natural_found words good (next_number (pos 0) high (record { words = words; good = good })) (any_number.sound words good);
-    knows = λ n. let k = any_number.knows (pos n) in record {
+    knows = λ n _. let k = any_number.knows (pos n) refl in record {
       names = λ more f words good m. natural_not_unknown more (next_number (pos 0) high (record { words = words; good = good })) (k.names more f words good m);
       count = λ more f words good m len. let h = k.count more f words good m len in (unsigned_abs h.0, h.1, ap (λ r. r >>= λ n. Ok (unsigned_abs n.0, n.1)) h.2, h.3, h.4);
       spelled = λ more f words good w. let h = k.spelled more f words good w in (h.0, ap (λ r. r >>= λ n. Ok (unsigned_abs n.0, n.1)) h.1, h.2);
@@ -116,16 +116,16 @@ number_in_place word n is = let k = number_is word n is in let b = fits_bounds n
 abbrev number_list : List ℤ → List Slot
 number_list ns = map number ns
 
-found_first : (word : List ℕ) (words : List (List ℕ)) (good : Bool) (o : Option ℤ) → number_of word ≡ o → ((g : Bool) → Found number_list words g (Ok (numbers_from words g))) → Found number_list (word ∷ words) good (Ok (with_first o good (numbers_from words)))
+found_first : (word : List ℕ) (words : List (List ℕ)) (good : Bool) (o : Option ℤ) → number_of word ≡ o → ((g : Bool) → Found all_known number_list words g (Ok (numbers_from words g))) → Found all_known number_list (word ∷ words) good (Ok (with_first o good (numbers_from words)))
 found_first word words good (Some n) is found =
     let f = found good in
-    (omega (arith, f.0), (λ more k. (tt, f.1 more k)), λ t. let h = f.2 t in (h.0, λ more w. (number_in_place word n is, h.1 more w)))
+    (omega (arith, f.0), (λ more k. (tt, f.1 more k)), (λ t. let h = f.2 t in (h.0, λ more w. (number_in_place word n is, h.1 more w))), refl)
 found_first word words good None is found =
     let f = found false in
-    (omega (arith, f.0), (λ more k. (tt, f.1 more k)), λ t. absurd (false≢true (f.2 t).0))
+    (omega (arith, f.0), (λ more k. (tt, f.1 more k)), (λ t. absurd (false≢true (f.2 t).0)), refl)
 
-all_found : (words : List (List ℕ)) (good : Bool) → Found number_list words good (Ok (numbers_from words good))
-all_found [] good = (omega arith, (λ more n. n), λ t. (t, λ more w. w))
+all_found : (words : List (List ℕ)) (good : Bool) → Found all_known number_list words good (Ok (numbers_from words good))
+all_found [] good = (omega arith, (λ more n. n), (λ t. (t, λ more w. w)), refl)
 all_found (word ∷ words) good = found_first word words good (number_of word) refl (all_found words)
 
 none_first : (words : List (List ℕ)) (good : Bool) (o : Option ℤ) → ((g : Bool) → (numbers_from words g).1.words ≡ []) → (with_first o good (numbers_from words)).1.words ≡ []
@@ -144,11 +144,11 @@ all_read (n ∷ ns) (word ∷ words) good w =
     let read : number_of word ≡ Some n = number_of_number word n (bounds_fit n w.0.0 w.0.1, w.0.2) in
     ap (λ o. with_first o good (numbers_from words)) read ∙ ap (λ r. let found : List ℤ × Left = (n ∷ r.0, r.1) in found) (all_read ns words good w.1)
 
-pub all_numbers_phrase : Phrase AtEnd number_list all_numbers
+pub all_numbers_phrase : Phrase AtEnd all_known number_list all_numbers
 unfolding all_numbers
 all_numbers_phrase = record {
   sound = all_found;
-  knows = λ ns. record {
+  knows = λ ns _. record {
     names = λ more f words good k. subst (NamesFit more) (sym (none_after words good)) (none_left more);
     count = λ more f words good k len.
         let r = numbers_from words good in

@@ -2,7 +2,7 @@
 use Rattle.std.proofs.Common.{◌≡◌, ℕ, Bool, List, [], ◌∷◌, ◌++◌, length, Result, Ok, refl, sym, ap, subst, ◌∙◌, inr, arith}
 use Rattle.std.proofs.lemmas.List.{append-nil}
 use Rattle.pipeline_language.specs.declared.fault.FileError.{FileError}
-use Rattle.pipeline_language.specs.Form.{Slot, AnyWord, NamesFit, WordsFit}
+use Rattle.pipeline_language.specs.Form.{Slot, AnyWord, NamesFit, WordsFit, all_known}
 use Rattle.pipeline_language.specs.Syntax.{Joint, Plain, Within, joint_slots}
 use Rattle.pipeline_language.specs.Reading.{Left, next_word}
 use Rattle.pipeline_language.specs.SyntaxReading.{joint_of}
@@ -11,10 +11,10 @@ use Rattle.pipeline_language.proofs.PhraseLemmas.{Anything, AtEnd, Found, NotUnk
 abbrev word_slots : List ℕ → List Slot
 word_slots text = AnyWord text ∷ []
 
-word_sound : (words : List (List ℕ)) (good : Bool) → Found word_slots words good (next_word (record { words = words; good = good }))
+word_sound : (words : List (List ℕ)) (good : Bool) → Found all_known word_slots words good (next_word (record { words = words; good = good }))
 unfolding next_word
-word_sound [] good = inr (refl, ([], λ more. tt))
-word_sound (word ∷ words) good = (omega arith, (λ more n. (tt, n)), λ t. (t, λ more w. (refl, w)))
+word_sound [] good = inr (refl, ([], (λ more. tt), refl))
+word_sound (word ∷ words) good = (omega arith, (λ more n. (tt, n)), (λ t. (t, λ more w. (refl, w))), refl)
 
 word_names : (text : List ℕ) (more : List Slot) → Anything more → (words : List (List ℕ)) (good : Bool) → NamesFit (word_slots text ++ more) words → NotUnknown more (next_word (record { words = words; good = good }))
 unfolding next_word
@@ -31,16 +31,16 @@ unfolding next_word
 word_spelled text more f [] good w = absurd w
 word_spelled text more f (word ∷ words) good w = (words, ap (λ t. let found : Result (List ℕ × Left) FileError = Ok (t, record { words = words; good = good }) in found) w.0, w.1)
 
-pub word_phrase : Phrase Anything word_slots next_word
-word_phrase = record { sound = word_sound; knows = λ text. record { names = word_names text; count = word_count text; spelled = word_spelled text } }
+pub word_phrase : Phrase Anything all_known word_slots next_word
+word_phrase = record { sound = word_sound; knows = λ text _. record { names = word_names text; count = word_count text; spelled = word_spelled text } }
 
 -- what follows the name `joining`
-joint_sound : (words : List (List ℕ)) (good : Bool) → Found joint_slots words good (joint_of (record { words = words; good = good }))
+joint_sound : (words : List (List ℕ)) (good : Bool) → Found all_known joint_slots words good (joint_of (record { words = words; good = good }))
 unfolding joint_of next_word
-joint_sound [] good = inr (refl, (Plain [], λ more. tt))
-joint_sound (between ∷ []) good = (refl, (λ more n. (tt, n)), λ t. (t, λ more w. (refl, w)))
-joint_sound (between ∷ front ∷ []) good = inr (refl, (Within between front [], λ more. (tt, (tt, tt))))
-joint_sound (between ∷ front ∷ back ∷ words) good = (omega arith, (λ more n. (tt, (tt, (tt, n)))), λ t. (t, λ more w. (refl, (refl, (refl, w)))))
+joint_sound [] good = inr (refl, (Plain [], (λ more. tt), refl))
+joint_sound (between ∷ []) good = (refl, (λ more n. (tt, n)), (λ t. (t, λ more w. (refl, w))), refl)
+joint_sound (between ∷ front ∷ []) good = inr (refl, (Within between front [], (λ more. (tt, (tt, tt))), refl))
+joint_sound (between ∷ front ∷ back ∷ words) good = (omega arith, (λ more n. (tt, (tt, (tt, n)))), (λ t. (t, λ more w. (refl, (refl, (refl, w))))), refl)
 
 joint_names : (words : List (List ℕ)) (good : Bool) → NotUnknown [] (joint_of (record { words = words; good = good }))
 unfolding joint_of next_word
@@ -75,10 +75,10 @@ joint_spelled (Within d p s) (between ∷ front ∷ back ∷ []) good w =
     ([], ap (λ t. read_all (Within t front back) good) w.0 ∙ ap (λ t. read_all (Within d t back) good) w.1.0 ∙ ap (λ t. read_all (Within d p t) good) w.1.1.0, tt)
 joint_spelled (Within d p s) (between ∷ front ∷ back ∷ word ∷ words) good w = absurd w.1.1.1
 
-pub joint_phrase : Phrase AtEnd joint_slots joint_of
+pub joint_phrase : Phrase AtEnd all_known joint_slots joint_of
 joint_phrase = record {
   sound = joint_sound;
-  knows = λ joint. record {
+  knows = λ joint _. record {
     names = λ more f words good n. subst (λ m. NotUnknown m (joint_of (record { words = words; good = good }))) (sym f) (joint_names words good);
     count = λ more f words good n len.
         subst (λ m. Enough m (joint_of (record { words = words; good = good }))) (sym f) (joint_count joint words good (sym (ap length (append-nil (joint_slots joint))) ∙ ap (λ m. length (joint_slots joint ++ m)) (sym f) ∙ len));

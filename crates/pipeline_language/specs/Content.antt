@@ -20,10 +20,18 @@ use Rattle.pipeline_language.specs.declared.pipeline.NumberStage.{NumberStage}
 use Rattle.pipeline_language.specs.declared.pipeline.NumberStage.TheVariants as number_stages
 use Rattle.pipeline_language.specs.declared.pipeline.TextStage.{TextStage}
 use Rattle.pipeline_language.specs.declared.pipeline.TextStage.TheVariants as text_stages
-use Rattle.pipeline_language.specs.declared.pipeline.NumberCollector.{NumberCollector}
-use Rattle.pipeline_language.specs.declared.pipeline.NumberCollector.TheVariants as number_collectors
-use Rattle.pipeline_language.specs.declared.pipeline.TextCollector.{TextCollector}
-use Rattle.pipeline_language.specs.declared.pipeline.TextCollector.TheVariants as text_collectors
+use Rattle.pipeline_language.specs.declared.pipeline.NumberBase.{NumberBase}
+use Rattle.pipeline_language.specs.declared.pipeline.NumberBase.TheVariants as number_bases
+use Rattle.pipeline_language.specs.declared.pipeline.NumberInner.{NumberInner}
+use Rattle.pipeline_language.specs.declared.pipeline.NumberInner.TheVariants as number_inners
+use Rattle.pipeline_language.specs.declared.pipeline.NumberSummary.{NumberSummary}
+use Rattle.pipeline_language.specs.declared.pipeline.NumberSummary.TheVariants as number_summaries
+use Rattle.pipeline_language.specs.declared.pipeline.TextBase.{TextBase}
+use Rattle.pipeline_language.specs.declared.pipeline.TextBase.TheVariants as text_bases
+use Rattle.pipeline_language.specs.declared.pipeline.TextInner.{TextInner}
+use Rattle.pipeline_language.specs.declared.pipeline.TextInner.TheVariants as text_inners
+use Rattle.pipeline_language.specs.declared.pipeline.TextSummary.{TextSummary}
+use Rattle.pipeline_language.specs.declared.pipeline.TextSummary.TheVariants as text_summaries
 use Rattle.pipeline_language.specs.declared.pipeline.NumberMerge.{NumberMerge}
 use Rattle.pipeline_language.specs.declared.pipeline.NumberMerge.TheVariants as number_merges
 use Rattle.pipeline_language.specs.declared.pipeline.TextMerge.{TextMerge}
@@ -34,7 +42,7 @@ use Rattle.pipeline_language.specs.declared.pipeline.NumberTerminal.{NumberTermi
 use Rattle.pipeline_language.specs.declared.pipeline.NumberTerminal.TheVariants as number_terminals
 use Rattle.pipeline_language.specs.declared.pipeline.TextTerminal.{TextTerminal}
 use Rattle.pipeline_language.specs.declared.pipeline.TextTerminal.TheVariants as text_terminals
-use Rattle.pipeline_language.specs.Syntax.{Function, Add, Mul, Negate, Mod, Length, Itself, Condition, Less, Greater, Equals, Divisible, Empty, Starts, Longer, Summary, CountItems, SumItems, Greatest, Least, FirstItem, ItemList, Joined, Merge, KeepFirst, KeepLast, AddUp, KeepGreatest, KeepLeast, Copies, Pieces, Stage, MapBy, FilterBy, ExpandBy, Distinct, Limit, Skip, TakeWhile, DropWhile, Plain, Within, Terminal, Sum, Product, Max, Min, Count, FindFirst, ToList, AllMatch, AnyMatch, NoneMatch, Joining, GroupBy, Partition, ToMap, Teeing, Origin, Range, Closed, Numbers, Lines, Program}
+use Rattle.pipeline_language.specs.Syntax.{Function, Add, Mul, Negate, Mod, Length, Itself, Condition, Less, Greater, Equals, Divisible, Empty, Starts, Longer, Base, CountItems, SumItems, Greatest, Least, FirstItem, ItemList, Joined, Inner, InnerBase, InnerMapped, InnerFiltered, Summary, OfBase, Mapped, Filtered, Grouped, Merge, KeepFirst, KeepLast, AddUp, KeepGreatest, KeepLeast, Copies, Pieces, Stage, MapBy, FilterBy, ExpandBy, Distinct, Limit, Skip, TakeWhile, DropWhile, Plain, Within, Terminal, Sum, Product, Max, Min, Count, FindFirst, ToList, AllMatch, AnyMatch, NoneMatch, Joining, GroupBy, Partition, ToMap, ToMapStrict, Teeing, Origin, Range, Closed, Numbers, Lines, Program}
 
 abbrev pub number_origin : NumberSource → Origin
 number_origin (sources.Range a b) = Range a b
@@ -63,19 +71,43 @@ text_test text_tests.Empty = Empty
 text_test (text_tests.Starts front) = Starts front.now
 text_test (text_tests.Longer n) = Longer n
 
-abbrev pub number_collector : NumberCollector → Summary
-number_collector number_collectors.Count = CountItems
-number_collector number_collectors.Sum = SumItems
-number_collector number_collectors.Max = Greatest
-number_collector number_collectors.Min = Least
-number_collector number_collectors.First = FirstItem
-number_collector number_collectors.ToList = ItemList
+abbrev pub number_base : NumberBase → Base
+number_base number_bases.Count = CountItems
+number_base number_bases.Sum = SumItems
+number_base number_bases.Max = Greatest
+number_base number_bases.Min = Least
+number_base number_bases.First = FirstItem
+number_base number_bases.ToList = ItemList
 
-abbrev pub text_collector : TextCollector → Summary
-text_collector text_collectors.Count = CountItems
-text_collector text_collectors.First = FirstItem
-text_collector text_collectors.ToList = ItemList
-text_collector (text_collectors.Joining between) = Joined between.now
+abbrev pub number_inner : NumberInner → Inner
+number_inner (number_inners.Base base) = InnerBase (number_base base)
+number_inner (number_inners.Mapping f base) = InnerMapped (number_function f) (number_base base)
+number_inner (number_inners.Filtering p base) = InnerFiltered (number_test p) (number_base base)
+
+abbrev pub number_summary : NumberSummary → Summary
+number_summary (number_summaries.Base base) = OfBase (number_base base)
+number_summary (number_summaries.Mapping f inner) = Mapped (number_function f) (number_inner inner)
+number_summary (number_summaries.Filtering p inner) = Filtered (number_test p) (number_inner inner)
+number_summary (number_summaries.GroupBy f inner) = Grouped (number_function f) (number_inner inner)
+
+abbrev pub text_base : TextBase → Base
+text_base text_bases.Count = CountItems
+text_base text_bases.First = FirstItem
+text_base text_bases.ToList = ItemList
+text_base (text_bases.Joining between) = Joined between.now
+
+abbrev pub text_inner : TextInner → Inner
+text_inner (text_inners.Base base) = InnerBase (text_base base)
+text_inner (text_inners.MappingLength base) = InnerMapped Length (number_base base)
+text_inner (text_inners.MappingItself base) = InnerMapped Itself (text_base base)
+text_inner (text_inners.Filtering p base) = InnerFiltered (text_test p) (text_base base)
+
+abbrev pub text_summary : TextSummary → Summary
+text_summary (text_summaries.Base base) = OfBase (text_base base)
+text_summary (text_summaries.MappingLength inner) = Mapped Length (number_inner inner)
+text_summary (text_summaries.MappingItself inner) = Mapped Itself (text_inner inner)
+text_summary (text_summaries.Filtering p inner) = Filtered (text_test p) (text_inner inner)
+text_summary (text_summaries.GroupBy f inner) = Grouped (text_function f) (text_inner inner)
 
 abbrev pub number_merge : NumberMerge → Merge
 number_merge number_merges.First = KeepFirst
@@ -120,10 +152,11 @@ number_terminal number_terminals.ToList = ToList
 number_terminal (number_terminals.AllMatch p) = AllMatch (number_test p)
 number_terminal (number_terminals.AnyMatch p) = AnyMatch (number_test p)
 number_terminal (number_terminals.NoneMatch p) = NoneMatch (number_test p)
-number_terminal (number_terminals.GroupBy f c) = GroupBy (number_function f) (number_collector c)
-number_terminal (number_terminals.Partition p c) = Partition (number_test p) (number_collector c)
+number_terminal (number_terminals.GroupBy f summary) = GroupBy (number_function f) (number_summary summary)
+number_terminal (number_terminals.Partition p summary) = Partition (number_test p) (number_summary summary)
 number_terminal (number_terminals.ToMap key value merge) = ToMap (number_function key) (number_function value) (number_merge merge)
-number_terminal (number_terminals.Teeing one other) = Teeing (number_collector one) (number_collector other)
+number_terminal (number_terminals.ToMapStrict key value) = ToMapStrict (number_function key) (number_function value)
+number_terminal (number_terminals.Teeing one other) = Teeing (number_summary one) (number_summary other)
 
 abbrev pub text_map : TextFunction → TextValue → Terminal
 text_map key (text_values.Length merge) = ToMap (text_function key) Length (number_merge merge)
@@ -138,10 +171,11 @@ text_terminal (text_terminals.AnyMatch p) = AnyMatch (text_test p)
 text_terminal (text_terminals.NoneMatch p) = NoneMatch (text_test p)
 text_terminal (text_terminals.Joining between) = Joining (Plain between.now)
 text_terminal (text_terminals.JoiningWithin between front back) = Joining (Within between.now front.now back.now)
-text_terminal (text_terminals.GroupBy f c) = GroupBy (text_function f) (text_collector c)
-text_terminal (text_terminals.Partition p c) = Partition (text_test p) (text_collector c)
+text_terminal (text_terminals.GroupBy f summary) = GroupBy (text_function f) (text_summary summary)
+text_terminal (text_terminals.Partition p summary) = Partition (text_test p) (text_summary summary)
 text_terminal (text_terminals.ToMap key value) = text_map key value
-text_terminal (text_terminals.Teeing one other) = Teeing (text_collector one) (text_collector other)
+text_terminal (text_terminals.ToMapStrict key value) = ToMapStrict (text_function key) (text_function value)
+text_terminal (text_terminals.Teeing one other) = Teeing (text_summary one) (text_summary other)
 
 -- the stages and the terminal of a body
 abbrev pub Body : Type 0

@@ -8,15 +8,17 @@ use Rattle.pipeline_language.specs.declared.fault.ReadError.{ReadError}
 use Rattle.pipeline_language.specs.declared.fault.ReadError.TheVariants as errors
 use Rattle.pipeline_language.specs.declared.fault.LineError.{LineError}
 use Rattle.pipeline_language.specs.declared.fault.LineError.TheVariants as line_errors
+use Rattle.pipeline_language.specs.declared.version.Version.{Version}
+use Rattle.pipeline_language.specs.declared.version.Version.TheVariants.{One, Two}
 use Rattle.pipeline_language.specs.Content.{Body}
 use Rattle.pipeline_language.specs.Words.{lines_of}
 use Rattle.pipeline_language.specs.Syntax.{Origin, origins, text_count, Stage, BodyLine, StageLine, TerminalLine, Coming, after_stage, bodies, Program}
-use Rattle.pipeline_language.specs.Language.{most_bytes, version, from_origin}
+use Rattle.pipeline_language.specs.Language.{most_bytes, first_line, from_origin}
 use Rattle.pipeline_language.specs.Reading.{◌>>=◌, Left, line_of}
 use Rattle.pipeline_language.specs.SyntaxReading.{body_of, origin_words}
 
-unfoldable pub version_of : List ℕ → Result (Unit {0}) FileError
-version_of line = if is_utf8 line then (if bytes_eq line version then Ok tt else Err BadVersion) else Err BadText
+unfoldable pub version_of : List ℕ → Result Version FileError
+version_of line = if is_utf8 line then (if bytes_eq line (first_line One) then Ok One else (if bytes_eq line (first_line Two) then Ok Two else Err BadVersion)) else Err BadText
 
 -- what a line gives, with its number at a fault
 abbrev pub at_line : {X : Type 0} → ℕ → Result X FileError → Result X FileFault
@@ -43,7 +45,7 @@ after_line (TerminalLine terminal) ending rest = ending >>= λ _. let body : Bod
 -- The lines of a body, to which something comes, and of which the first has number n.
 abbrev pub body_from : Coming → ℕ → List (List ℕ) → Result Body FileFault
 body_from coming n [] = Err (record { line = n; kind = MissingTerminal })
-body_from coming n (line ∷ lines) = at_line n (line_of (bodies coming) body_of line) >>= λ b. after_line b (no_more (n + 1) lines) (λ stage. body_from (after_stage coming stage) (n + 1) lines)
+body_from coming n (line ∷ lines) = at_line n (line_of (bodies coming) (body_of coming.version) line) >>= λ b. after_line b (no_more (n + 1) lines) (λ stage. body_from (after_stage coming stage) (n + 1) lines)
 
 -- the first of them alone, behind which nothing may stand where it is the terminal
 abbrev pub ending_with : BodyLine → Result (Unit {0}) FileFault → Result BodyLine FileFault
@@ -52,7 +54,7 @@ ending_with (TerminalLine terminal) ending = ending >>= λ _. Ok (TerminalLine t
 
 unfoldable pub first_of : Coming → ℕ → List (List ℕ) → Result BodyLine FileFault
 first_of coming n [] = Err (record { line = n; kind = MissingTerminal })
-first_of coming n (line ∷ lines) = at_line n (line_of (bodies coming) body_of line) >>= λ b. ending_with b (no_more (n + 1) lines)
+first_of coming n (line ∷ lines) = at_line n (line_of (bodies coming) (body_of coming.version) line) >>= λ b. ending_with b (no_more (n + 1) lines)
 
 -- so many texts, of which the first has number n, and what is left of the lines
 abbrev pub Texts : Type 0
@@ -73,16 +75,16 @@ first_text n [] = Err (record { line = n; kind = MissingTerminal })
 first_text n (line ∷ lines) = if is_utf8 line then Ok line else Err (record { line = n; kind = BadText })
 
 -- the lines from the texts on, from the source on, and all of them
-abbrev pub from_texts : Origin → List (List ℕ) → Result Program FileFault
-from_texts origin lines = texts_from (text_count origin) 3 lines >>= λ texts. body_from (from_origin origin) (3 + length texts.0) texts.1 >>= λ body. Ok (record { origin = origin; texts = texts.0; stages = body.0; terminal = body.1 })
+abbrev pub from_texts : Version → Origin → List (List ℕ) → Result Program FileFault
+from_texts version origin lines = texts_from (text_count origin) 3 lines >>= λ texts. body_from (from_origin version origin) (3 + length texts.0) texts.1 >>= λ body. Ok (record { origin = origin; texts = texts.0; stages = body.0; terminal = body.1 })
 
-abbrev pub from_source : List (List ℕ) → Result Program FileFault
-from_source [] = Err (record { line = 2; kind = MissingTerminal })
-from_source (line ∷ lines) = at_line 2 (line_of origins origin_words line) >>= λ origin. from_texts origin lines
+abbrev pub from_source : Version → List (List ℕ) → Result Program FileFault
+from_source version [] = Err (record { line = 2; kind = MissingTerminal })
+from_source version (line ∷ lines) = at_line 2 (line_of origins origin_words line) >>= λ origin. from_texts version origin lines
 
 unfoldable pub program_from : List (List ℕ) → Result Program FileFault
 program_from [] = Err (record { line = 1; kind = BadVersion })
-program_from (line ∷ lines) = at_line 1 (version_of line) >>= λ _. from_source lines
+program_from (line ∷ lines) = at_line 1 (version_of line) >>= λ version. from_source version lines
 
 -- the whole file
 unfoldable pub file_of : List ℕ → Result Program FileFault

@@ -55,15 +55,22 @@ WordsFit [] (word ∷ words) = ⊥
 WordsFit (slot ∷ slots) [] = ⊥
 WordsFit (slot ∷ slots) (word ∷ words) = WordFits slot word × WordsFit slots words
 
--- What may stand in a line: the form of each such thing, what else is asked of it, and the fault of one past its limits.
+-- every thing is known
+abbrev pub all_known : {X : Type 0} → X → Bool
+all_known x = true
+
+-- What may stand in a line: the form of each such thing, whether the file's version knows its names, what else is asked of
+-- it, and the fault of one past its limits.
 pub record Forms (X : Type 0) : Type 1 where
   pub slots : X → List Slot
+  pub known : X → Bool
   pub takes_kind : X → Bool
   pub in_limits : X → Bool
   pub limit_fault : FileError
 
 -- the words are those of x
 pub record AreWordsOf {X : Type 0} (forms : Forms X) (words : List (List ℕ)) (x : X) : Type 0 where
+  pub known : forms.known x ≡ true
   pub spelled : WordsFit (forms.slots x) words
   pub kind : forms.takes_kind x ≡ true
   pub limits : forms.in_limits x ≡ true
@@ -83,11 +90,11 @@ FirstFault NoTest before kind = ⊥
 FirstFault {X} (Test fault test more) before kind = ((kind ≡ fault) × ((x : X) → before x → test x → ⊥))
     ⊎ (((x : X) × before x × test x) × FirstFault more (λ x. before x × test x) kind)
 
--- The tests of a line's words: the names stand in their places, the number of words is right, each number is one and in
--- its range, the kinds fit, the limits are kept.
+-- The tests of a line's words: names that the version knows stand in their places, the number of words is right, each
+-- number is one and in its range, the kinds fit, the limits are kept.
 abbrev pub tests : {X : Type 0} → Forms X → List (List ℕ) → Tests X
 tests forms words =
-    Test UnknownWord (λ x. NamesFit (forms.slots x) words)
+    Test UnknownWord (λ x. (forms.known x ≡ true) × NamesFit (forms.slots x) words)
     (Test BadArity (λ x. length (forms.slots x) ≡ length words)
     (Test BadNumber (λ x. WordsFit (forms.slots x) words)
     (Test WrongKind (λ x. forms.takes_kind x ≡ true)

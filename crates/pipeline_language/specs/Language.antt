@@ -3,6 +3,8 @@ use Rattle.std.specs.Prelude.{◌≡◌, ◌⊎◌, ℕ, ◌+◌, ◌<◌, ◌�
 use Rattle.pipeline_language.specs.declared.fault.FileError.{FileError}
 use Rattle.pipeline_language.specs.declared.fault.FileError.TheVariants.{BadText, TooLarge, BadVersion, MissingTerminal, AfterTerminal}
 use Rattle.pipeline_language.specs.declared.fault.FileFault.{FileFault}
+use Rattle.pipeline_language.specs.declared.version.Version.{Version}
+use Rattle.pipeline_language.specs.declared.version.Version.TheVariants.{One, Two}
 use Rattle.pipeline_language.specs.Words.{lines_of}
 use Rattle.pipeline_language.specs.Form.{IsLineOf, LineFault}
 use Rattle.pipeline_language.specs.Syntax.{Origin, origins, origin_kind, text_count, Stage, StageLine, TerminalLine, Coming, after_stage, bodies, Program}
@@ -11,13 +13,14 @@ use Rattle.pipeline_language.specs.Syntax.{Origin, origins, origin_kind, text_co
 abbrev pub most_bytes : ℕ
 most_bytes = 1048576
 
--- the first line
-abbrev pub version : List ℕ
-version = codes "pipeline 1"
+-- the first line of a file of a version
+abbrev pub first_line : Version → List ℕ
+first_line One = codes "pipeline 1"
+first_line Two = codes "pipeline 2"
 
 -- what comes from a source, before any stage
-abbrev pub from_origin : Origin → Coming
-from_origin origin = record { kind = origin_kind origin; stages = 0 }
+abbrev pub from_origin : Version → Origin → Coming
+from_origin version origin = record { version = version; kind = origin_kind origin; stages = 0 }
 
 -- Each line is that of its stage, which takes what comes to it.
 abbrev pub AreStageLines : Coming → List (List ℕ) → List Stage → Type 0
@@ -38,39 +41,42 @@ AreTexts (text ∷ texts) = IsUtf8 text × AreTexts texts
 
 -- The lines of a whole file: the version, the source line with its texts, the stage lines, the terminal line.
 pub record IsProgramOf (lines : List (List ℕ)) (program : Program) : Type 0 where
+  pub version : Version
   pub origin_line : List ℕ
   pub stage_lines : List (List ℕ)
   pub terminal_line : List ℕ
-  pub whole : lines ≡ version ∷ origin_line ∷ program.texts ++ (stage_lines ++ terminal_line ∷ [])
+  pub whole : lines ≡ first_line version ∷ origin_line ∷ program.texts ++ (stage_lines ++ terminal_line ∷ [])
   pub origin : IsLineOf origins origin_line program.origin
   pub texts : AreTexts program.texts
   pub number : length program.texts ≡ text_count program.origin
-  pub stages : AreStageLines (from_origin program.origin) stage_lines program.stages
-  pub terminal : IsLineOf (bodies (after_stages (from_origin program.origin) program.stages)) terminal_line (TerminalLine program.terminal)
+  pub stages : AreStageLines (from_origin version program.origin) stage_lines program.stages
+  pub terminal : IsLineOf (bodies (after_stages (from_origin version program.origin) program.stages)) terminal_line (TerminalLine program.terminal)
 
 -- The lines of a file up to one of its texts.
 pub record IsBeginningOfTexts (lines : List (List ℕ)) : Type 0 where
+  pub version : Version
   pub origin_line : List ℕ
   pub source : Origin
   pub lines_read : List (List ℕ)
-  pub whole : lines ≡ version ∷ origin_line ∷ lines_read
+  pub whole : lines ≡ first_line version ∷ origin_line ∷ lines_read
   pub origin : IsLineOf origins origin_line source
   pub texts : AreTexts lines_read
   pub number : length lines_read < text_count source
 
 -- The lines of a file up to a line of its body, with what comes to that.
 pub record IsBeginningOf (lines : List (List ℕ)) (coming : Coming) : Type 0 where
+  pub version : Version
   pub origin_line : List ℕ
   pub source : Origin
   pub lines_read : List (List ℕ)
   pub stage_lines : List (List ℕ)
   pub steps : List Stage
-  pub whole : lines ≡ version ∷ origin_line ∷ lines_read ++ stage_lines
+  pub whole : lines ≡ first_line version ∷ origin_line ∷ lines_read ++ stage_lines
   pub origin : IsLineOf origins origin_line source
   pub texts : AreTexts lines_read
   pub number : length lines_read ≡ text_count source
-  pub stages : AreStageLines (from_origin source) stage_lines steps
-  pub comes : coming ≡ after_stages (from_origin source) steps
+  pub stages : AreStageLines (from_origin version source) stage_lines steps
+  pub comes : coming ≡ after_stages (from_origin version source) steps
 
 -- What a line has to be: the version, the source, a text, a stage or the terminal behind what comes to it, or none at all.
 pub data Place : Type 0 where
@@ -83,14 +89,14 @@ pub data Place : Type 0 where
 -- The lines are a beginning of a well formed file, and the next line has its place.
 abbrev pub LeadsTo : List (List ℕ) → Place → Type 0
 LeadsTo lines VersionPlace = lines ≡ []
-LeadsTo lines SourcePlace = lines ≡ version ∷ []
+LeadsTo lines SourcePlace = (version : Version) × (lines ≡ first_line version ∷ [])
 LeadsTo lines TextPlace = IsBeginningOfTexts lines
 LeadsTo lines (BodyPlace coming) = IsBeginningOf lines coming
 LeadsTo lines EndPlace = (program : Program) × IsProgramOf lines program
 
--- the fault of the first line
+-- the fault of a first line that is none of the versions'
 abbrev pub VersionFault : List ℕ → FileError → Type 0
-VersionFault line kind = ((IsUtf8 line → ⊥) × (kind ≡ BadText)) ⊎ (IsUtf8 line × (line ≡ version → ⊥) × (kind ≡ BadVersion))
+VersionFault line kind = ((IsUtf8 line → ⊥) × (kind ≡ BadText)) ⊎ (IsUtf8 line × ((version : Version) → line ≡ first_line version → ⊥) × (kind ≡ BadVersion))
 
 -- the fault of a line at its place
 abbrev pub FaultAt : Place → List ℕ → FileError → Type 0

@@ -3,6 +3,10 @@ use Rattle.pipeline_language.specs.declared.syntax.Function.{Function}
 use Rattle.pipeline_language.specs.declared.syntax.Function.TheVariants as functions
 use Rattle.pipeline_language.specs.declared.syntax.Condition.{Condition}
 use Rattle.pipeline_language.specs.declared.syntax.Condition.TheVariants as conditions
+use Rattle.pipeline_language.specs.declared.syntax.Base.{Base}
+use Rattle.pipeline_language.specs.declared.syntax.Base.TheVariants as bases
+use Rattle.pipeline_language.specs.declared.syntax.Inner.{Inner}
+use Rattle.pipeline_language.specs.declared.syntax.Inner.TheVariants as inners
 use Rattle.pipeline_language.specs.declared.syntax.Summary.{Summary}
 use Rattle.pipeline_language.specs.declared.syntax.Summary.TheVariants as summaries
 use Rattle.pipeline_language.specs.declared.syntax.Merge.{Merge}
@@ -36,14 +40,25 @@ condition_content conditions.Empty = syntax.Empty
 condition_content (conditions.Starts front) = syntax.Starts front.now
 condition_content (conditions.Longer n) = syntax.Longer n
 
+abbrev pub base_content : Base → syntax.Base
+base_content bases.Count = syntax.CountItems
+base_content bases.Sum = syntax.SumItems
+base_content bases.Max = syntax.Greatest
+base_content bases.Min = syntax.Least
+base_content bases.First = syntax.FirstItem
+base_content bases.ToList = syntax.ItemList
+base_content (bases.Joining between) = syntax.Joined between.now
+
+abbrev pub inner_content : Inner → syntax.Inner
+inner_content (inners.Base base) = syntax.InnerBase (base_content base)
+inner_content (inners.Mapping f base) = syntax.InnerMapped (function_content f) (base_content base)
+inner_content (inners.Filtering p base) = syntax.InnerFiltered (condition_content p) (base_content base)
+
 abbrev pub summary_content : Summary → syntax.Summary
-summary_content summaries.Count = syntax.CountItems
-summary_content summaries.Sum = syntax.SumItems
-summary_content summaries.Max = syntax.Greatest
-summary_content summaries.Min = syntax.Least
-summary_content summaries.First = syntax.FirstItem
-summary_content summaries.ToList = syntax.ItemList
-summary_content (summaries.Joining between) = syntax.Joined between.now
+summary_content (summaries.Base base) = syntax.OfBase (base_content base)
+summary_content (summaries.Mapping f inner) = syntax.Mapped (function_content f) (inner_content inner)
+summary_content (summaries.Filtering p inner) = syntax.Filtered (condition_content p) (inner_content inner)
+summary_content (summaries.GroupBy f inner) = syntax.Grouped (function_content f) (inner_content inner)
 
 abbrev pub merge_content : Merge → syntax.Merge
 merge_content merges.First = syntax.KeepFirst
@@ -85,6 +100,7 @@ terminal_content (terminals.Joining joint) = syntax.Joining (joint_content joint
 terminal_content (terminals.GroupBy f c) = syntax.GroupBy (function_content f) (summary_content c)
 terminal_content (terminals.Partition p c) = syntax.Partition (condition_content p) (summary_content c)
 terminal_content (terminals.ToMap key value merge) = syntax.ToMap (function_content key) (function_content value) (merge_content merge)
+terminal_content (terminals.ToMapStrict key value) = syntax.ToMapStrict (function_content key) (function_content value)
 terminal_content (terminals.Teeing one other) = syntax.Teeing (summary_content one) (summary_content other)
 
 abbrev pub terminal_line_content : Terminal → syntax.BodyLine

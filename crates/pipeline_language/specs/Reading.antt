@@ -91,6 +91,10 @@ ByName X = List ℕ → Reader X
 abbrev pub named : {A X : Type 0} → List ℕ → (A → X) → Reader A → ByName X → ByName X
 named name make follows others found left = if bytes_eq found name then (follows left >>= λ a. Ok (make a.0, a.1)) else others found left
 
+-- things by the names of what they are made of
+abbrev pub made_of : {A X : Type 0} → (A → X) → ByName A → ByName X
+made_of make names found left = names found left >>= λ a. Ok (make a.0, a.1)
+
 abbrev pub unknown : {X : Type 0} → ByName X
 unknown found left = Err UnknownWord
 

@@ -1,8 +1,10 @@
 -- What may stand in a file, each thing with its words, and the items that it takes.
 use Rattle.std.specs.Prelude.{ℕ, ◌+◌, ◌+ℤ◌, ◌-ℤ◌, ℤ, pos, Bool, true, false, ◌&&◌, nat_le, nat_lt, List, [], ◌∷◌, ◌++◌, map, codes}
 use Rattle.pipeline_language.specs.declared.fault.FileError.TheVariants.{RangeTooLong, TooManyStages}
+use Rattle.pipeline_language.specs.declared.version.Version.{Version}
+use Rattle.pipeline_language.specs.declared.version.Version.TheVariants.{One, Two}
 use Rattle.pipeline_language.specs.Steps.{steps_up}
-use Rattle.pipeline_language.specs.Form.{Slot, Name, EitherName, Number, AnyWord, number, natural, divisor, Forms}
+use Rattle.pipeline_language.specs.Form.{Slot, Name, EitherName, Number, AnyWord, number, natural, divisor, Forms, all_known}
 
 -- A number stands for itself, a text for its bytes.
 pub data Function : Type 0 where
@@ -22,14 +24,28 @@ pub data Condition : Type 0 where
   Starts : List ℕ → Condition
   Longer : ℕ → Condition
 
+-- what is made of items at once
+pub data Base : Type 0 where
+  CountItems : Base
+  SumItems : Base
+  Greatest : Base
+  Least : Base
+  FirstItem : Base
+  ItemList : Base
+  Joined : List ℕ → Base
+
+-- what is made of them inside another collector: at once, of their values, or of those that pass
+pub data Inner : Type 0 where
+  InnerBase : Base → Inner
+  InnerMapped : Function → Base → Inner
+  InnerFiltered : Condition → Base → Inner
+
+-- what is made of them: at once, of their values, of those that pass, or of those of each key
 pub data Summary : Type 0 where
-  CountItems : Summary
-  SumItems : Summary
-  Greatest : Summary
-  Least : Summary
-  FirstItem : Summary
-  ItemList : Summary
-  Joined : List ℕ → Summary
+  OfBase : Base → Summary
+  Mapped : Function → Inner → Summary
+  Filtered : Condition → Inner → Summary
+  Grouped : Function → Inner → Summary
 
 pub data Merge : Type 0 where
   KeepFirst : Merge
@@ -71,6 +87,7 @@ pub data Terminal : Type 0 where
   GroupBy : Function → Summary → Terminal
   Partition : Condition → Summary → Terminal
   ToMap : Function → Function → Merge → Terminal
+  ToMapStrict : Function → Function → Terminal
   Teeing : Summary → Summary → Terminal
 
 pub data Origin : Type 0 where
@@ -98,15 +115,28 @@ condition_slots Empty = Name (codes "empty") ∷ []
 condition_slots (Starts front) = Name (codes "starts") ∷ AnyWord front ∷ []
 condition_slots (Longer n) = Name (codes "longer") ∷ natural n ∷ []
 
+-- BASE
+abbrev pub base_slots : Base → List Slot
+base_slots CountItems = EitherName (codes "count") (codes "counting") ∷ []
+base_slots SumItems = Name (codes "sum") ∷ []
+base_slots Greatest = Name (codes "max") ∷ []
+base_slots Least = Name (codes "min") ∷ []
+base_slots FirstItem = Name (codes "first") ∷ []
+base_slots ItemList = Name (codes "tolist") ∷ []
+base_slots (Joined between) = Name (codes "joining") ∷ AnyWord between ∷ []
+
+-- INNER
+abbrev pub inner_slots : Inner → List Slot
+inner_slots (InnerBase base) = base_slots base
+inner_slots (InnerMapped f base) = Name (codes "mapping") ∷ function_slots f ++ base_slots base
+inner_slots (InnerFiltered p base) = Name (codes "filtering") ∷ condition_slots p ++ base_slots base
+
 -- COLL
 abbrev pub summary_slots : Summary → List Slot
-summary_slots CountItems = EitherName (codes "count") (codes "counting") ∷ []
-summary_slots SumItems = Name (codes "sum") ∷ []
-summary_slots Greatest = Name (codes "max") ∷ []
-summary_slots Least = Name (codes "min") ∷ []
-summary_slots FirstItem = Name (codes "first") ∷ []
-summary_slots ItemList = Name (codes "tolist") ∷ []
-summary_slots (Joined between) = Name (codes "joining") ∷ AnyWord between ∷ []
+summary_slots (OfBase base) = base_slots base
+summary_slots (Mapped f inner) = Name (codes "mapping") ∷ function_slots f ++ inner_slots inner
+summary_slots (Filtered p inner) = Name (codes "filtering") ∷ condition_slots p ++ inner_slots inner
+summary_slots (Grouped f inner) = Name (codes "groupby") ∷ function_slots f ++ inner_slots inner
 
 -- MERGE
 abbrev pub merge_slots : Merge → List Slot
@@ -151,6 +181,7 @@ terminal_slots (Joining joint) = Name (codes "joining") ∷ joint_slots joint
 terminal_slots (GroupBy f summary) = Name (codes "groupby") ∷ function_slots f ++ summary_slots summary
 terminal_slots (Partition p summary) = Name (codes "partition") ∷ condition_slots p ++ summary_slots summary
 terminal_slots (ToMap key value merge) = Name (codes "tomap") ∷ function_slots key ++ (function_slots value ++ merge_slots merge)
+terminal_slots (ToMapStrict key value) = Name (codes "tomapstrict") ∷ function_slots key ++ function_slots value
 terminal_slots (Teeing one other) = Name (codes "teeing") ∷ summary_slots one ++ summary_slots other
 
 abbrev pub origin_slots : Origin → List Slot
@@ -171,7 +202,25 @@ is_short (Numbers ns) = true
 is_short (Lines n) = true
 
 abbrev pub origins : Forms Origin
-origins = record { slots = origin_slots; takes_kind = λ _. true; in_limits = is_short; limit_fault = RangeTooLong }
+origins = record { slots = origin_slots; known = all_known; takes_kind = λ _. true; in_limits = is_short; limit_fault = RangeTooLong }
+
+-- The names `mapping`, `filtering` and `groupby` of collectors, and `tomapstrict`, are of the second version.
+abbrev pub has_new_names : Version → Bool
+has_new_names One = false
+has_new_names Two = true
+
+abbrev pub summary_known : Version → Summary → Bool
+summary_known version (OfBase base) = true
+summary_known version (Mapped f inner) = has_new_names version
+summary_known version (Filtered p inner) = has_new_names version
+summary_known version (Grouped f inner) = has_new_names version
+
+abbrev pub terminal_known : Version → Terminal → Bool
+terminal_known version (GroupBy f summary) = summary_known version summary
+terminal_known version (Partition p summary) = summary_known version summary
+terminal_known version (ToMapStrict key value) = has_new_names version
+terminal_known version (Teeing one other) = summary_known version one && summary_known version other
+terminal_known version terminal = true
 
 -- Kinds of items.
 pub data Kind : Type 0 where
@@ -226,14 +275,26 @@ condition_takes kind Empty = is_text kind
 condition_takes kind (Starts front) = is_text kind
 condition_takes kind (Longer n) = is_text kind
 
+abbrev pub base_takes : Kind → Base → Bool
+base_takes kind CountItems = true
+base_takes kind SumItems = is_number kind
+base_takes kind Greatest = is_number kind
+base_takes kind Least = is_number kind
+base_takes kind FirstItem = true
+base_takes kind ItemList = true
+base_takes kind (Joined between) = is_text kind
+
+-- Behind a function come items of the kind of its values.
+abbrev pub inner_takes : Kind → Inner → Bool
+inner_takes kind (InnerBase base) = base_takes kind base
+inner_takes kind (InnerMapped f base) = function_takes kind f && base_takes (value_kind kind f) base
+inner_takes kind (InnerFiltered p base) = condition_takes kind p && base_takes kind base
+
 abbrev pub summary_takes : Kind → Summary → Bool
-summary_takes kind CountItems = true
-summary_takes kind SumItems = is_number kind
-summary_takes kind Greatest = is_number kind
-summary_takes kind Least = is_number kind
-summary_takes kind FirstItem = true
-summary_takes kind ItemList = true
-summary_takes kind (Joined between) = is_text kind
+summary_takes kind (OfBase base) = base_takes kind base
+summary_takes kind (Mapped f inner) = function_takes kind f && inner_takes (value_kind kind f) inner
+summary_takes kind (Filtered p inner) = condition_takes kind p && inner_takes kind inner
+summary_takes kind (Grouped f inner) = function_takes kind f && inner_takes kind inner
 
 abbrev pub merge_takes : Kind → Merge → Bool
 merge_takes kind KeepFirst = true
@@ -282,6 +343,7 @@ terminal_takes kind (Joining joint) = is_text kind
 terminal_takes kind (GroupBy f summary) = function_takes kind f && summary_takes kind summary
 terminal_takes kind (Partition p summary) = condition_takes kind p && summary_takes kind summary
 terminal_takes kind (ToMap key value merge) = function_takes kind key && (function_takes kind value && merge_takes (value_kind kind value) merge)
+terminal_takes kind (ToMapStrict key value) = function_takes kind key && function_takes kind value
 terminal_takes kind (Teeing one other) = summary_takes kind one && summary_takes kind other
 
 -- A line of the body is a stage or the terminal: the names of both stand at its first place.
@@ -292,6 +354,10 @@ pub data BodyLine : Type 0 where
 abbrev pub body_slots : BodyLine → List Slot
 body_slots (StageLine stage) = stage_slots stage
 body_slots (TerminalLine terminal) = terminal_slots terminal
+
+abbrev pub body_known : Version → BodyLine → Bool
+body_known version (StageLine stage) = true
+body_known version (TerminalLine terminal) = terminal_known version terminal
 
 abbrev pub body_takes : Kind → BodyLine → Bool
 body_takes kind (StageLine stage) = stage_takes kind stage
@@ -305,17 +371,18 @@ abbrev pub has_room : ℕ → BodyLine → Bool
 has_room before (StageLine stage) = nat_lt before most_stages
 has_room before (TerminalLine terminal) = true
 
--- What comes to a line: items of a kind, from so many stages.
+-- What comes to a line of a file of a version: items of a kind, from so many stages.
 pub record Coming : Type 0 where
+  pub version : Version
   pub kind : Kind
   pub stages : ℕ
 
 -- what comes to the line after a stage
 abbrev pub after_stage : Coming → Stage → Coming
-after_stage coming stage = record { kind = kind_after coming.kind stage; stages = coming.stages + 1 }
+after_stage coming stage = record { version = coming.version; kind = kind_after coming.kind stage; stages = coming.stages + 1 }
 
 abbrev pub bodies : Coming → Forms BodyLine
-bodies coming = record { slots = body_slots; takes_kind = body_takes coming.kind; in_limits = has_room coming.stages; limit_fault = TooManyStages }
+bodies coming = record { slots = body_slots; known = body_known coming.version; takes_kind = body_takes coming.kind; in_limits = has_room coming.stages; limit_fault = TooManyStages }
 
 -- A pipeline by its content: a list has no place and no room.
 pub record Program : Type 0 where

@@ -1,9 +1,11 @@
 -- Readings of the things of a line: a name, and what follows it by that name.
 use Rattle.std.specs.Prelude.{ℕ, ℤ, pos, List, codes, Result, Ok, if◌then◌else◌}
 use Rattle.pipeline_language.specs.declared.fault.FileError.{FileError}
+use Rattle.pipeline_language.specs.declared.version.Version.{Version}
+use Rattle.pipeline_language.specs.declared.version.Version.TheVariants.{One, Two}
 use Rattle.pipeline_language.specs.Form.{lowest, highest}
-use Rattle.pipeline_language.specs.Syntax.{Function, Add, Mul, Negate, Mod, Length, Itself, Condition, Less, Greater, Equals, Divisible, Empty, Starts, Longer, Summary, CountItems, SumItems, Greatest, Least, FirstItem, ItemList, Joined, Merge, KeepFirst, KeepLast, AddUp, KeepGreatest, KeepLeast, Expansion, Copies, Pieces, MapBy, FilterBy, ExpandBy, Distinct, Limit, Skip, TakeWhile, DropWhile, Joint, Plain, Within, Sum, Product, Max, Min, Count, FindFirst, ToList, AllMatch, AnyMatch, NoneMatch, Joining, GroupBy, Partition, ToMap, Teeing, Origin, Range, Closed, Numbers, Lines, BodyLine, StageLine, TerminalLine}
-use Rattle.pipeline_language.specs.Reading.{◌>>=◌, Left, is_done, Reader, ByName, named, unknown, by_name, nothing, both, next_word, next_number, next_natural, all_numbers}
+use Rattle.pipeline_language.specs.Syntax.{Function, Add, Mul, Negate, Mod, Length, Itself, Condition, Less, Greater, Equals, Divisible, Empty, Starts, Longer, Base, CountItems, SumItems, Greatest, Least, FirstItem, ItemList, Joined, Inner, InnerBase, InnerMapped, InnerFiltered, Summary, OfBase, Mapped, Filtered, Grouped, Merge, KeepFirst, KeepLast, AddUp, KeepGreatest, KeepLeast, Expansion, Copies, Pieces, MapBy, FilterBy, ExpandBy, Distinct, Limit, Skip, TakeWhile, DropWhile, Joint, Plain, Within, Sum, Product, Max, Min, Count, FindFirst, ToList, AllMatch, AnyMatch, NoneMatch, Joining, GroupBy, Partition, ToMap, ToMapStrict, Teeing, Origin, Range, Closed, Numbers, Lines, BodyLine, StageLine, TerminalLine}
+use Rattle.pipeline_language.specs.Reading.{◌>>=◌, Left, is_done, Reader, ByName, named, made_of, unknown, by_name, nothing, both, next_word, next_number, next_natural, all_numbers}
 
 abbrev pub any_number : Reader ℤ
 any_number = next_number lowest highest
@@ -41,9 +43,9 @@ condition_names = named (codes "less") Less any_number
 unfoldable pub condition_of : Reader Condition
 condition_of = by_name condition_names
 
--- COLL
-abbrev pub summary_names : ByName Summary
-summary_names = named (codes "count") (λ _. CountItems) nothing
+-- BASE
+unfoldable pub base_names : ByName Base
+base_names = named (codes "count") (λ _. CountItems) nothing
     (named (codes "counting") (λ _. CountItems) nothing
     (named (codes "sum") (λ _. SumItems) nothing
     (named (codes "max") (λ _. Greatest) nothing
@@ -53,8 +55,31 @@ summary_names = named (codes "count") (λ _. CountItems) nothing
     (named (codes "joining") Joined next_word
     unknown)))))))
 
-unfoldable pub summary_of : Reader Summary
-summary_of = by_name summary_names
+unfoldable pub base_of : Reader Base
+base_of = by_name base_names
+
+-- INNER
+abbrev pub inner_names : ByName Inner
+inner_names = named (codes "mapping") (λ p. InnerMapped p.0 p.1) (both function_of base_of)
+    (named (codes "filtering") (λ p. InnerFiltered p.0 p.1) (both condition_of base_of)
+    (made_of InnerBase base_names))
+
+unfoldable pub inner_of : Reader Inner
+inner_of = by_name inner_names
+
+-- COLL
+abbrev pub nesting_summary_names : ByName Summary
+nesting_summary_names = named (codes "mapping") (λ p. Mapped p.0 p.1) (both function_of inner_of)
+    (named (codes "filtering") (λ p. Filtered p.0 p.1) (both condition_of inner_of)
+    (named (codes "groupby") (λ p. Grouped p.0 p.1) (both function_of inner_of)
+    (made_of OfBase base_names)))
+
+unfoldable pub nesting_summary_of : Reader Summary
+nesting_summary_of = by_name nesting_summary_names
+
+abbrev pub summary_of : Version → Reader Summary
+summary_of One left = base_of left >>= λ base. Ok (OfBase base.0, base.1)
+summary_of Two left = nesting_summary_of left
 
 -- MERGE
 abbrev pub merge_names : ByName Merge
@@ -85,9 +110,14 @@ joint_after between left = if is_done left.words then (let found : Joint × Left
 unfoldable pub joint_of : Reader Joint
 joint_of left = next_word left >>= λ between. joint_after between.0 between.1
 
--- the names of terminals, and those of stages before them
-unfoldable pub terminal_names : ByName BodyLine
-terminal_names = named (codes "sum") (λ _. TerminalLine Sum) nothing
+-- the names of terminals that the first version has not, those of all terminals, and those of stages before them
+unfoldable pub new_terminal_names : Version → ByName BodyLine
+new_terminal_names One = unknown
+new_terminal_names Two = named (codes "tomapstrict") (λ p. TerminalLine (ToMapStrict p.0 p.1)) (both function_of function_of)
+    unknown
+
+unfoldable pub terminal_names : Version → ByName BodyLine
+terminal_names version = named (codes "sum") (λ _. TerminalLine Sum) nothing
     (named (codes "product") (λ _. TerminalLine Product) nothing
     (named (codes "max") (λ _. TerminalLine Max) nothing
     (named (codes "min") (λ _. TerminalLine Min) nothing
@@ -98,14 +128,14 @@ terminal_names = named (codes "sum") (λ _. TerminalLine Sum) nothing
     (named (codes "anymatch") (λ p. TerminalLine (AnyMatch p)) condition_of
     (named (codes "nonematch") (λ p. TerminalLine (NoneMatch p)) condition_of
     (named (codes "joining") (λ j. TerminalLine (Joining j)) joint_of
-    (named (codes "groupby") (λ p. TerminalLine (GroupBy p.0 p.1)) (both function_of summary_of)
-    (named (codes "partition") (λ p. TerminalLine (Partition p.0 p.1)) (both condition_of summary_of)
+    (named (codes "groupby") (λ p. TerminalLine (GroupBy p.0 p.1)) (both function_of (summary_of version))
+    (named (codes "partition") (λ p. TerminalLine (Partition p.0 p.1)) (both condition_of (summary_of version))
     (named (codes "tomap") (λ p. TerminalLine (ToMap p.0 p.1.0 p.1.1)) (both function_of (both function_of merge_of))
-    (named (codes "teeing") (λ p. TerminalLine (Teeing p.0 p.1)) (both summary_of summary_of)
-    unknown))))))))))))))
+    (named (codes "teeing") (λ p. TerminalLine (Teeing p.0 p.1)) (both (summary_of version) (summary_of version))
+    (new_terminal_names version)))))))))))))))
 
-abbrev pub body_names : ByName BodyLine
-body_names = named (codes "map") (λ f. StageLine (MapBy f)) function_of
+abbrev pub body_names : Version → ByName BodyLine
+body_names version = named (codes "map") (λ f. StageLine (MapBy f)) function_of
     (named (codes "filter") (λ p. StageLine (FilterBy p)) condition_of
     (named (codes "flatmap") (λ e. StageLine (ExpandBy e)) expansion_of
     (named (codes "distinct") (λ _. StageLine Distinct) nothing
@@ -113,10 +143,10 @@ body_names = named (codes "map") (λ f. StageLine (MapBy f)) function_of
     (named (codes "skip") (λ n. StageLine (Skip n)) any_natural
     (named (codes "takewhile") (λ p. StageLine (TakeWhile p)) condition_of
     (named (codes "dropwhile") (λ p. StageLine (DropWhile p)) condition_of
-    terminal_names)))))))
+    (terminal_names version))))))))
 
-unfoldable pub body_of : Reader BodyLine
-body_of = by_name body_names
+unfoldable pub body_of : Version → Reader BodyLine
+body_of version = by_name (body_names version)
 
 abbrev pub origin_names : ByName Origin
 origin_names = named (codes "range") (λ p. Range p.0 p.1) (both any_number any_number)

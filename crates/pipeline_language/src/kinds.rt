@@ -1,19 +1,20 @@
 //! Things of a line, for the items that come to it.
 
 ghost use Rattle.std.specs.Prelude.{◌≡◌, Result};
-ghost use Rattle.pipeline_language.specs.Content.{number_collector, number_function, number_merge, number_stage, number_terminal, number_test, text_collector, text_function, text_merge, text_terminal, text_test};
+ghost use Rattle.pipeline_language.specs.Content.{number_base, number_function, number_inner, number_merge, number_stage, number_summary, number_terminal, number_test, text_base, text_function, text_inner, text_merge, text_summary, text_terminal, text_test};
 ghost use Rattle.pipeline_language.specs.Kinds.{Takes, number_line_content, text_line_content, text_value_content, value_takes};
-ghost use Rattle.pipeline_language.specs.LineContent.{body_line_content, condition_content, function_content, merge_content, stage_content, summary_content, terminal_content};
+ghost use Rattle.pipeline_language.specs.LineContent.{base_content, body_line_content, condition_content, function_content, inner_content, merge_content, stage_content, summary_content, terminal_content};
 ghost use Rattle.pipeline_language.specs.declared.syntax.BodyLine.TheVariants as body_lines;
-ghost use Rattle.pipeline_language.specs.Syntax.{NumberKind, TextKind, body_takes, condition_takes, function_takes, merge_takes, stage_takes, summary_takes, terminal_takes};
+ghost use Rattle.pipeline_language.specs.Syntax.{NumberKind, TextKind, base_takes, body_takes, condition_takes, function_takes, inner_takes, merge_takes, stage_takes, summary_takes, terminal_takes};
 
 use crate::fault::FileError;
 use crate::pipeline::{
-    NumberCollector, NumberFunction, NumberMerge, NumberStage, NumberTerminal, NumberTest,
-    TextCollector, TextFunction, TextMerge, TextStage, TextTerminal, TextTest, TextValue,
+    NumberBase, NumberFunction, NumberInner, NumberMerge, NumberStage, NumberSummary,
+    NumberTerminal, NumberTest, TextBase, TextFunction, TextInner, TextMerge, TextStage,
+    TextSummary, TextTerminal, TextTest, TextValue,
 };
 use crate::syntax::{
-    BodyLine, Condition, Expansion, Function, Joint, Merge, Stage, Summary, Terminal,
+    Base, BodyLine, Condition, Expansion, Function, Inner, Joint, Merge, Stage, Summary, Terminal,
 };
 
 /// A line over numbers.
@@ -105,10 +106,10 @@ fn of_numbers(terminal: Terminal<'_>) -> Result<NumberTerminal, FileError>
         Terminal::NoneMatch(test) => Ok(NumberTerminal::NoneMatch(number_test(test)?)),
         Terminal::Joining(_) => Err(FileError::WrongKind),
         Terminal::GroupBy(key, collector) => {
-            Ok(NumberTerminal::GroupBy(number_function(key)?, number_collector(collector)?))
+            Ok(NumberTerminal::GroupBy(number_function(key)?, number_summary(collector)?))
         }
         Terminal::Partition(test, collector) => {
-            Ok(NumberTerminal::Partition(number_test(test)?, number_collector(collector)?))
+            Ok(NumberTerminal::Partition(number_test(test)?, number_summary(collector)?))
         }
         Terminal::ToMap(key, value, merge) => {
             Ok(NumberTerminal::ToMap(
@@ -117,9 +118,12 @@ fn of_numbers(terminal: Terminal<'_>) -> Result<NumberTerminal, FileError>
                 number_merge(merge),
             ))
         }
+        Terminal::ToMapStrict(key, value) => {
+            Ok(NumberTerminal::ToMapStrict(number_function(key)?, number_function(value)?))
+        }
         Terminal::Teeing(one, other) => Ok(NumberTerminal::Teeing(
-            number_collector(one)?,
-            number_collector(other)?,
+            number_summary(one)?,
+            number_summary(other)?,
         )),
     }
 }
@@ -144,19 +148,22 @@ fn of_texts(terminal: Terminal<'_>) -> Result<TextTerminal<'_>, FileError>
         )),
         Terminal::GroupBy(key, collector) => Ok(TextTerminal::GroupBy(
             text_function(key)?,
-            text_collector(collector)?,
+            text_summary(collector)?,
         )),
         Terminal::Partition(test, collector) => Ok(TextTerminal::Partition(
             text_test(test)?,
-            text_collector(collector)?,
+            text_summary(collector)?,
         )),
         Terminal::ToMap(key, value, merge) => Ok(TextTerminal::ToMap(
             text_function(key)?,
             text_value(value, merge)?,
         )),
+        Terminal::ToMapStrict(key, value) => {
+            Ok(TextTerminal::ToMapStrict(text_function(key)?, text_function(value)?))
+        }
         Terminal::Teeing(one, other) => Ok(TextTerminal::Teeing(
-            text_collector(one)?,
-            text_collector(other)?,
+            text_summary(one)?,
+            text_summary(other)?,
         )),
     }
 }
@@ -212,29 +219,93 @@ fn text_test(test: Condition<'_>) -> Result<TextTest<'_>, FileError>
     }
 }
 
-fn number_collector(collector: Summary<'_>) -> Result<NumberCollector, FileError>
-    ensures { Takes number_collector (summary_takes NumberKind) (summary_content collector.entry) result }
+fn number_base(base: Base<'_>) -> Result<NumberBase, FileError>
+    ensures { Takes number_base (base_takes NumberKind) (base_content base.entry) result }
 {
-    match collector {
-        Summary::Count => Ok(NumberCollector::Count),
-        Summary::Sum => Ok(NumberCollector::Sum),
-        Summary::Max => Ok(NumberCollector::Max),
-        Summary::Min => Ok(NumberCollector::Min),
-        Summary::First => Ok(NumberCollector::First),
-        Summary::ToList => Ok(NumberCollector::ToList),
-        Summary::Joining(_) => Err(FileError::WrongKind),
+    match base {
+        Base::Count => Ok(NumberBase::Count),
+        Base::Sum => Ok(NumberBase::Sum),
+        Base::Max => Ok(NumberBase::Max),
+        Base::Min => Ok(NumberBase::Min),
+        Base::First => Ok(NumberBase::First),
+        Base::ToList => Ok(NumberBase::ToList),
+        Base::Joining(_) => Err(FileError::WrongKind),
     }
 }
 
-fn text_collector(collector: Summary<'_>) -> Result<TextCollector<'_>, FileError>
-    ensures { Takes text_collector (summary_takes TextKind) (summary_content collector.entry) result }
+fn number_inner(inner: Inner<'_>) -> Result<NumberInner, FileError>
+    ensures { Takes number_inner (inner_takes NumberKind) (inner_content inner.entry) result }
 {
-    match collector {
-        Summary::Count => Ok(TextCollector::Count),
-        Summary::First => Ok(TextCollector::First),
-        Summary::ToList => Ok(TextCollector::ToList),
-        Summary::Joining(between) => Ok(TextCollector::Joining(between)),
-        Summary::Sum | Summary::Max | Summary::Min => Err(FileError::WrongKind),
+    match inner {
+        Inner::Base(base) => Ok(NumberInner::Base(number_base(base)?)),
+        Inner::Mapping(function, base) => {
+            Ok(NumberInner::Mapping(number_function(function)?, number_base(base)?))
+        }
+        Inner::Filtering(test, base) => {
+            Ok(NumberInner::Filtering(number_test(test)?, number_base(base)?))
+        }
+    }
+}
+
+fn number_summary(summary: Summary<'_>) -> Result<NumberSummary, FileError>
+    ensures { Takes number_summary (summary_takes NumberKind) (summary_content summary.entry) result }
+{
+    match summary {
+        Summary::Base(base) => Ok(NumberSummary::Base(number_base(base)?)),
+        Summary::Mapping(function, inner) => {
+            Ok(NumberSummary::Mapping(number_function(function)?, number_inner(inner)?))
+        }
+        Summary::Filtering(test, inner) => {
+            Ok(NumberSummary::Filtering(number_test(test)?, number_inner(inner)?))
+        }
+        Summary::GroupBy(key, inner) => {
+            Ok(NumberSummary::GroupBy(number_function(key)?, number_inner(inner)?))
+        }
+    }
+}
+
+fn text_base(base: Base<'_>) -> Result<TextBase<'_>, FileError>
+    ensures { Takes text_base (base_takes TextKind) (base_content base.entry) result }
+{
+    match base {
+        Base::Count => Ok(TextBase::Count),
+        Base::First => Ok(TextBase::First),
+        Base::ToList => Ok(TextBase::ToList),
+        Base::Joining(between) => Ok(TextBase::Joining(between)),
+        Base::Sum | Base::Max | Base::Min => Err(FileError::WrongKind),
+    }
+}
+
+fn text_inner(inner: Inner<'_>) -> Result<TextInner<'_>, FileError>
+    ensures { Takes text_inner (inner_takes TextKind) (inner_content inner.entry) result }
+{
+    match inner {
+        Inner::Base(base) => Ok(TextInner::Base(text_base(base)?)),
+        Inner::Mapping(function, base) => match text_function(function)? {
+            TextFunction::Length => Ok(TextInner::MappingLength(number_base(base)?)),
+            TextFunction::Itself => Ok(TextInner::MappingItself(text_base(base)?)),
+        },
+        Inner::Filtering(test, base) => {
+            Ok(TextInner::Filtering(text_test(test)?, text_base(base)?))
+        }
+    }
+}
+
+fn text_summary(summary: Summary<'_>) -> Result<TextSummary<'_>, FileError>
+    ensures { Takes text_summary (summary_takes TextKind) (summary_content summary.entry) result }
+{
+    match summary {
+        Summary::Base(base) => Ok(TextSummary::Base(text_base(base)?)),
+        Summary::Mapping(function, inner) => match text_function(function)? {
+            TextFunction::Length => Ok(TextSummary::MappingLength(number_inner(inner)?)),
+            TextFunction::Itself => Ok(TextSummary::MappingItself(text_inner(inner)?)),
+        },
+        Summary::Filtering(test, inner) => {
+            Ok(TextSummary::Filtering(text_test(test)?, text_inner(inner)?))
+        }
+        Summary::GroupBy(key, inner) => {
+            Ok(TextSummary::GroupBy(text_function(key)?, text_inner(inner)?))
+        }
     }
 }
 

@@ -8,13 +8,14 @@ mod number;
 mod pipeline;
 mod reading;
 mod syntax;
+mod version;
 mod words;
 
 pub use fault::{FileError, FileFault, ReadError};
 pub use pipeline::{
-    NumberBody, NumberCollector, NumberFunction, NumberMerge, NumberSource, NumberStage,
-    NumberTerminal, NumberTest, Pipeline, TextBody, TextCollector, TextEnd, TextFunction,
-    TextMerge, TextStage, TextTerminal, TextTest, TextValue,
+    NumberBase, NumberBody, NumberFunction, NumberInner, NumberMerge, NumberSource, NumberStage,
+    NumberSummary, NumberTerminal, NumberTest, Pipeline, TextBase, TextBody, TextEnd, TextFunction,
+    TextInner, TextMerge, TextStage, TextSummary, TextTerminal, TextTest, TextValue,
 };
 pub use reading::{MOST_BYTES, MOST_STAGES, one_reading, read_pipeline};
 

@@ -115,9 +115,9 @@ pub enum TextStage<'a> {
     DropWhile(TextTest<'a>),
 }
 
-/// What is made of some of the numbers.
+/// What is made of numbers at once.
 #[derive(Clone, Copy, Debug, PartialEq, Eq)]
-pub enum NumberCollector {
+pub enum NumberBase {
     /// `count`, or `counting`.
     Count,
     Sum,
@@ -127,15 +127,63 @@ pub enum NumberCollector {
     ToList,
 }
 
-/// What is made of some of the texts.
+/// What is made of numbers inside another collector.
 #[derive(Clone, Copy, Debug, PartialEq, Eq)]
-pub enum TextCollector<'a> {
+pub enum NumberInner {
+    Base(NumberBase),
+    /// Of the values of the numbers.
+    Mapping(NumberFunction, NumberBase),
+    /// Of the numbers that pass.
+    Filtering(NumberTest, NumberBase),
+}
+
+/// What is made of some of the numbers.
+#[derive(Clone, Copy, Debug, PartialEq, Eq)]
+pub enum NumberSummary {
+    Base(NumberBase),
+    /// Of the values of the numbers.
+    Mapping(NumberFunction, NumberInner),
+    /// Of the numbers that pass.
+    Filtering(NumberTest, NumberInner),
+    /// Of the numbers of each key.
+    GroupBy(NumberFunction, NumberInner),
+}
+
+/// What is made of texts at once.
+#[derive(Clone, Copy, Debug, PartialEq, Eq)]
+pub enum TextBase<'a> {
     /// `count`, or `counting`.
     Count,
     First,
     ToList,
     /// The texts with this one between neighbours.
     Joining(&'a str),
+}
+
+/// What is made of texts inside another collector.
+#[derive(Clone, Copy, Debug, PartialEq, Eq)]
+pub enum TextInner<'a> {
+    Base(TextBase<'a>),
+    /// `mapping length`: of the lengths of the texts.
+    MappingLength(NumberBase),
+    /// `mapping self`.
+    MappingItself(TextBase<'a>),
+    /// Of the texts that pass.
+    Filtering(TextTest<'a>, TextBase<'a>),
+}
+
+/// What is made of some of the texts.
+#[derive(Clone, Copy, Debug, PartialEq, Eq)]
+pub enum TextSummary<'a> {
+    Base(TextBase<'a>),
+    /// `mapping length`: of the lengths of the texts.
+    MappingLength(NumberInner),
+    /// `mapping self`.
+    MappingItself(TextInner<'a>),
+    /// Of the texts that pass.
+    Filtering(TextTest<'a>, TextInner<'a>),
+    /// Of the texts of each key.
+    GroupBy(TextFunction, TextInner<'a>),
 }
 
 /// What becomes of two numbers of one key.
@@ -176,11 +224,13 @@ pub enum NumberTerminal {
     AnyMatch(NumberTest),
     NoneMatch(NumberTest),
     /// The groups of one key, each collected.
-    GroupBy(NumberFunction, NumberCollector),
-    Partition(NumberTest, NumberCollector),
+    GroupBy(NumberFunction, NumberSummary),
+    Partition(NumberTest, NumberSummary),
     /// The key, the value, and what becomes of two values of one key.
     ToMap(NumberFunction, NumberFunction, NumberMerge),
-    Teeing(NumberCollector, NumberCollector),
+    /// The key and the value; no key may come twice.
+    ToMapStrict(NumberFunction, NumberFunction),
+    Teeing(NumberSummary, NumberSummary),
 }
 
 /// What is made of all the texts.
@@ -197,11 +247,13 @@ pub enum TextTerminal<'a> {
     /// The same between a front and a back: `joining D P S`.
     JoiningWithin(&'a str, &'a str, &'a str),
     /// The groups of one key, each collected.
-    GroupBy(TextFunction, TextCollector<'a>),
-    Partition(TextTest<'a>, TextCollector<'a>),
+    GroupBy(TextFunction, TextSummary<'a>),
+    Partition(TextTest<'a>, TextSummary<'a>),
     /// The key, and the value with what becomes of two values of one key.
     ToMap(TextFunction, TextValue),
-    Teeing(TextCollector<'a>, TextCollector<'a>),
+    /// The key and the value; no key may come twice.
+    ToMapStrict(TextFunction, TextFunction),
+    Teeing(TextSummary<'a>, TextSummary<'a>),
 }
 
 impl NumberSource {

@@ -16,6 +16,7 @@ use crate::kinds::{NumberLine, TextLine, number_line, text_line};
 use crate::lines::{lines, words};
 use crate::pipeline::{NumberBody, NumberSource, Pipeline, TextBody, TextEnd};
 use crate::syntax::read_body;
+use crate::version::Version;
 use crate::words::Words;
 use std::alloc::Global;
 use std::str;
@@ -74,18 +75,18 @@ fn read_lines<'a>(alloc: Global, lines: &[&'a [u8]]) -> Result<Pipeline<'a>, Rea
     let [version, lines @ ..] = lines else {
         return Err(LineError::Fault(FileError::BadVersion).at(1));
     };
-    read_version(version).map_err(|e| LineError::Fault(e).at(1))?;
+    let version = read_version(version).map_err(|e| LineError::Fault(e).at(1))?;
     let [line, lines @ ..] = lines else {
         return Err(LineError::Fault(FileError::MissingTerminal).at(2));
     };
     match read_source(alloc, line).map_err(|e| e.at(2))? {
         Source::Numbers(source) => {
-            let body = read_number_body(alloc, lines, 0, 0)?;
+            let body = read_number_body(alloc, version, lines, 0, 0)?;
             Ok(Pipeline::Numbers(source, body))
         }
         Source::Lines(count) => {
             let texts = read_texts(alloc, lines, count)?;
-            let body = read_text_body(alloc, lines, texts.len())?;
+            let body = read_text_body(alloc, version, lines, texts.len())?;
             Ok(Pipeline::Texts(texts, body))
         }
     }
@@ -93,13 +94,13 @@ fn read_lines<'a>(alloc: Global, lines: &[&'a [u8]]) -> Result<Pipeline<'a>, Rea
 
 /// The first line.
 #[tactic(auto, unfolding(crate::specs::FileReading::version_of))]
-fn read_version(line: &[u8]) -> Result<(), FileError>
+fn read_version(line: &[u8]) -> Result<Version, FileError>
     ensures { result ≡ version_of line.now }
 {
-    if text_of(line)? == "pipeline 1" {
-        Ok(())
-    } else {
-        Err(FileError::BadVersion)
+    match text_of(line)? {
+        "pipeline 1" => Ok(Version::One),
+        "pipeline 2" => Ok(Version::Two),
+        _ => Err(FileError::BadVersion),
     }
 }
 
@@ -174,18 +175,19 @@ fn first_text<'a>(lines: &[&'a [u8]], number: u64) -> Result<&'a str, ReadError>
 /// The lines of a body over texts, of which the first is the line at `first`, and nothing after them.
 fn read_text_body<'a>(
     alloc: Global,
+    version: Version,
     lines: &[&'a [u8]],
     first: usize,
 ) -> Result<TextBody<'a>, ReadError>
     requires { first ≤ length lines.now }
-    ensures { Reads text_body result (body_from (record { kind = TextKind; stages = 0 }) (3 + first) (map (λ line. line.now) (drop first lines.now))) }
+    ensures { Reads text_body result (body_from (record { version = version; kind = TextKind; stages = 0 }) (3 + first) (map (λ line. line.now) (drop first lines.now))) }
 {
     let mut stages = Vec::new(alloc);
     for at in first..lines.len() {
-        match read_text_first(alloc, &lines[at..], at - first, at as u64 + 3)? {
+        match read_text_first(alloc, version, &lines[at..], at - first, at as u64 + 3)? {
             TextLine::Stage(stage) => stages.push(stage)?,
             TextLine::Lengths => {
-                let end = TextEnd::Lengths(read_number_body(alloc, lines, first, at + 1)?);
+                let end = TextEnd::Lengths(read_number_body(alloc, version, lines, first, at + 1)?);
                 return Ok(TextBody { stages, end });
             }
             TextLine::Terminal(terminal) => {
@@ -200,17 +202,18 @@ fn read_text_body<'a>(
 /// The lines of a body over numbers, from the line at `from` on, where the body's first line is at `first`.
 fn read_number_body(
     alloc: Global,
+    version: Version,
     lines: &[&[u8]],
     first: usize,
     from: usize,
 ) -> Result<NumberBody, ReadError>
     requires order { first ≤ from }
     requires within { from ≤ length lines.now }
-    ensures { Reads number_body result (body_from (record { kind = NumberKind; stages = from - first }) (3 + from) (map (λ line. line.now) (drop from lines.now))) }
+    ensures { Reads number_body result (body_from (record { version = version; kind = NumberKind; stages = from - first }) (3 + from) (map (λ line. line.now) (drop from lines.now))) }
 {
     let mut stages = Vec::new(alloc);
     for at in from..lines.len() {
-        match read_number_first(alloc, &lines[at..], at - first, at as u64 + 3)? {
+        match read_number_first(alloc, version, &lines[at..], at - first, at as u64 + 3)? {
             NumberLine::Stage(stage) => stages.push(stage)?,
             NumberLine::Terminal(terminal) => return Ok(NumberBody { stages, terminal }),
         }
@@ -222,17 +225,18 @@ fn read_number_body(
 #[tactic(auto, unfolding(crate::specs::FileReading::first_of))]
 fn read_text_first<'a>(
     alloc: Global,
+    version: Version,
     lines: &[&'a [u8]],
     before: usize,
     number: u64,
 ) -> Result<TextLine<'a>, ReadError>
     requires { number < 2 ^ 64 - 1 }
-    ensures { Reads text_line_content result (first_of (record { kind = TextKind; stages = before }) number (map (λ line. line.now) lines.now)) }
+    ensures { Reads text_line_content result (first_of (record { version = version; kind = TextKind; stages = before }) number (map (λ line. line.now) lines.now)) }
 {
     let [line, rest @ ..] = lines else {
         return Err(LineError::Fault(FileError::MissingTerminal).at(number));
     };
-    let body = read_text_line(alloc, line, before).map_err(|e| e.at(number))?;
+    let body = read_text_line(alloc, version, line, before).map_err(|e| e.at(number))?;
     if let TextLine::Terminal(_) = body {
         no_more(rest, number + 1)?;
     }
@@ -243,17 +247,18 @@ fn read_text_first<'a>(
 #[tactic(auto, unfolding(crate::specs::FileReading::first_of))]
 fn read_number_first(
     alloc: Global,
+    version: Version,
     lines: &[&[u8]],
     before: usize,
     number: u64,
 ) -> Result<NumberLine, ReadError>
     requires { number < 2 ^ 64 - 1 }
-    ensures { Reads number_line_content result (first_of (record { kind = NumberKind; stages = before }) number (map (λ line. line.now) lines.now)) }
+    ensures { Reads number_line_content result (first_of (record { version = version; kind = NumberKind; stages = before }) number (map (λ line. line.now) lines.now)) }
 {
     let [line, rest @ ..] = lines else {
         return Err(LineError::Fault(FileError::MissingTerminal).at(number));
     };
-    let body = read_number_line(alloc, line, before).map_err(|e| e.at(number))?;
+    let body = read_number_line(alloc, version, line, before).map_err(|e| e.at(number))?;
     if let NumberLine::Terminal(_) = body {
         no_more(rest, number + 1)?;
     }
@@ -264,14 +269,15 @@ fn read_number_first(
 #[tactic(auto, unfolding(crate::specs::Reading::line_of, crate::specs::Reading::whole))]
 fn read_text_line<'a>(
     alloc: Global,
+    version: Version,
     line: &'a [u8],
     before: usize,
 ) -> Result<TextLine<'a>, LineError>
-    ensures { LineReads text_line_content result (line_of (bodies (record { kind = TextKind; stages = before })) body_of line.now) }
+    ensures { LineReads text_line_content result (line_of (bodies (record { version = version; kind = TextKind; stages = before })) (body_of version) line.now) }
 {
     let all = words(alloc, text_of(line)?)?;
     let mut words = Words::new(all.as_slice());
-    let body = read_body(&mut words)?;
+    let body = read_body(version, &mut words)?;
     words.end()?;
     match text_line(body)? {
         TextLine::Terminal(terminal) => Ok(TextLine::Terminal(terminal)),
@@ -282,12 +288,17 @@ fn read_text_line<'a>(
 
 /// The same over numbers.
 #[tactic(auto, unfolding(crate::specs::Reading::line_of, crate::specs::Reading::whole))]
-fn read_number_line(alloc: Global, line: &[u8], before: usize) -> Result<NumberLine, LineError>
-    ensures { LineReads number_line_content result (line_of (bodies (record { kind = NumberKind; stages = before })) body_of line.now) }
+fn read_number_line(
+    alloc: Global,
+    version: Version,
+    line: &[u8],
+    before: usize,
+) -> Result<NumberLine, LineError>
+    ensures { LineReads number_line_content result (line_of (bodies (record { version = version; kind = NumberKind; stages = before })) (body_of version) line.now) }
 {
     let all = words(alloc, text_of(line)?)?;
     let mut words = Words::new(all.as_slice());
-    let body = read_body(&mut words)?;
+    let body = read_body(version, &mut words)?;
     words.end()?;
     match number_line(body)? {
         NumberLine::Stage(_) if before >= MOST_STAGES => Err(LineError::Fault(

@@ -1,11 +1,12 @@
 //! What a line says, name by name, before the kind of the items is asked for.
 
 ghost use Rattle.std.specs.Prelude.{◌≡◌, Result};
-ghost use Rattle.pipeline_language.specs.LineContent.{body_line_content, condition_content, expansion_content, function_content, joint_content, merge_content, summary_content, terminal_line_content};
+ghost use Rattle.pipeline_language.specs.LineContent.{base_content, body_line_content, condition_content, expansion_content, function_content, inner_content, joint_content, merge_content, summary_content, terminal_line_content};
 ghost use Rattle.pipeline_language.specs.Reading.{GetsAs};
-ghost use Rattle.pipeline_language.specs.SyntaxReading.{body_of, condition_of, expansion_of, function_of, joint_of, merge_of, summary_of, terminal_names};
+ghost use Rattle.pipeline_language.specs.SyntaxReading.{base_names, base_of, body_of, condition_of, expansion_of, function_of, inner_of, joint_of, merge_of, nesting_summary_of, new_terminal_names, summary_of, terminal_names};
 
 use crate::fault::FileError;
+use crate::version::Version;
 use crate::words::Words;
 
 /// A function of either kind.
@@ -31,9 +32,9 @@ pub(crate) enum Condition<'a> {
     Longer(u64),
 }
 
-/// A collector of either kind.
+/// What is made at once of items of either kind.
 #[derive(Clone, Copy, Debug)]
-pub(crate) enum Summary<'a> {
+pub(crate) enum Base<'a> {
     Count,
     Sum,
     Max,
@@ -41,6 +42,23 @@ pub(crate) enum Summary<'a> {
     First,
     ToList,
     Joining(&'a str),
+}
+
+/// A collector of either kind that stands inside another.
+#[derive(Clone, Copy, Debug)]
+pub(crate) enum Inner<'a> {
+    Base(Base<'a>),
+    Mapping(Function, Base<'a>),
+    Filtering(Condition<'a>, Base<'a>),
+}
+
+/// A collector of either kind.
+#[derive(Clone, Copy, Debug)]
+pub(crate) enum Summary<'a> {
+    Base(Base<'a>),
+    Mapping(Function, Inner<'a>),
+    Filtering(Condition<'a>, Inner<'a>),
+    GroupBy(Function, Inner<'a>),
 }
 
 /// A merge function of either kind.
@@ -97,6 +115,7 @@ pub(crate) enum Terminal<'a> {
     GroupBy(Function, Summary<'a>),
     Partition(Condition<'a>, Summary<'a>),
     ToMap(Function, Function, Merge),
+    ToMapStrict(Function, Function),
     Teeing(Summary<'a>, Summary<'a>),
 }
 
@@ -138,19 +157,61 @@ fn read_condition<'a>(words: &mut Words<'_, 'a>) -> Result<Condition<'a>, FileEr
     }
 }
 
-#[tactic(auto, unfolding(crate::specs::SyntaxReading::summary_of))]
-fn read_summary<'a>(words: &mut Words<'_, 'a>) -> Result<Summary<'a>, FileError>
-    ensures { GetsAs summary_content (summary_of words.old) result words.new }
+#[tactic(auto, unfolding(crate::specs::SyntaxReading::base_of))]
+fn read_base<'a>(words: &mut Words<'_, 'a>) -> Result<Base<'a>, FileError>
+    ensures { GetsAs base_content (base_of words.old) result words.new }
+{
+    let name = words.any()?;
+    base_named(name, words)
+}
+
+/// What is made at once, behind its name.
+#[tactic(auto, unfolding(crate::specs::SyntaxReading::base_names))]
+fn base_named<'a>(name: &str, words: &mut Words<'_, 'a>) -> Result<Base<'a>, FileError>
+    ensures { GetsAs base_content (base_names name.now words.old) result words.new }
+{
+    match name {
+        "count" | "counting" => Ok(Base::Count),
+        "sum" => Ok(Base::Sum),
+        "max" => Ok(Base::Max),
+        "min" => Ok(Base::Min),
+        "first" => Ok(Base::First),
+        "tolist" => Ok(Base::ToList),
+        "joining" => Ok(Base::Joining(words.any()?)),
+        _ => Err(FileError::UnknownWord),
+    }
+}
+
+#[tactic(auto, unfolding(crate::specs::SyntaxReading::inner_of))]
+fn read_inner<'a>(words: &mut Words<'_, 'a>) -> Result<Inner<'a>, FileError>
+    ensures { GetsAs inner_content (inner_of words.old) result words.new }
 {
     match words.any()? {
-        "count" | "counting" => Ok(Summary::Count),
-        "sum" => Ok(Summary::Sum),
-        "max" => Ok(Summary::Max),
-        "min" => Ok(Summary::Min),
-        "first" => Ok(Summary::First),
-        "tolist" => Ok(Summary::ToList),
-        "joining" => Ok(Summary::Joining(words.any()?)),
-        _ => Err(FileError::UnknownWord),
+        "mapping" => Ok(Inner::Mapping(read_function(words)?, read_base(words)?)),
+        "filtering" => Ok(Inner::Filtering(read_condition(words)?, read_base(words)?)),
+        name => Ok(Inner::Base(base_named(name, words)?)),
+    }
+}
+
+fn read_summary<'a>(version: Version, words: &mut Words<'_, 'a>) -> Result<Summary<'a>, FileError>
+    ensures { GetsAs summary_content (summary_of version words.old) result words.new }
+{
+    match version {
+        Version::One => Ok(Summary::Base(read_base(words)?)),
+        Version::Two => read_nesting_summary(words),
+    }
+}
+
+/// A collector that may stand around another.
+#[tactic(auto, unfolding(crate::specs::SyntaxReading::nesting_summary_of))]
+fn read_nesting_summary<'a>(words: &mut Words<'_, 'a>) -> Result<Summary<'a>, FileError>
+    ensures { GetsAs summary_content (nesting_summary_of words.old) result words.new }
+{
+    match words.any()? {
+        "mapping" => Ok(Summary::Mapping(read_function(words)?, read_inner(words)?)),
+        "filtering" => Ok(Summary::Filtering(read_condition(words)?, read_inner(words)?)),
+        "groupby" => Ok(Summary::GroupBy(read_function(words)?, read_inner(words)?)),
+        name => Ok(Summary::Base(base_named(name, words)?)),
     }
 }
 
@@ -181,8 +242,11 @@ fn read_expansion(words: &mut Words<'_, '_>) -> Result<Expansion, FileError>
 
 /// A line after the source: a stage, or the terminal.
 #[tactic(auto, unfolding(crate::specs::SyntaxReading::body_of))]
-pub(crate) fn read_body<'a>(words: &mut Words<'_, 'a>) -> Result<BodyLine<'a>, FileError>
-    ensures { GetsAs body_line_content (body_of words.old) result words.new }
+pub(crate) fn read_body<'a>(
+    version: Version,
+    words: &mut Words<'_, 'a>,
+) -> Result<BodyLine<'a>, FileError>
+    ensures { GetsAs body_line_content (body_of version words.old) result words.new }
 {
     let name = words.any()?;
     Ok(BodyLine::Stage(match name {
@@ -194,14 +258,18 @@ pub(crate) fn read_body<'a>(words: &mut Words<'_, 'a>) -> Result<BodyLine<'a>, F
         "skip" => Stage::Skip(words.natural(i64::MAX)?),
         "takewhile" => Stage::TakeWhile(read_condition(words)?),
         "dropwhile" => Stage::DropWhile(read_condition(words)?),
-        _ => return Ok(BodyLine::Terminal(read_terminal(name, words)?)),
+        _ => return Ok(BodyLine::Terminal(read_terminal(version, name, words)?)),
     }))
 }
 
 /// A terminal, behind its name.
 #[tactic(auto, unfolding(crate::specs::SyntaxReading::terminal_names))]
-fn read_terminal<'a>(name: &str, words: &mut Words<'_, 'a>) -> Result<Terminal<'a>, FileError>
-    ensures { GetsAs terminal_line_content (terminal_names name.now words.old) result words.new }
+fn read_terminal<'a>(
+    version: Version,
+    name: &str,
+    words: &mut Words<'_, 'a>,
+) -> Result<Terminal<'a>, FileError>
+    ensures { GetsAs terminal_line_content (terminal_names version name.now words.old) result words.new }
 {
     match name {
         "sum" => Ok(Terminal::Sum),
@@ -215,14 +283,41 @@ fn read_terminal<'a>(name: &str, words: &mut Words<'_, 'a>) -> Result<Terminal<'
         "anymatch" => Ok(Terminal::AnyMatch(read_condition(words)?)),
         "nonematch" => Ok(Terminal::NoneMatch(read_condition(words)?)),
         "joining" => Ok(Terminal::Joining(read_joint(words)?)),
-        "groupby" => Ok(Terminal::GroupBy(read_function(words)?, read_summary(words)?)),
-        "partition" => Ok(Terminal::Partition(read_condition(words)?, read_summary(words)?)),
+        "groupby" => Ok(Terminal::GroupBy(
+            read_function(words)?,
+            read_summary(version, words)?,
+        )),
+        "partition" => Ok(Terminal::Partition(
+            read_condition(words)?,
+            read_summary(version, words)?,
+        )),
         "tomap" => Ok(Terminal::ToMap(
             read_function(words)?,
             read_function(words)?,
             read_merge(words)?,
         )),
-        "teeing" => Ok(Terminal::Teeing(read_summary(words)?, read_summary(words)?)),
+        "teeing" => Ok(Terminal::Teeing(
+            read_summary(version, words)?,
+            read_summary(version, words)?,
+        )),
+        _ => read_new_terminal(version, name, words),
+    }
+}
+
+/// A terminal that the first version has not, behind its name.
+#[tactic(auto, unfolding(crate::specs::SyntaxReading::new_terminal_names))]
+fn read_new_terminal<'a>(
+    version: Version,
+    name: &str,
+    words: &mut Words<'_, 'a>,
+) -> Result<Terminal<'a>, FileError>
+    ensures { GetsAs terminal_line_content (new_terminal_names version name.now words.old) result words.new }
+{
+    match (version, name) {
+        (Version::Two, "tomapstrict") => Ok(Terminal::ToMapStrict(
+            read_function(words)?,
+            read_function(words)?,
+        )),
         _ => Err(FileError::UnknownWord),
     }
 }

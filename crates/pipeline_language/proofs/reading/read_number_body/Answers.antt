@@ -13,27 +13,27 @@ returns-in_err-stage c =
     let p = err_from_is_err_and c.from_residual.result c.from_residual.ensures.1 in
     let at : ℕ = c.loop-at.at in
     let left = between_to_end c.args.lines.now at (length c.args.lines.now) (omega arith) in
-    rw (p.1, p.2) (told_behind number_line_content number_body (map number_stage c.loop-at.stages.items) (comes NumberKind c.args.first at) (at + 3) (map (λ line. line.now) (drop at c.args.lines.now)) _ c.in_err-stage.field-0.0 c.loop-at.invariant.1
-    (subst (λ ls. Reads number_line_content (Err c.in_err-stage.field-0.0) (first_of (comes NumberKind c.args.first at) (at + 3) (map (λ line. line.now) ls))) left c.in_err-stage.ensures))
+    rw (p.1, p.2) (told_behind number_line_content number_body (map number_stage c.loop-at.stages.items) (comes c.args.version NumberKind c.args.first at) (at + 3) (map (λ line. line.now) (drop at c.args.lines.now)) _ c.in_err-stage.field-0.0 c.loop-at.invariant.1
+    (subst (λ ls. Reads number_line_content (Err c.in_err-stage.field-0.0) (first_of (comes c.args.version NumberKind c.args.first at) (at + 3) (map (λ line. line.now) ls))) left c.in_err-stage.ensures))
 
 pub returns-in-Terminal : goal.returns-in-Terminal
 returns-in-Terminal c =
     let at : ℕ = c.loop-at.at in
     let left = between_to_end c.args.lines.now at (length c.args.lines.now) (omega arith) in
-    let first = subst (λ ls. first_of (comes NumberKind c.args.first at) (at + 3) (map (λ line. line.now) ls) ≡ Ok (number_line_content c.in_ok-stage.field-0)) left c.in_ok-stage.ensures in
-    ends_behind (map number_stage c.loop-at.stages.items) (comes NumberKind c.args.first at) (at + 3) (map (λ line. line.now) (drop at c.args.lines.now)) _ _ c.loop-at.invariant.1
+    let first = subst (λ ls. first_of (comes c.args.version NumberKind c.args.first at) (at + 3) (map (λ line. line.now) ls) ≡ Ok (number_line_content c.in_ok-stage.field-0)) left c.in_ok-stage.ensures in
+    ends_behind (map number_stage c.loop-at.stages.items) (comes c.args.version NumberKind c.args.first at) (at + 3) (map (λ line. line.now) (drop at c.args.lines.now)) _ _ c.loop-at.invariant.1
     (first ∙ ap (λ b. Ok (number_line_content b)) c.in-Terminal.is)
 
 pub loop-at-preserved : goal.loop-at-preserved
 loop-at-preserved c =
     let at : ℕ = c.loop-at.at in
     let left = between_to_end c.args.lines.now at (length c.args.lines.now) (omega arith) in
-    let first = subst (λ ls. first_of (comes NumberKind c.args.first at) (at + 3) (map (λ line. line.now) ls) ≡ Ok (number_line_content c.in_ok-stage.field-0)) left c.in_ok-stage.ensures in
+    let first = subst (λ ls. first_of (comes c.args.version NumberKind c.args.first at) (at + 3) (map (λ line. line.now) ls) ≡ Ok (number_line_content c.in_ok-stage.field-0)) left c.in_ok-stage.ensures in
     let number : (at + 3) + 1 ≡ (at + 1) + 3 = omega arith in (
       omega (arith, c.loop-at.invariant.0),
-      number_more c.loop-at.stages.items c.in-Stage.stage c.args.first at (at + 3) (map (λ line. line.now) (drop at c.args.lines.now)) _ (omega (arith, c.loop-at.invariant.0, c.requires.order)) c.loop-at.invariant.1
+      number_more c.args.version c.loop-at.stages.items c.in-Stage.stage c.args.first at (at + 3) (map (λ line. line.now) (drop at c.args.lines.now)) _ (omega (arith, c.loop-at.invariant.0, c.requires.order)) c.loop-at.invariant.1
           (first ∙ ap (λ b. Ok (number_line_content b)) c.in-Stage.is)
-          ∙ ap (λ stages. with_stages (map number_stage stages) (body_from (comes NumberKind c.args.first (at + 1)) ((at + 3) + 1) (drop 1 (map (λ line. line.now) (drop at c.args.lines.now))))) (sym c.in_ok-push-in-Stage.ensures.items)
-          ∙ ap (λ ls. with_stages (map number_stage c.push.new.self.items) (body_from (comes NumberKind c.args.first (at + 1)) ((at + 3) + 1) ls)) (behind_first (λ line. line.now) at c.args.lines.now)
-          ∙ ap (λ n. with_stages (map number_stage c.push.new.self.items) (body_from (comes NumberKind c.args.first (at + 1)) n (map (λ line. line.now) (drop (at + 1) c.args.lines.now)))) number,
+          ∙ ap (λ stages. with_stages (map number_stage stages) (body_from (comes c.args.version NumberKind c.args.first (at + 1)) ((at + 3) + 1) (drop 1 (map (λ line. line.now) (drop at c.args.lines.now))))) (sym c.in_ok-push-in-Stage.ensures.items)
+          ∙ ap (λ ls. with_stages (map number_stage c.push.new.self.items) (body_from (comes c.args.version NumberKind c.args.first (at + 1)) ((at + 3) + 1) ls)) (behind_first (λ line. line.now) at c.args.lines.now)
+          ∙ ap (λ n. with_stages (map number_stage c.push.new.self.items) (body_from (comes c.args.version NumberKind c.args.first (at + 1)) n (map (λ line. line.now) (drop (at + 1) c.args.lines.now)))) number,
     )

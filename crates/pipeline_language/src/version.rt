@@ -1,0 +1,8 @@
+//! Versions of the language.
+
+/// A version of the language. The second has all forms of the first, and some more.
+#[derive(Clone, Copy, Debug, PartialEq, Eq)]
+pub(crate) enum Version {
+    One,
+    Two,
+}
