@@ -1,0 +1,3 @@
+pub mod NumberFronts
+pub mod Quotients
+pub mod TextFronts

@@ -1,0 +1,38 @@
+-- Prepared stages over texts, and words of texts.
+use Rattle.std.specs.Prelude.{◌≡◌, ◌==◌, ℕ, Bool, true, false, List, [], ◌∷◌, Option, Some, None, MatchOption, filter, flat_map, length, refl}
+use Rattle.std.proofs.Common.{Bor, arith, lit<, ap, ap₂, sym, subst, ◌∙◌}
+use Rattle.std.proofs.lemmas.List.Splits.{slice_split_first, slice_split_none}
+use Rattle.std.proofs.lemmas.List.Sums.{fails_before_first}
+use Rattle.std.proofs.lemmas.Str.Pattern.{split_once_first, IsSplitOnceResult}
+use Rattle.pipeline_language.specs.Words.{words_of}
+use Rattle.pipeline_language.specs.declared.pipeline.TextTest.{TextTest}
+use Rattle.pipeline_language.specs.declared.pipeline.TextStage.{TextStage}
+use Rattle.pipeline_language.specs.declared.pipeline.TextStage.TheVariants as stages
+use Rattle.pipeline_meaning.specs.Functions.{text_holds}
+use Rattle.pipeline_meaning.specs.Stages.{text_stage, is_text_map}
+use Rattle.pipeline_meaning.specs.TextSteps.{text_step_images, is_map_step}
+use Rattle.pipeline_meaning.specs.WalkLaws.{flat_map-one, filter-flat_map, IsStep}
+use Rattle.pipeline_meaning.specs.declared.functions.TextCheck.{TextCheck}
+use Rattle.pipeline_meaning.specs.declared.text_steps.TextStep.TheVariants.{Itself, Filter}
+
+-- what a cut at the first space gives
+pub first-words : (bs : List ℕ) (r : Option (Bor (List ℕ) × Bor (List ℕ))) → IsSplitOnceResult 32 bs r
+    → MatchOption r (words_of bs ≡ bs ∷ []) (λ x. words_of bs ≡ x.0.now ∷ words_of x.1.now)
+first-words bs None h =
+    let whole = split_once_first 32 bs None h (lit< tt) in
+    slice_split_none (λ b. b == 32) bs (λ k d within. fails_before_first (λ b. b == 32) bs k d (omega arith))
+first-words bs (Some x) h =
+    let cut = split_once_first 32 bs (Some x) h (lit< tt) in
+    slice_split_first (λ b. b == 32) bs 0 cut.0 ∙ ap₂ (λ (a b : List ℕ). a ∷ words_of b) (sym cut.1) (sym cut.2)
+
+-- a prepared map or filter is its stage
+pub itself-step : (stage : TextStage) → stage ≡ stages.MapItself → IsStep text_step_images text_stage is_map_step is_text_map Itself stage
+itself-step stage is =
+    let P : TextStage → Type 0 = λ s. IsStep text_step_images text_stage is_map_step is_text_map Itself s in
+    subst P (sym is) (flat_map-one, refl)
+
+pub filter-step : (stage : TextStage) (p : TextTest) (k : TextCheck) → stage ≡ stages.Filter p → k.test ≡ p
+    → IsStep text_step_images text_stage is_map_step is_text_map (Filter k) stage
+filter-step stage p k is e =
+    let P : TextStage → Type 0 = λ s. IsStep text_step_images text_stage is_map_step is_text_map (Filter k) s in
+    subst P (sym is) ((λ l. sym (filter-flat_map (text_holds k.test) l) ∙ ap (λ (q : TextTest). filter (text_holds q) l) e), refl)

@@ -1,0 +1,8 @@
+use Rattle.std.proofs.Common.{ap, ◌∙◌}
+use Rattle.std.specs.Prelude.{◌==◌}
+use Rattle.std.specs.List.{starts_with}
+use Rattle.std.proofs.lemmas.Str.Pattern.{starts_text}
+use Rattle.pipeline_meaning.proofs.functions.TextCheckTest.holds.Goals as goal
+
+pub returns-in-Starts : goal.returns-in-Starts
+returns-in-Starts g c = rw (c.in-Starts.is) (starts_text _ _ _ c.starts_with.ensures.cases ∙ ap (λ text. starts_with ◌==◌ text c.in-Starts.front.now) c.text-text.ensures)

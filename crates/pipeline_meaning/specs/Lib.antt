@@ -1,0 +1,9 @@
+pub mod Functions
+pub mod NumberSteps
+pub mod Prepared
+pub mod PreparedLaws
+pub mod Rows
+pub mod Stages
+pub mod TextSteps
+pub mod WalkLaws
+pub mod Walks

@@ -1,0 +1,49 @@
+-- Values of the prepared functions.
+use Rattle.std.specs.Prelude.{◌≡◌, ◌≤◌, ◌<◌, ◌^◌, ℕ, ℤ, pos, negsuc, neg_ℤ, ◌+ℤ◌, ◌*ℤ◌, List, Bool, refl}
+use Rattle.std.proofs.Common.{arith, w64}
+use Rattle.std.specs.Int.{int_rem_euclid}
+use Rattle.std.specs.Ordering.{is_lt, is_gt, int_cmp}
+use Rattle.std.proofs.lemmas.Int.{ints}
+use Rattle.std.proofs.lemmas.Nat.{mod_below}
+use Rattle.spliterator.specs.Values.{IsI64, int_cmp-total}
+use Rattle.stages.specs.Operators.{IsAssociative}
+use Rattle.stages.specs.Choices.{either-value}
+use Rattle.stages.specs.Wrapping.{wrapped-value, wrapped_sum_assoc}
+use Rattle.pipeline_language.specs.declared.pipeline.NumberMerge.{NumberMerge}
+use Rattle.pipeline_language.specs.declared.pipeline.NumberMerge.TheVariants as numbers
+use Rattle.pipeline_language.specs.declared.pipeline.TextMerge.{TextMerge}
+use Rattle.pipeline_language.specs.declared.pipeline.TextMerge.TheVariants as texts
+use Rattle.pipeline_meaning.specs.Functions.{number_join, text_join}
+use Rattle.pipeline_meaning.specs.Prepared.{mapping_image}
+use Rattle.pipeline_meaning.specs.declared.functions.NumberMapping.{NumberMapping}
+use Rattle.pipeline_meaning.specs.declared.functions.NumberMapping.TheVariants.{Add, Mul, Negate, Mod, Itself}
+
+-- a remainder is below its divisor
+remainder-value : (x : ℤ) (n : ℕ) → 1 ≤ n → n < 2 ^ 63 → IsI64 (int_rem_euclid x (pos n))
+remainder-value (pos a) n h k = let below = mod_below a n (omega arith) in (omega (arith, ints), omega (arith, ints))
+remainder-value (negsuc a) n h k = (omega (arith, ints), omega (arith, ints))
+
+pub mapping_image-value : (f : NumberMapping) (x : ℤ) → IsI64 x → IsI64 (mapping_image f x)
+mapping_image-value (Add n) x h = wrapped-value (x +ℤ n)
+mapping_image-value (Mul n) x h = wrapped-value (x *ℤ n)
+mapping_image-value Negate x h = wrapped-value (neg_ℤ x)
+mapping_image-value (Mod d) x h = remainder-value x d.number d.least d.most
+mapping_image-value Itself x h = h
+
+pub number_join-value : (merge : NumberMerge) (x y : ℤ) → IsI64 x → IsI64 y → IsI64 (number_join merge x y)
+number_join-value numbers.First x y h k = h
+number_join-value numbers.Last x y h k = k
+number_join-value numbers.Sum x y h k = wrapped-value (x +ℤ y)
+number_join-value numbers.Max x y h k = either-value IsI64 (is_lt (int_cmp x y)) x y h k
+number_join-value numbers.Min x y h k = either-value IsI64 (is_gt (int_cmp x y)) x y h k
+
+pub number_join-associative : (merge : NumberMerge) → IsAssociative IsI64 (number_join merge)
+number_join-associative numbers.First x y z h k l = refl
+number_join-associative numbers.Last x y z h k l = refl
+number_join-associative numbers.Sum x y z h k l = wrapped_sum_assoc x y z
+number_join-associative numbers.Max x y z h k l = grind (arith, ints, int_cmp-total)
+number_join-associative numbers.Min x y z h k l = grind (arith, ints, int_cmp-total)
+
+pub text_join-value : (merge : TextMerge) (is_value : List ℕ → Type 0) (x y : List ℕ) → is_value x → is_value y → is_value (text_join merge x y)
+text_join-value texts.First is_value x y h k = h
+text_join-value texts.Last is_value x y h k = k

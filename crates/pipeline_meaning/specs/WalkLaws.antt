@@ -1,0 +1,121 @@
+-- Why a walk over prepared steps is what the stages make of a list.
+use Rattle.std.specs.Prelude.{◌≡◌, ◌≤◌, ◌<◌, ◌-◌, ◌+◌, ◌&&◌, ℕ, Bool, true, false, cond, List, [], ◌∷◌, ◌++◌, map, filter, flat_map, length, take, refl}
+use Rattle.std.proofs.Common.{ap, ap₂, ◌∙◌, sym, subst, arith, append-nil, get_or}
+use Rattle.std.proofs.Math.ListN.{replicate}
+use Rattle.std.specs.List.{list_all}
+use Rattle.std.specs.declared.cmp.Ordering.{Ordering}
+use Rattle.std.proofs.lemmas.List.{replicate_more, replicate-append-replicate, take_more}
+use Rattle.std.proofs.lemmas.List.Concat.{flat_map-append}
+use Rattle.std.proofs.lemmas.List.Folds.{list_all-append}
+use Rattle.stages.specs.declared.flags.Operation.TheVariants.{Map as map_row}
+use Rattle.stages.specs.Flags.{KeepsSound, IsSound, after}
+use Rattle.stages.specs.FlagLaws.{KeepsSound-map, KeepsSound-flat_map}
+use Rattle.pipeline_meaning.specs.Rows.{row_of, size_of}
+use Rattle.pipeline_meaning.specs.Walks.{one_after_other, images_after}
+
+-- the images of images
+flat_map-flat_map : {A B C : Type 0} (f : A → List B) (g : B → List C) (l : List A) → flat_map g (flat_map f l) ≡ flat_map (λ x. flat_map g (f x)) l
+flat_map-flat_map f g [] = refl
+flat_map-flat_map f g (x ∷ l) = flat_map-append g (f x) (flat_map f l) ∙ ap (λ r. flat_map g (f x) ++ r) (flat_map-flat_map f g l)
+
+pub flat_map-one : {A : Type 0} (l : List A) → flat_map (λ x. x ∷ []) l ≡ l
+flat_map-one [] = refl
+flat_map-one (x ∷ l) = ap (λ r. x ∷ r) (flat_map-one l)
+
+pub map-flat_map : {A B : Type 0} (f : A → B) (l : List A) → map f l ≡ flat_map (λ x. f x ∷ []) l
+map-flat_map f [] = refl
+map-flat_map f (x ∷ l) = ap (λ r. f x ∷ r) (map-flat_map f l)
+
+pub filter-flat_map : {A : Type 0} (p : A → Bool) (l : List A) → filter p l ≡ flat_map (λ x. cond (p x) (x ∷ []) []) l
+filter-flat_map p [] = refl
+filter-flat_map p (x ∷ l) = head (flat_map (λ x. cond (p x) (x ∷ []) []) l) (filter-flat_map p l) (p x)
+  where
+    head : (kept : List _) → filter p l ≡ kept → (b : Bool) → cond b (x ∷ filter p l) (filter p l) ≡ cond b (x ∷ []) [] ++ kept
+    head kept e true = ap (λ l. x ∷ l) e
+    head kept e false = e
+
+-- the same images of each item
+flat_map-same : {A B : Type 0} (f g : A → List B) → ((x : A) → f x ≡ g x) → (l : List A) → flat_map f l ≡ flat_map g l
+flat_map-same f g h [] = refl
+flat_map-same f g h (x ∷ l) = ap₂ (λ a b. a ++ b) (h x) (flat_map-same f g h l)
+
+-- images of copies
+pub copies-all : {A B : Type 0} (f : A → List B) (i n : ℕ) (x : A) → i ≤ n → flat_map f (replicate i x) ++ flat_map f (replicate (n - i) x) ≡ flat_map f (replicate n x)
+copies-all f i n x h =
+    sym (flat_map-append f (replicate i x) (replicate (n - i) x)) ∙ ap (flat_map f) (replicate-append-replicate i (n - i) x)
+    ∙ ap (λ k. flat_map f (replicate k x)) (let e : i + (n - i) ≡ n = omega arith in e)
+
+module _ {S A : Type 0} (images : S → A → List A) where
+  -- a step behind the others
+  images-one-more : (steps : List S) (step : S) (x : A) → images_after images (steps ++ step ∷ []) x ≡ flat_map (images step) (images_after images steps x)
+  images-one-more [] step x = flat_map-one (images step x) ∙ sym (append-nil (images step x))
+  images-one-more (first ∷ steps) step x =
+      flat_map-same (images_after images (steps ++ step ∷ [])) (λ y. flat_map (images step) (images_after images steps y)) (images-one-more steps step) (images first x)
+      ∙ sym (flat_map-flat_map (images_after images steps) (images step) (images first x))
+
+  all-one-more : (steps : List S) (step : S) (l : List A)
+      → flat_map (images_after images (steps ++ step ∷ [])) l ≡ flat_map (images step) (flat_map (images_after images steps) l)
+  all-one-more steps step l =
+      flat_map-same (images_after images (steps ++ step ∷ [])) (λ y. flat_map (images step) (images_after images steps y)) (images-one-more steps step) l
+      ∙ sym (flat_map-flat_map (images_after images steps) (images step) l)
+
+  -- Where all steps are maps, a number has one image. The row is that of a map there, else of a flat map.
+  one-image : (is_map : S → Bool) (image : S → A → A) → ((step : S) → is_map step ≡ true → (x : A) → images step x ≡ image step x ∷ [])
+      → (steps : List S) → list_all is_map steps ≡ true → (x : A) → images_after images steps x ≡ one_after_other image steps x ∷ []
+  one-image is_map image one [] h x = refl
+  one-image is_map image one (step ∷ steps) h x =
+      ap (flat_map (images_after images steps)) (one step (and-left (is_map step) (list_all is_map steps) h) x)
+      ∙ append-nil (images_after images steps (image step x)) ∙ one-image is_map image one steps (and-right (is_map step) (list_all is_map steps) h) (image step x)
+    where
+      and-left : (a b : Bool) → (a && b) ≡ true → a ≡ true
+      and-left true b h = refl
+      and-left false b h = h
+
+      and-right : (a b : Bool) → (a && b) ≡ true → b ≡ true
+      and-right true b h = h
+      and-right false true h = refl
+      and-right false false h = h
+
+  pub KeepsSound-walk : (order : A → A → Ordering) (is_map : S → Bool) (image : S → A → A) → ((step : S) → is_map step ≡ true → (x : A) → images step x ≡ image step x ∷ [])
+      → (steps : List S) → KeepsSound order order (row_of (list_all is_map steps)) (size_of (list_all is_map steps)) (flat_map (images_after images steps))
+  KeepsSound-walk order is_map image one steps = by (list_all is_map steps) (one-image is_map image one steps)
+    where
+      by : (b : Bool) → (b ≡ true → (x : A) → images_after images steps x ≡ one_after_other image steps x ∷ []) → KeepsSound order order (row_of b) (size_of b) (flat_map (images_after images steps))
+      by true one = λ flags size items sound.
+          let P : List A → Type 0 = λ l. IsSound order (after flags map_row) size l in
+          subst P (sym (flat_map-same (images_after images steps) (λ x. one_after_other image steps x ∷ []) (one refl) items)) (KeepsSound-map order order (one_after_other image steps) flags size items sound)
+      by false one = KeepsSound-flat_map order order (images_after images steps)
+
+  module _ {G : Type 0} (stage : G → List A → List A) where
+    stages-one-more : (earlier : List G) (last : G) (l : List A) → one_after_other stage (earlier ++ last ∷ []) l ≡ stage last (one_after_other stage earlier l)
+    stages-one-more [] last l = refl
+    stages-one-more (first ∷ earlier) last l = stages-one-more earlier last (stage first l)
+
+    -- a step more is a stage more
+    front-one-more : (steps : List S) (step : S) (earlier : List G) (last : G)
+        → ((l : List A) → flat_map (images_after images steps) l ≡ one_after_other stage earlier l) → ((l : List A) → flat_map (images step) l ≡ stage last l)
+        → (l : List A) → flat_map (images_after images (steps ++ step ∷ [])) l ≡ one_after_other stage (earlier ++ last ∷ []) l
+    front-one-more steps step earlier last h k l =
+        all-one-more steps step l ∙ k (flat_map (images_after images steps) l) ∙ ap (stage last) (h l) ∙ sym (stages-one-more earlier last l)
+
+    -- what a front says of its steps
+    abbrev pub IsFront : (S → Bool) → (G → Bool) → List S → List G → Type 0
+    IsFront is_map is_stage_map steps stages =
+        ((l : List A) → flat_map (images_after images steps) l ≡ one_after_other stage stages l) × (list_all is_map steps ≡ list_all is_stage_map stages)
+
+    abbrev pub IsStep : (S → Bool) → (G → Bool) → S → G → Type 0
+    IsStep is_map is_stage_map step last = ((l : List A) → flat_map (images step) l ≡ stage last l) × (is_map step ≡ is_stage_map last)
+
+    pub front-start : (is_map : S → Bool) (is_stage_map : G → Bool) (steps : List S) → steps ≡ [] → IsFront is_map is_stage_map steps []
+    front-start is_map is_stage_map steps e =
+        let P : List S → Type 0 = λ steps. IsFront is_map is_stage_map steps [] in
+        subst P (sym e) (flat_map-one, refl)
+
+    pub front-more : (is_map : S → Bool) (is_stage_map : G → Bool) (steps new : List S) (step : S) (stages : List G) (i : ℕ) (d : G) → i < length stages
+        → new ≡ steps ++ step ∷ [] → IsFront is_map is_stage_map steps (take i stages) → IsStep is_map is_stage_map step (get_or stages i d) → IsFront is_map is_stage_map new (take (i + 1) stages)
+    front-more is_map is_stage_map steps new step stages i d within e h k =
+        let P : List S → Type 0 = λ steps. IsFront is_map is_stage_map steps (take (i + 1) stages) in
+        let Q : List G → Type 0 = λ stages. IsFront is_map is_stage_map (steps ++ step ∷ []) stages in
+        subst P (sym e) (subst Q (sym (take_more stages i d within)) (
+            front-one-more steps step (take i stages) (get_or stages i d) h.0 k.0,
+            list_all-append is_map steps (step ∷ []) ∙ ap₂ (λ a b. a && (b && true)) h.1 k.1 ∙ sym (list_all-append is_stage_map (take i stages) (get_or stages i d ∷ []))))

@@ -1,0 +1,59 @@
+//! Remainders by a divisor that is prepared once.
+ghost use Rattle.std.specs.Prelude.{◌≡◌, ◌≤◌, ◌<◌, ◌^◌, ◌-◌, ◌/◌, ◌%◌, pos};
+ghost use Rattle.std.specs.Int.{int_rem_euclid};
+ghost use Rattle.std.specs.Ordering.{int_eq};
+ghost use Rattle.pipeline_meaning.specs.Functions.{divisor};
+
+/// A divisor from 1 to 2^63 - 1, with what spares each remainder a division.
+#[derive(Clone, Copy, Debug)]
+pub struct Divisor {
+    pub number: u64,
+    reciprocal: u64,
+    ghost least: { 1 ≤ number },
+    ghost most: { number < 2 ^ 63 },
+    ghost reciprocal_is: { reciprocal ≡ (2 ^ 64 - 1) / number },
+}
+
+impl Divisor {
+    /// The number as a divisor. One below 1 counts as 1.
+    pub fn new(number: i64) -> Divisor
+        ensures { pos result.number ≡ divisor number }
+    {
+        let number = number.max(1).unsigned_abs();
+        Divisor {
+            number,
+            reciprocal: u64::MAX / number,
+        }
+    }
+
+    /// The least remainder that isn't negative.
+    pub fn remainder(&self, x: i64) -> i64
+        ensures { result ≡ int_rem_euclid x (pos self.now.number) }
+    {
+        // From the other end, a negative number counts 0, 1, .. at -1, -2, ..
+        let size = if x < 0 { !x } else { x };
+        let rest = self.rest(size as u64);
+        if x < 0 {
+            (self.number - 1 - rest) as i64
+        } else {
+            rest as i64
+        }
+    }
+
+    /// Whether the remainder is 0.
+    pub fn divides(&self, x: i64) -> bool
+        ensures { result ≡ int_eq (int_rem_euclid x (pos self.now.number)) (pos 0) }
+    {
+        self.rest(x.unsigned_abs()) == 0
+    }
+
+    // The reciprocal gives the quotient, or one less.
+    fn rest(&self, x: u64) -> u64
+        requires { x ≤ 2 ^ 63 }
+        ensures { result ≡ x % self.now.number }
+    {
+        let quotient = ((x as u128 * self.reciprocal as u128) >> 64) as u64;
+        let rest = x - quotient * self.number;
+        if rest < self.number { rest } else { rest - self.number }
+    }
+}

@@ -1,0 +1,214 @@
+//! The functions of a pipeline, each made of what the file names, with what is worth preparing once.
+ghost use Rattle.std.specs.Prelude.{◌≡◌, ⊤};
+ghost use Rattle.spliterator.specs.Values.{IsI64};
+ghost use Rattle.stages.specs.Operators.{IsAssociative};
+ghost use Rattle.stages.specs.Wrapping.{wrapped-value};
+ghost use Rattle.pipeline_meaning.specs.Functions.{number_image, number_holds, number_join, text_length, text_holds, text_join};
+ghost use Rattle.pipeline_meaning.specs.Prepared.{mapping_image, check_holds};
+ghost use Rattle.pipeline_meaning.specs.PreparedLaws.{mapping_image-value, number_join-value, text_join-value};
+
+use crate::Divisor;
+use pipeline_language::{NumberFunction, NumberMerge, NumberTest, TextMerge, TextTest};
+use spliterator::{NoMemory, Text, Value};
+use stages::{Mapping, Operator, Test};
+
+/// What a number is mapped to.
+#[derive(Clone, Copy, Debug)]
+pub enum NumberMapping {
+    Add(i64),
+    Mul(i64),
+    Negate,
+    Mod(Divisor),
+    Itself,
+}
+
+impl NumberMapping {
+    pub fn of(function: NumberFunction) -> NumberMapping
+        ensures { ⟦<NumberMapping as Mapping<i64>>⟧.image result ≡ number_image function }
+    {
+        match function {
+            NumberFunction::Add(n) => NumberMapping::Add(n),
+            NumberFunction::Mul(n) => NumberMapping::Mul(n),
+            NumberFunction::Negate => NumberMapping::Negate,
+            NumberFunction::Mod(n) => NumberMapping::Mod(Divisor::new(n)),
+            NumberFunction::Itself => NumberMapping::Itself,
+        }
+    }
+
+    pub(crate) fn image_of(&self, x: i64) -> i64
+        ensures { result ≡ mapping_image self.now x }
+    {
+        match self {
+            NumberMapping::Add(n) => x.wrapping_add(*n),
+            NumberMapping::Mul(n) => x.wrapping_mul(*n),
+            NumberMapping::Negate => x.wrapping_neg(),
+            NumberMapping::Mod(divisor) => divisor.remainder(x),
+            NumberMapping::Itself => x,
+        }
+    }
+}
+
+impl Mapping<i64> for NumberMapping {
+    type Out = i64;
+
+    ghost image = { mapping_image };
+
+    ghost images_are_values = { mapping_image-value };
+
+    fn image(&self, x: &i64) -> Result<i64, NoMemory> {
+        Ok(self.image_of(*x))
+    }
+}
+
+/// A text's length in bytes.
+#[derive(Clone, Copy, Debug)]
+pub struct TextLength;
+
+impl<T: Text> Mapping<T> for TextLength {
+    type Out = i64;
+
+    ghost image = { λ _. text_length };
+
+    ghost images_are_values = { λ _ x _. wrapped-value _ };
+
+    fn image(&self, x: &T) -> Result<i64, NoMemory> {
+        Ok((x.text().len() as u64).cast_signed())
+    }
+}
+
+/// The item itself: a number, or a text that is lent.
+#[derive(Clone, Copy, Debug)]
+pub struct Itself;
+
+impl<T: Value + Copy> Mapping<T> for Itself {
+    type Out = T;
+
+    ghost image = { λ _ x. x };
+
+    ghost images_are_values = { λ _ x value. value };
+
+    fn image(&self, x: &T) -> Result<T, NoMemory> {
+        Ok(*x)
+    }
+}
+
+/// What is asked of a number.
+#[derive(Clone, Copy, Debug)]
+pub enum NumberCheck {
+    Less(i64),
+    Greater(i64),
+    Equals(i64),
+    Divisible(Divisor),
+}
+
+impl NumberCheck {
+    pub fn of(test: NumberTest) -> NumberCheck
+        ensures { ⟦<NumberCheck as Test<i64>>⟧.holds result ≡ number_holds test }
+    {
+        match test {
+            NumberTest::Less(n) => NumberCheck::Less(n),
+            NumberTest::Greater(n) => NumberCheck::Greater(n),
+            NumberTest::Equals(n) => NumberCheck::Equals(n),
+            NumberTest::Divisible(n) => NumberCheck::Divisible(Divisor::new(n)),
+        }
+    }
+}
+
+impl Test<i64> for NumberCheck {
+    ghost holds = { check_holds };
+
+    fn holds(&self, x: &i64) -> bool {
+        match self {
+            NumberCheck::Less(n) => *x < *n,
+            NumberCheck::Greater(n) => *x > *n,
+            NumberCheck::Equals(n) => *x == *n,
+            NumberCheck::Divisible(divisor) => divisor.divides(*x),
+        }
+    }
+}
+
+/// What is asked of a text.
+#[derive(Clone, Copy, Debug)]
+pub struct TextCheck<'a> {
+    pub test: TextTest<'a>,
+}
+
+impl<'a> TextCheck<'a> {
+    pub fn of(test: TextTest<'a>) -> TextCheck<'a>
+        ensures { result.test ≡ test.entry }
+    {
+        TextCheck { test }
+    }
+}
+
+impl<T: Text> Test<T> for TextCheck<'_> {
+    ghost holds = { λ t. text_holds t.test };
+
+    fn holds(&self, x: &T) -> bool {
+        let text = x.text();
+        match self.test {
+            TextTest::Empty => text.is_empty(),
+            TextTest::Starts(front) => text.starts_with(front),
+            TextTest::Longer(n) => text.len() as u64 > n,
+        }
+    }
+}
+
+/// What becomes of two numbers of one key.
+#[derive(Clone, Copy, Debug)]
+pub struct NumberMerging {
+    pub merge: NumberMerge,
+}
+
+impl NumberMerging {
+    pub fn of(merge: NumberMerge) -> NumberMerging
+        ensures merge { result.merge ≡ merge }
+        ensures associative { IsAssociative IsI64 (⟦<NumberMerging as Operator<i64>>⟧.join result) }
+    {
+        NumberMerging { merge }
+    }
+}
+
+impl Operator<i64> for NumberMerging {
+    ghost join = { λ m. number_join m.merge };
+
+    ghost joins_are_values = { λ m. number_join-value m.merge };
+
+    fn join(&self, a: &i64, b: &i64) -> Result<i64, NoMemory> {
+        Ok(match self.merge {
+            NumberMerge::First => *a,
+            NumberMerge::Last => *b,
+            NumberMerge::Sum => a.wrapping_add(*b),
+            NumberMerge::Max => *a.max(b),
+            NumberMerge::Min => *a.min(b),
+        })
+    }
+}
+
+/// What becomes of two texts of one key.
+#[derive(Clone, Copy, Debug)]
+pub struct TextMerging {
+    pub merge: TextMerge,
+}
+
+impl TextMerging {
+    pub fn of(merge: TextMerge) -> TextMerging
+        ensures merge { result.merge ≡ merge }
+        ensures associative { IsAssociative (λ _. ⊤) (⟦<TextMerging as Operator<&'static str>>⟧.join result) }
+    {
+        TextMerging { merge }
+    }
+}
+
+impl<T: Text + Copy> Operator<T> for TextMerging {
+    ghost join = { λ m. text_join m.merge };
+
+    ghost joins_are_values = { λ m. text_join-value m.merge T.is_value };
+
+    fn join(&self, a: &T, b: &T) -> Result<T, NoMemory> {
+        Ok(match self.merge {
+            TextMerge::First => *a,
+            TextMerge::Last => *b,
+        })
+    }
+}

@@ -1,0 +1,175 @@
+//! The stages over numbers that look at one item at a time, as one stage that walks them.
+ghost use Rattle.std.specs.Prelude.{◌≡◌, ◌≤◌, ◌<◌, ℕ, ℤ, IsTrue, IfOk, OnOk, OnErr, List, Option, MatchOption, flat_map, length, take};
+ghost use Rattle.std.specs.List.{HoldsAt, list_all};
+ghost use Rattle.std.specs.Ordering.{int_cmp};
+ghost use Rattle.std.proofs.Math.ListN.{replicate};
+ghost use Rattle.pipeline_meaning.specs.NumberSteps.{number_images, number_step_images, walked_images, IsFewer, is_map_step, only_maps, KeepsSound-number_steps};
+ghost use Rattle.pipeline_meaning.specs.Rows.{row_of, size_of};
+ghost use Rattle.pipeline_meaning.specs.Stages.{number_stage, number_stages, is_number_barrier, is_number_map};
+ghost use Rattle.pipeline_meaning.specs.WalkLaws.{IsStep};
+
+use crate::{NumberCheck, NumberMapping};
+use pipeline_language::NumberStage;
+use spliterator::NoMemory;
+use stages::{Mapping, Operation, Sink, Stage, Test};
+use std::alloc::Global;
+
+/// One stage, prepared.
+#[derive(Clone, Copy, Debug)]
+enum NumberStep {
+    Map(NumberMapping),
+    Filter(NumberCheck),
+    Repeat(u64),
+}
+
+impl NumberStep {
+    // `None` for a stage that looks at more than one item.
+    fn of(stage: &NumberStage) -> Option<NumberStep>
+        ensures { MatchOption result (IsTrue (is_number_barrier stage.now)) (λ step. IsStep number_step_images number_stage is_map_step is_number_map step stage.now) }
+    {
+        match stage {
+            NumberStage::Map(function) => Some(NumberStep::Map(NumberMapping::of(*function))),
+            NumberStage::Filter(test) => Some(NumberStep::Filter(NumberCheck::of(*test))),
+            NumberStage::Repeat(n) => Some(NumberStep::Repeat(*n)),
+            NumberStage::Distinct
+            | NumberStage::Limit(_)
+            | NumberStage::Skip(_)
+            | NumberStage::TakeWhile(_)
+            | NumberStage::DropWhile(_) => None,
+        }
+    }
+
+    fn is_map(&self) -> bool
+        ensures { result ≡ is_map_step self.now }
+    {
+        matches!(self, NumberStep::Map(_))
+    }
+}
+
+/// Stages over numbers up to the first that looks at more than one item, as one stage: a number walks through them.
+#[derive(Debug, Drop)]
+pub struct NumberSteps {
+    steps: Vec<NumberStep>,
+}
+
+impl NumberSteps {
+    /// The stages up to the first barrier, as one stage, and how many they are.
+    pub fn front_of(
+        alloc: Global,
+        stages: &[NumberStage],
+    ) -> Result<(NumberSteps, usize), NoMemory>
+        ensures within { IfOk result (λ r. r.1 ≤ length stages.now) }
+        ensures means { IfOk result (λ r. (l : List ℤ) → flat_map (⟦<NumberSteps as Stage>⟧.expand r.0) l ≡ number_stages (take r.1 stages.now) l) }
+        ensures barrier { IfOk result (λ r. r.1 < length stages.now → HoldsAt (λ stage. IsTrue (is_number_barrier stage)) stages.now r.1) }
+        ensures size { IfOk result (λ r. IsTrue (list_all is_number_map (take r.1 stages.now)) → (size : Option ℕ) → ⟦<NumberSteps as Stage>⟧.size_after r.0 size ≡ size) }
+    {
+        let mut steps = Vec::new(alloc);
+        for (place, stage) in stages.iter().enumerate() {
+            match NumberStep::of(stage) {
+                Some(step) => steps.push(step)?,
+                None => return Ok((NumberSteps { steps }, place)),
+            }
+        }
+        Ok((NumberSteps { steps }, stages.len()))
+    }
+
+    // Whether each number has one image.
+    fn keeps_size(&self) -> bool
+        ensures { result ≡ only_maps self.now.steps.items }
+    {
+        self.steps.iter().all(|step| step.is_map())
+    }
+}
+
+/// How far a number goes before it is dropped or copied.
+enum Walked<'a> {
+    Passed(i64),
+    Dropped,
+    /// So many copies of the number have these steps before them.
+    Copied(u64, i64, &'a [NumberStep]),
+}
+
+// Walks a number through the steps up to the first that copies it.
+fn walk(steps: &[NumberStep], x: i64) -> Walked<'_>
+    ensures images { walked_images result ≡ number_images steps.now x }
+    ensures shorter { IsFewer result (length steps.now) }
+{
+    let mut number = x;
+    for (place, step) in steps.iter().enumerate() {
+        match step {
+            NumberStep::Map(mapping) => number = mapping.image_of(number),
+            NumberStep::Filter(check) => {
+                if !check.holds(&number) {
+                    return Walked::Dropped;
+                }
+            }
+            NumberStep::Repeat(n) => return Walked::Copied(*n, number, &steps[place + 1..]),
+        }
+    }
+    Walked::Passed(number)
+}
+
+// Walks a number through the steps, into a sink.
+#[cycle(feeding)]
+fn feed_steps<K: Sink<i64>>(steps: &[NumberStep], x: i64, sink: &mut K) -> Result<(), NoMemory>
+    requires { K.ready sink.old }
+    ensures taken { OnOk result (K.takes sink.old (number_images steps.now x) sink.new) }
+    ensures spoilt { OnErr result (K.spoils sink.old sink.new) }
+{
+    match walk(steps, x) {
+        Walked::Passed(number) => sink.take(number),
+        Walked::Dropped => Ok(()),
+        Walked::Copied(n, number, rest) => feed_copies(n, rest, number, sink),
+    }
+}
+
+// The same of copies of a number, as long as they make a difference.
+#[cycle(feeding)]
+fn feed_copies<K: Sink<i64>>(
+    n: u64,
+    steps: &[NumberStep],
+    x: i64,
+    sink: &mut K,
+) -> Result<(), NoMemory>
+    requires { K.ready sink.old }
+    ensures taken { OnOk result (K.takes sink.old (flat_map (number_images steps.now) (replicate n x)) sink.new) }
+    ensures spoilt { OnErr result (K.spoils sink.old sink.new) }
+{
+    for _ in 0..n {
+        if sink.is_full() {
+            return Ok(());
+        }
+        feed_steps(steps, x, sink)?;
+    }
+    Ok(())
+}
+
+impl Stage for NumberSteps {
+    type In = i64;
+
+    type Out = i64;
+
+    ghost expand = { λ s. number_images s.steps.items };
+
+    ghost operation = { λ s. row_of (only_maps s.steps.items) };
+
+    ghost size_after = { λ s. size_of (only_maps s.steps.items) };
+
+    ghost flag_law = { λ s. KeepsSound-number_steps int_cmp s.steps.items };
+
+    fn feed<K: Sink<i64>>(&self, x: i64, sink: &mut K) -> Result<(), NoMemory> {
+        feed_steps(&self.steps, x, sink)
+    }
+
+    fn operation(&self) -> Operation {
+        if self.keeps_size() {
+            Operation::Map
+        } else {
+            Operation::FlatMap
+        }
+    }
+
+    fn size_after(&self, size: Option<u64>) -> Option<u64> {
+        if self.keeps_size() { size } else { None }
+    }
+}
