@@ -1,0 +1,3 @@
+mod Separated
+pub mod Stages
+pub mod Telling

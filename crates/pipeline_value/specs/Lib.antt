@@ -1,0 +1,4 @@
+pub mod Ranges
+pub mod Summaries
+pub mod Texts
+pub mod Value

@@ -1,0 +1,123 @@
+-- The value of a pipeline, as the text that is written of it.
+use Rattle.std.specs.Prelude.{String, ◌≡◌, ◌+ℤ◌, ℕ, ℤ, pos, not, Bool, bytes_eq, List, [], ◌∷◌, ◌++◌, map, fold, length, string_bytes, Option, Some, None, Result, Ok, Err, if◌then◌else◌}
+use Rattle.std.specs.Fmt.{signed_decimal}
+use Rattle.std.specs.Global.{Global}
+use Rattle.std.specs.List.{list_any}
+use Rattle.std.specs.Ordering.{int_eq, int_cmp}
+use Rattle.sources.specs.Integers.{integers_between}
+use Rattle.stages.specs.Choices.{larger, smaller}
+use Rattle.stages.specs.Products.{wrapped_product}
+use Rattle.stages.specs.Wrapping.{wrapped, wrapped_sum}
+use Rattle.collectors.specs.Reductions.{delimited, first, reduced}
+use Rattle.parallel_streams.specs.Terminals.{all_meet, any_meets}
+use Rattle.pipeline_language.specs.declared.pipeline.NumberBody.{NumberBody}
+use Rattle.pipeline_language.specs.declared.pipeline.NumberSource.{NumberSource}
+use Rattle.pipeline_language.specs.declared.pipeline.NumberSource.TheVariants.{Range, Closed, Numbers}
+use Rattle.pipeline_language.specs.declared.pipeline.NumberTerminal.{NumberTerminal}
+use Rattle.pipeline_language.specs.declared.pipeline.NumberTerminal.TheVariants as of_numbers
+use Rattle.pipeline_language.specs.declared.pipeline.TextBody.{TextBody}
+use Rattle.pipeline_language.specs.declared.pipeline.TextEnd.{TextEnd}
+use Rattle.pipeline_language.specs.declared.pipeline.TextEnd.TheVariants as ends
+use Rattle.pipeline_language.specs.declared.pipeline.TextFunction.{TextFunction}
+use Rattle.pipeline_language.specs.declared.pipeline.TextFunction.TheVariants as text_functions
+use Rattle.pipeline_language.specs.declared.pipeline.TextTerminal.{TextTerminal}
+use Rattle.pipeline_language.specs.declared.pipeline.TextTerminal.TheVariants as of_texts
+use Rattle.pipeline_language.specs.declared.pipeline.TextValue.{TextValue}
+use Rattle.pipeline_language.specs.declared.pipeline.TextValue.TheVariants as text_values
+use Rattle.pipeline_language.specs.declared.pipeline.Pipeline.{Pipeline}
+use Rattle.pipeline_language.specs.declared.pipeline.Pipeline.TheVariants as pipelines
+use Rattle.pipeline_value.specs.declared.told.ValueError.{ValueError}
+use Rattle.pipeline_value.specs.declared.told.ValueError.TheVariants as errors
+use Rattle.pipeline_meaning.specs.Functions.{number_image, number_holds, number_join, text_length, text_holds, text_join}
+use Rattle.pipeline_meaning.specs.Stages.{number_stages, text_stages}
+use Rattle.pipeline_value.specs.Summaries.{itself, groups_text, parts_text, merged_text, strict_text, number_summary_text, text_summary_text, text_groups_text}
+use Rattle.pipeline_value.specs.Texts.{list_text, optional_text, pair_text, truth_text}
+
+-- the text of a value, or of a key that is repeated where none may be
+abbrev pub Told : Type 0
+Told = Result (List ℕ) (List ℕ)
+
+-- the items of a source (java.util.stream.LongStream, range and rangeClosed)
+abbrev pub source_numbers : NumberSource → List ℤ
+source_numbers (Range a b) = integers_between a b
+source_numbers (Closed a b) = integers_between a (b +ℤ pos 1)
+source_numbers (Numbers numbers) = numbers.items
+
+-- The key of the earliest place whose key came before, if there is one.
+abbrev pub first_repeat : {K : Type 0} → (K → K → Bool) → List K → List K → Option K
+first_repeat same earlier [] = None
+first_repeat same earlier (k ∷ ks) = if list_any (same k) earlier then Some k else first_repeat same (earlier ++ k ∷ []) ks
+
+abbrev pub repeat_or : {K : Type 0} → (K → List ℕ) → Option K → List ℕ → Told
+repeat_or key_text None text = Ok text
+repeat_or key_text (Some k) text = Err (key_text k)
+
+-- Each item's key with its value where no key repeats, and else the key that is the first to. java.util.stream.Collectors, toMap by two functions.
+abbrev pub strict_told : {X K V : Type 0} → (K → List ℕ) → (V → List ℕ) → (K → K → Bool) → (X → K) → (X → V) → List X → Told
+strict_told key_text value_text same key value l = repeat_or key_text (first_repeat same [] (map key l)) (strict_text key_text value_text key value l)
+
+-- what a terminal tells of numbers (java.util.stream.LongStream)
+abbrev pub number_told : NumberTerminal → List ℤ → Told
+number_told of_numbers.Sum l = Ok (signed_decimal (fold wrapped_sum (pos 0) l))
+number_told of_numbers.Product l = Ok (signed_decimal (fold wrapped_product (pos 1) l))
+number_told of_numbers.Max l = Ok (optional_text signed_decimal (reduced (larger int_cmp) l))
+number_told of_numbers.Min l = Ok (optional_text signed_decimal (reduced (smaller int_cmp) l))
+number_told of_numbers.Count l = Ok (signed_decimal (wrapped (pos (length l))))
+number_told of_numbers.FindFirst l = Ok (optional_text signed_decimal (first l))
+number_told of_numbers.ToList l = Ok (list_text signed_decimal l)
+number_told (of_numbers.AllMatch p) l = Ok (truth_text (all_meet (number_holds p) l))
+number_told (of_numbers.AnyMatch p) l = Ok (truth_text (any_meets (number_holds p) l))
+number_told (of_numbers.NoneMatch p) l = Ok (truth_text (not (any_meets (number_holds p) l)))
+number_told (of_numbers.GroupBy f summary) l = Ok (groups_text signed_decimal int_eq (number_image f) (number_summary_text summary) l)
+number_told (of_numbers.Partition p summary) l = Ok (parts_text (number_holds p) (number_summary_text summary) l)
+number_told (of_numbers.ToMap key value merge) l = Ok (merged_text signed_decimal signed_decimal int_eq (number_image key) (number_image value) (number_join merge) l)
+number_told (of_numbers.ToMapStrict key value) l = strict_told signed_decimal signed_decimal int_eq (number_image key) (number_image value) l
+number_told (of_numbers.Teeing one other) l = Ok (pair_text (number_summary_text one l) (number_summary_text other l))
+
+abbrev pub number_body_told : NumberBody → List ℤ → Told
+number_body_told body l = number_told body.terminal (number_stages body.stages.items l)
+
+-- a map over texts, with its values and what becomes of two of one key
+abbrev pub text_map_text : {K : Type 0} → (K → List ℕ) → (K → K → Bool) → (List ℕ → K) → TextValue → List (List ℕ) → List ℕ
+text_map_text key_text same key (text_values.Length merge) l = merged_text key_text signed_decimal same key text_length (number_join merge) l
+text_map_text key_text same key (text_values.Itself merge) l = merged_text key_text itself same key itself (text_join merge) l
+
+abbrev pub text_strict_told : {K : Type 0} → (K → List ℕ) → (K → K → Bool) → (List ℕ → K) → TextFunction → List (List ℕ) → Told
+text_strict_told key_text same key text_functions.Length l = strict_told key_text signed_decimal same key text_length l
+text_strict_told key_text same key text_functions.Itself l = strict_told key_text itself same key itself l
+
+-- what a terminal tells of texts (java.util.stream.Stream)
+abbrev pub text_told : TextTerminal → List (List ℕ) → Told
+text_told of_texts.Count l = Ok (signed_decimal (wrapped (pos (length l))))
+text_told of_texts.FindFirst l = Ok (optional_text itself (first l))
+text_told of_texts.ToList l = Ok (list_text itself l)
+text_told (of_texts.AllMatch p) l = Ok (truth_text (all_meet (text_holds p) l))
+text_told (of_texts.AnyMatch p) l = Ok (truth_text (any_meets (text_holds p) l))
+text_told (of_texts.NoneMatch p) l = Ok (truth_text (not (any_meets (text_holds p) l)))
+text_told (of_texts.Joining between) l = Ok (delimited between.now l)
+text_told (of_texts.JoiningWithin between front back) l = Ok (front.now ++ delimited between.now l ++ back.now)
+text_told (of_texts.GroupBy f summary) l = Ok (text_groups_text f (text_summary_text summary) l)
+text_told (of_texts.Partition p summary) l = Ok (parts_text (text_holds p) (text_summary_text summary) l)
+text_told (of_texts.ToMap text_functions.Length value) l = Ok (text_map_text signed_decimal int_eq text_length value l)
+text_told (of_texts.ToMap text_functions.Itself value) l = Ok (text_map_text itself bytes_eq itself value l)
+text_told (of_texts.ToMapStrict text_functions.Length value) l = text_strict_told signed_decimal int_eq text_length value l
+text_told (of_texts.ToMapStrict text_functions.Itself value) l = text_strict_told itself bytes_eq itself value l
+text_told (of_texts.Teeing one other) l = Ok (pair_text (text_summary_text one l) (text_summary_text other l))
+
+abbrev pub text_end_told : TextEnd → List (List ℕ) → Told
+text_end_told (ends.Terminal terminal) l = text_told terminal l
+text_end_told (ends.Lengths body) l = number_body_told body (map text_length l)
+
+abbrev pub text_body_told : TextBody → List (List ℕ) → Told
+text_body_told body l = text_end_told body.end (text_stages body.stages.items l)
+
+-- what a pipeline tells
+abbrev pub pipeline_told : Pipeline → Told
+pipeline_told (pipelines.Numbers source body) = number_body_told body (source_numbers source)
+pipeline_told (pipelines.Texts texts body) = text_body_told body (map (λ text. text.now) texts.items)
+
+-- the answer is what is told; want of memory says nothing
+abbrev pub Tells : Told → Result (String Global) ValueError → Type 0
+Tells told (Ok text) = told ≡ Ok (string_bytes text)
+Tells told (Err errors.NoMemory) = Unit {0}
+Tells told (Err (errors.DuplicateKey key)) = told ≡ Err (string_bytes key)

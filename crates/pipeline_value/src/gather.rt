@@ -1,0 +1,67 @@
+//! The list that a barrier leaves of what comes to it.
+
+ghost use Rattle.std.specs.Prelude.{◌≡◌, List, IfOk, flat_map, map};
+ghost use Rattle.barriers.specs.Needs.{IsOutcome};
+ghost use Rattle.spliterator.specs.Clones.{ClonesAlike};
+ghost use Rattle.parallel_streams.specs.Runs.{IsLawfulRun};
+
+use barriers::Barrier;
+use collectors::ToList;
+use parallel_streams::Run;
+use split_tree::Plan;
+use spliterator::{NoMemory, OrderedValue, Spliterator};
+use stages::Stage;
+use std::alloc::Global;
+use std::thread::Threads;
+use stealing_pool::{Gate, run_leaves};
+
+/// What a barrier leaves of a source's items behind a stage. The leaves run once, as far as the barrier asks.
+pub(crate) fn gather<R, S, A, B, H>(
+    rt: &R,
+    alloc: Global,
+    source: S,
+    stage: &A,
+    barrier: &B,
+    run: &Run<'_, H>,
+) -> Result<Vec<A::Out>, NoMemory>
+where
+    R: Threads + Sync,
+    S: Spliterator + Drop + Send + Sync,
+    S::Item: Send,
+    A: Stage<In = S::Item> + Sync,
+    A::Out: Clone + Send + Sync,
+    B: Barrier<A::Out> + Sync,
+    H: Gate + Sync,
+    requires settings { IsLawfulRun run.now.workers run.now.target }
+    requires stage { A.ready stage.now }
+    requires barrier { B.Demand.ready barrier.now }
+    requires clones { ClonesAlike A.Out.is_clone A.Out.content }
+    ensures { IfOk result (λ kept. map A.Out.content kept.items ≡ B.value barrier.now (flat_map (A.expand stage.now) (S.items source))) }
+{
+    let Ok(plan) = Plan::make(alloc, source, run.workers, run.target) else {
+        return Err(NoMemory);
+    };
+    let list = ToList::new(alloc);
+    let gathered = run_leaves(
+        rt,
+        alloc,
+        &plan,
+        stage,
+        barrier,
+        &list,
+        run.workers,
+        run.gate,
+    )?;
+    apply_to_front(barrier, gathered.acc)
+}
+
+/// What a barrier leaves of a list of which there is a front: all of it, or as much as the barrier asks.
+fn apply_to_front<T: OrderedValue, B: Barrier<T>>(
+    barrier: &B,
+    front: Vec<T>,
+) -> Result<Vec<T>, NoMemory>
+    requires { B.Demand.ready barrier.now }
+    ensures { (whole : List T.Content) → IsOutcome (B.Demand.needed barrier.now) (B.Demand.counted barrier.now) whole (map T.content front.items) → IfOk result (λ kept. map T.content kept.items ≡ B.value barrier.now whole) }
+{
+    barrier.apply(front)
+}

@@ -1,0 +1,124 @@
+//! The value of stages over texts and what follows them.
+
+ghost use Rattle.std.specs.Prelude.{◌≡◌, IfOk, All, bytes_eq, flat_map, map, true};
+ghost use Rattle.spliterator.specs.Clones.{ClonesAlike};
+ghost use Rattle.parallel_streams.specs.Runs.{IsLawfulRun};
+ghost use Rattle.pipeline_meaning.specs.Stages.{is_text_barrier, text_stage, text_stages};
+ghost use Rattle.pipeline_value.specs.Ranges.{TextEndFits, TextStageFits};
+ghost use Rattle.pipeline_value.specs.Value.{Tells, text_end_told};
+
+use crate::gather::gather;
+use crate::numbers::number_value;
+use crate::text_end::text_end;
+use crate::told::ValueError;
+use crate::written::Written;
+use barriers::{Distinct, DropWhile, Limit, Skip, TakeWhile};
+use parallel_streams::{Run, Stream, of};
+use pipeline_language::{TextEnd, TextStage};
+use pipeline_meaning::{TextCheck, TextLength, TextSteps};
+use sources::SliceSplit;
+use spliterator::{NoMemory, OrderedValue, Spliterator, Text};
+use stages::{Map, Stage, Then};
+use std::alloc::Global;
+use std::hash::Hash;
+use std::thread::Threads;
+use stealing_pool::Gate;
+
+/// The text of the value of stages and what follows them, over a list of texts.
+pub(crate) fn text_value<'a, R: Threads + Sync, H: Gate + Sync>(
+    rt: &R,
+    alloc: Global,
+    items: Vec<&'a str>,
+    stages: &[TextStage<'a>],
+    end: &TextEnd<'a>,
+    run: &Run<'_, H>,
+) -> Result<String, ValueError>
+    requires settings { IsLawfulRun run.now.workers run.now.target }
+    requires fits { All TextStageFits stages.now }
+    requires end { TextEndFits end.now }
+    ensures { Tells (text_end_told end.now (text_stages stages.now (map (λ t. t.now) items.entry.items))) result }
+{
+    let (steps, taken) = TextSteps::front_of(alloc, stages)?;
+    let source = SliceSplit::new(items.as_slice());
+    if taken == stages.len() {
+        return end_value(rt, alloc, source, steps, end, run);
+    }
+    let kept = through_barrier(rt, alloc, source, &steps, &stages[taken], run)?;
+    drop(items);
+    text_value(rt, alloc, kept, &stages[taken + 1..], end, run)
+}
+
+/// The text of the value of what follows stages over texts, over a source's items behind a stage.
+fn end_value<T, R, S, A, H>(
+    rt: &R,
+    alloc: Global,
+    source: S,
+    stage: A,
+    end: &TextEnd<'_>,
+    run: &Run<'_, H>,
+) -> Result<String, ValueError>
+where
+    T: Text + OrderedValue + Clone + Written + Drop + Send + Sync,
+    R: Threads + Sync,
+    S: Spliterator + Drop + Send + Sync,
+    S::Item: Clone + Send + Sync,
+    A: Stage<In = S::Item, Out = T> + Drop + Sync,
+    H: Gate + Sync,
+    requires settings { IsLawfulRun run.now.workers run.now.target }
+    requires stage { A.ready stage }
+    requires clones { ClonesAlike T.is_clone T.content }
+    requires written { (t : T) → T.Written.text t ≡ T.content t }
+    requires end { TextEndFits end.now }
+    ensures { Tells (text_end_told end.now (flat_map (A.expand stage) (S.items source))) result }
+{
+    match end {
+        TextEnd::Terminal(terminal) => {
+            text_end(rt, alloc, &of(source).then(stage), terminal, run)
+        }
+        TextEnd::Lengths(body) => {
+            let lengths = Then::new(stage, Map::new(TextLength));
+            number_value(rt, alloc, source, lengths, body, run)
+        }
+    }
+}
+
+/// What a barrier leaves of a source's items behind a stage.
+fn through_barrier<T, R, S, A, H>(
+    rt: &R,
+    alloc: Global,
+    source: S,
+    stage: &A,
+    barrier: &TextStage<'_>,
+    run: &Run<'_, H>,
+) -> Result<Vec<T>, NoMemory>
+where
+    T: Text + OrderedValue + Hash + Clone + Drop + Send + Sync,
+    R: Threads + Sync,
+    S: Spliterator + Drop + Send + Sync,
+    S::Item: Send,
+    A: Stage<In = S::Item, Out = T> + Sync,
+    H: Gate + Sync,
+    requires settings { IsLawfulRun run.now.workers run.now.target }
+    requires stage { A.ready stage.now }
+    requires clones { ClonesAlike T.is_clone T.content }
+    requires same { T.same ≡ bytes_eq }
+    requires barrier { is_text_barrier barrier.now ≡ true }
+    requires fits { TextStageFits barrier.now }
+    ensures { IfOk result (λ kept. map T.content kept.items ≡ text_stage barrier.now (flat_map (A.expand stage.now) (S.items source))) }
+{
+    match *barrier {
+        TextStage::Distinct => gather(rt, alloc, source, stage, &Distinct, run),
+        TextStage::Limit(most) => gather(rt, alloc, source, stage, &Limit::new(most), run),
+        TextStage::Skip(number) => gather(rt, alloc, source, stage, &Skip::new(number), run),
+        TextStage::TakeWhile(test) => {
+            let barrier = TakeWhile::new(TextCheck::of(test));
+            gather(rt, alloc, source, stage, &barrier, run)
+        }
+        TextStage::DropWhile(test) => {
+            let barrier = DropWhile::new(TextCheck::of(test));
+            gather(rt, alloc, source, stage, &barrier, run)
+        }
+        TextStage::MapItself | TextStage::Filter(_) | TextStage::Repeat(_) | TextStage::Words =>
+            unreachable!(),
+    }
+}

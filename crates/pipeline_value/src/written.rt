@@ -1,0 +1,158 @@
+//! The texts of values, written behind one another into one text.
+ghost use Rattle.either.specs.Either.{either};
+ghost use Rattle.std.specs.Prelude.{◌≡◌, ◌++◌, ℕ, List, OnOk, string_bytes};
+ghost use Rattle.std.specs.Fmt.{signed_decimal};
+ghost use Rattle.pipeline_value.specs.Texts.{truth_text, optional_text, list_text, map_text, partition_text, pair_text};
+
+use collectors::Partition;
+use either::{Either, Left, Right};
+use indexmap::IndexMap;
+use itoa::Buffer;
+use spliterator::NoMemory;
+use std::hash::{BuildHasher, Hash};
+
+/// A value that has a text, as a pipeline's answer is written.
+///
+///     [Some(5), None].write_to(&mut out)?;      // [Optional[5], Optional.empty]
+pub trait Written {
+    // the bytes of the value's text
+    ghost text: { Self → List ℕ };
+
+    /// Writes the value's text behind what `out` holds. After a want of memory some of it may stand there.
+    fn write_to(&self, out: &mut String) -> Result<(), NoMemory>
+        ensures { OnOk result (string_bytes out.new ≡ string_bytes out.old ++ text self.now) };
+}
+
+/// Decimal, with `-` before a negative number.
+impl Written for i64 {
+    ghost text = { signed_decimal };
+
+    fn write_to(&self, out: &mut String) -> Result<(), NoMemory> {
+        let mut digits = Buffer::new();
+        out.push_str(digits.format(*self))?;
+        Ok(())
+    }
+}
+
+/// `true` or `false`.
+impl Written for bool {
+    ghost text = { truth_text };
+
+    fn write_to(&self, out: &mut String) -> Result<(), NoMemory> {
+        out.push_str(if *self { "true" } else { "false" })?;
+        Ok(())
+    }
+}
+
+/// The text as it stands.
+impl Written for &str {
+    ghost text = { λ t. t.now };
+
+    fn write_to(&self, out: &mut String) -> Result<(), NoMemory> {
+        out.push_str(self)?;
+        Ok(())
+    }
+}
+
+/// The text as it stands.
+impl Written for String {
+    ghost text = { string_bytes };
+
+    fn write_to(&self, out: &mut String) -> Result<(), NoMemory> {
+        out.push_str(self.as_str())?;
+        Ok(())
+    }
+}
+
+/// `Optional[x]` or `Optional.empty`.
+impl<T: Written> Written for Option<T> {
+    ghost text = { optional_text T.text };
+
+    fn write_to(&self, out: &mut String) -> Result<(), NoMemory> {
+        match self {
+            Some(value) => {
+                out.push_str("Optional[")?;
+                value.write_to(out)?;
+                out.push_str("]")?;
+            }
+            None => out.push_str("Optional.empty")?,
+        }
+        Ok(())
+    }
+}
+
+/// `[a, b]`.
+impl<T: Written> Written for Vec<T> {
+    ghost text = { λ v. list_text T.text v.items };
+
+    fn write_to(&self, out: &mut String) -> Result<(), NoMemory> {
+        out.push_str("[")?;
+        let mut between = "";
+        for item in self {
+            out.push_str(between)?;
+            item.write_to(out)?;
+            between = ", ";
+        }
+        out.push_str("]")?;
+        Ok(())
+    }
+}
+
+/// `{k=v, k=v}`, in the order of the entries.
+impl<K: Written + Eq + Hash, V: Written, S: BuildHasher> Written for IndexMap<K, V, S> {
+    ghost text = { λ m. map_text K.text V.text m.entries };
+
+    fn write_to(&self, out: &mut String) -> Result<(), NoMemory> {
+        out.push_str("{")?;
+        let mut between = "";
+        for (key, value) in self.iter() {
+            out.push_str(between)?;
+            key.write_to(out)?;
+            out.push_str("=")?;
+            value.write_to(out)?;
+            between = ", ";
+        }
+        out.push_str("}")?;
+        Ok(())
+    }
+}
+
+/// `{false=x, true=y}`.
+impl<R: Written> Written for Partition<R> {
+    ghost text = { λ p. partition_text (R.text p.no) (R.text p.yes) };
+
+    fn write_to(&self, out: &mut String) -> Result<(), NoMemory> {
+        out.push_str("{false=")?;
+        self.no.write_to(out)?;
+        out.push_str(", true=")?;
+        self.yes.write_to(out)?;
+        out.push_str("}")?;
+        Ok(())
+    }
+}
+
+/// The list of the two: `[x, y]`.
+impl<A: Written, B: Written> Written for (A, B) {
+    ghost text = { λ p. pair_text (A.text p.0) (B.text p.1) };
+
+    fn write_to(&self, out: &mut String) -> Result<(), NoMemory> {
+        out.push_str("[")?;
+        self.0.write_to(out)?;
+        out.push_str(", ")?;
+        self.1.write_to(out)?;
+        out.push_str("]")?;
+        Ok(())
+    }
+}
+
+/// The text of the one that is there.
+impl<A: Written, B: Written> Written for Either<A, B> {
+    ghost text = { either A.text B.text };
+
+    fn write_to(&self, out: &mut String) -> Result<(), NoMemory> {
+        match self {
+            Left(value) => value.write_to(out),
+            Right(value) => value.write_to(out),
+        }
+    }
+}
