@@ -5,6 +5,7 @@ ghost use Rattle.pipeline_meaning.specs.Functions.{text_length};
 ghost use Rattle.pipeline_meaning.specs.Summaries.{number_inner_text, text_base_text, text_inner_text, text_summary_text, text_groups_text, IsTextGroups};
 
 use crate::number_summaries::{NumberInnerCollector, number_inner};
+use crate::summarizes::grouped;
 use crate::{Adapted, Adapting, Itself, Summarizes, TextCheck, TextLength};
 use collectors::{Collector, Counting, First, GroupingBy, Joining, MappingTo, ToList};
 use either::{Either, Left, Right};
@@ -108,7 +109,7 @@ pub fn texts_by_length<'a>(
     ensures ready { ⟦<TextsByLength<'a> as Collector>⟧.ready result }
     ensures summary { (l : List (List ℕ)) → ⟦<TextsByLength<'a> as Summarizes>⟧.summary result l ≡ text_groups_text keys.Length (text_inner_text inner.entry) l }
 {
-    GroupingBy::with_hasher(alloc, TextLength, text_inner(alloc, inner), hashes)
+    grouped(alloc, TextLength, text_inner(alloc, inner), hashes)
 }
 
 /// The collector of groups of equal texts.
@@ -120,5 +121,5 @@ pub fn texts_by_themselves<'a>(
     ensures ready { ⟦<TextsByThemselves<'a> as Collector>⟧.ready result }
     ensures summary { (l : List (List ℕ)) → ⟦<TextsByThemselves<'a> as Summarizes>⟧.summary result l ≡ text_groups_text keys.Itself (text_inner_text inner.entry) l }
 {
-    GroupingBy::with_hasher(alloc, Itself, text_inner(alloc, inner), hashes)
+    grouped(alloc, Itself, text_inner(alloc, inner), hashes)
 }

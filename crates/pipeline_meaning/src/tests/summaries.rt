@@ -1,12 +1,12 @@
 //! The texts of values, and of what the language's collectors make.
 use crate::{
     Both, NumberCheck, NumberMapping, NumberMerging, Summarizes, Written, number_summary,
-    text_summary, write_result,
+    text_inner, text_lengths, texts_by_length, texts_by_themselves, write_result,
 };
 use collectors::{Collector, GroupingBy, Joining, PartitioningBy, Teeing, ToMap, ToMapStrict, collect};
 use pipeline_language::{
     NumberBase, NumberFunction, NumberInner, NumberMerge, NumberSummary, NumberTest, TextBase,
-    TextFunction, TextInner, TextSummary, TextTest,
+    TextInner,
 };
 use spliterator::NoMemory;
 use std::alloc::Global;
@@ -126,19 +126,14 @@ fn summaries_of_texts(rt: HostRuntime) -> Result<(), Fail> {
     let alloc = rt.alloc();
     let hashes = RandomState::new(&rt)?;
     let items = ["a", "", "bb"];
-    let joined = text_summary(alloc, hashes, TextSummary::Base(TextBase::Joining("+")));
+    let joined = text_inner(alloc, TextInner::Base(TextBase::Joining("+")));
     assert_eq!(rt; text_of(alloc, &joined, &items)?.as_str(), "a++bb");
-    let lengths = TextSummary::MappingLength(NumberInner::Base(NumberBase::ToList));
-    let lengths = text_summary(alloc, hashes, lengths);
+    let lengths = text_lengths(alloc, NumberInner::Base(NumberBase::ToList));
     assert_eq!(rt; text_of(alloc, &lengths, &items)?.as_str(), "[1, 0, 2]");
-    let longer = TextSummary::Filtering(TextTest::Longer(0), TextInner::Base(TextBase::ToList));
-    let longer = text_summary(alloc, hashes, longer);
-    assert_eq!(rt; text_of(alloc, &longer, &items)?.as_str(), "[a, bb]");
-    let groups = TextSummary::GroupBy(TextFunction::Length, TextInner::Base(TextBase::First));
-    let groups = text_summary(alloc, hashes, groups);
-    assert_eq!(rt; text_of(alloc, &groups, &["bb", "a", "cc"])?.as_str(), "{2=Optional[bb], 1=Optional[a]}");
-    let groups = TextSummary::GroupBy(TextFunction::Itself, TextInner::Base(TextBase::Count));
-    let groups = text_summary(alloc, hashes, groups);
+    let groups = texts_by_length(alloc, hashes, TextInner::Base(TextBase::First));
+    let text = text_of(alloc, &groups, &["bb", "a", "cc"])?;
+    assert_eq!(rt; text.as_str(), "{2=Optional[bb], 1=Optional[a]}");
+    let groups = texts_by_themselves(alloc, hashes, TextInner::Base(TextBase::Count));
     assert_eq!(rt; text_of(alloc, &groups, &["b", "", "b"])?.as_str(), "{b=2, =1}");
     let framed = Joining::<&str>::new(alloc, ",", "[", "]");
     assert_eq!(rt; text_of(alloc, &framed, &[])?.as_str(), "[]");
