@@ -88,9 +88,23 @@ fn a_sum_runs_the_leaves_of_the_split_rule(rt: HostRuntime) -> Result<(), Fail> 
 }
 
 #[test]
-fn a_count_runs_no_leaf(rt: HostRuntime) -> Result<(), Fail> {
-    let file = b"pipeline 1\nrange 0 4611686018427387904\ncount\n";
-    assert_eq!(rt; leaves(&rt, rt.alloc(), file, 4, 0), (0, 0, 0));
+fn a_count_of_a_known_size_runs_no_leaf(rt: HostRuntime) -> Result<(), Fail> {
+    let files: [&[u8]; 4] = [
+        b"pipeline 1\nrange 0 4611686018427387904\ncount\n",
+        b"pipeline 1\nrange 0 4611686018427387904\nmap add 1\nmap mod 7\ncount\n",
+        b"pipeline 1\nrange 0 4611686018427387904\nskip 3\nlimit 100\nmap add 1\ncount\n",
+        b"pipeline 1\nlines 2\na\nb\nmap self\nmap length\ncount\n",
+    ];
+    for (place, file) in files.iter().enumerate() {
+        assert_eq!(rt; leaves(&rt, rt.alloc(), file, 4, 0), (0, 0, 0), "{place}");
+        assert_eq!(rt; leaves(&rt, rt.alloc(), file, 4, 1), (0, 0, 0), "{place}");
+    }
+    Ok(())
+}
+
+#[test]
+fn a_fault_runs_no_leaf(rt: HostRuntime) -> Result<(), Fail> {
+    let file = b"pipeline 1\nrange 0 10\nsum\nsum\n";
     assert_eq!(rt; leaves(&rt, rt.alloc(), file, 4, 1), (0, 0, 0));
     Ok(())
 }

@@ -71,6 +71,9 @@ Status:
   4  a key of tomapstrict that comes twice
 ";
 
+/// A file whose key 3 is the first that comes twice.
+const REPEATS: &[u8] = b"pipeline 2\nnumbers 1 2 3 4 3 1\ntomapstrict mod 10 self\n";
+
 /// A program's end: its status, what it wrote, and what it told.
 #[derive(Debug, Drop)]
 struct End {
@@ -92,7 +95,8 @@ fn program<R: Threads + Sync>(
     let opener = |name: &str| match name {
         "row" => Some(Counted::new(Script::new(alloc, row, 100, 0))),
         "torn" => Some(Counted::new(Script::new(alloc, row, 4, 2))),
-        "bad" => Some(Counted::new(Script::new(alloc, b"pipeline 2\n", 100, 0))),
+        "bad" => Some(Counted::new(Script::new(alloc, b"pipeline 3\n", 100, 0))),
+        "repeats" => Some(Counted::new(Script::new(alloc, REPEATS, 100, 0))),
         _ => None,
     };
     let status = command(rt, alloc, words, opener, &mut output, &mut error);
@@ -107,7 +111,7 @@ fn program<R: Threads + Sync>(
 
 #[test]
 fn ends_as_the_run_does(rt: HostRuntime) -> Result<(), Fail> {
-    let cases: [(&[&str], u64, u8, &str, &str); 9] = [
+    let cases: [(&[&str], u64, u8, &str, &str); 10] = [
         (&["row"], 0, 0, "15\n", ""),
         (
             &["row", "--workers", "64", "--target", "1"],
@@ -125,6 +129,7 @@ fn ends_as_the_run_does(rt: HostRuntime) -> Result<(), Fail> {
             "",
         ),
         (&["bad"], 0, 2, "", "line 1: BAD_VERSION\n"),
+        (&["repeats"], 0, 4, "", "duplicate key 3\n"),
         (&["none"], 0, 3, "", "read failed\n"),
         (&["torn"], 0, 3, "", "read failed\n"),
         (&["row"], 1, 3, "", "write failed\n"),
