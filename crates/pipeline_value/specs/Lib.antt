@@ -1,3 +1,4 @@
+pub mod FitLaws
 pub mod Ranges
 pub mod Summaries
 pub mod Texts
