@@ -1,3 +1,4 @@
+pub mod ContentLaws
 pub mod FitLaws
 pub mod Ranges
 pub mod Summaries
