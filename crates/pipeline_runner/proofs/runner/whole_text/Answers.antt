@@ -13,4 +13,5 @@ returns-in_err-text-clause-errors g c =
     value_passed_on c.args.file.now c.in_ok-pipeline.pipeline c.in_err-text.field-0.0 _ c.from_residual-in_err-text.result c.in_ok-pipeline.ensures.meaning c.in_err-text.ensures p.2 p.1
 
 pub returns-clause-text : goal.returns-clause-text
+unfolding lib.Utf8.encode
 returns-clause-text g c = (c.in_ok-pipeline.pipeline, string_bytes c.in_ok-text.text, c.in_ok-pipeline.ensures.meaning, c.in_ok-text.ensures, c.in_ok-push.ensures.bytes)
