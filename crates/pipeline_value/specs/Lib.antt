@@ -1,3 +1,4 @@
+pub mod KnownSizes
 pub mod Ranges
 pub mod Summaries
 pub mod Texts
