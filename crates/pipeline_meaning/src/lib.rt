@@ -31,6 +31,5 @@ pub use text_summaries::{
 };
 pub use written::Written;
 
-
 #[cfg(test)]
 mod tests;

@@ -2,11 +2,9 @@
 ghost use Rattle.std.specs.Prelude.{◌≡◌, ℕ, ℤ, List};
 ghost use Rattle.pipeline_meaning.specs.Summaries.{number_base_text, number_inner_text, number_summary_text};
 
-use crate::{Adapted, Adapting, Itself, NumberCheck, NumberMapping, NumberMerging, Summarizes};
 use crate::summarizes::grouped;
-use collectors::{
-    Collector, Counting, GroupingBy, Reducing, SummingLong, ToList,
-};
+use crate::{Adapted, Adapting, Itself, NumberCheck, NumberMapping, NumberMerging, Summarizes};
+use collectors::{Collector, Counting, GroupingBy, Reducing, SummingLong, ToList};
 use either::{Either, Left, Right};
 use pipeline_language::{NumberBase, NumberInner, NumberMerge, NumberSummary};
 use std::alloc::Global;

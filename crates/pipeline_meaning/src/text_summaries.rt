@@ -57,9 +57,7 @@ pub fn text_inner<'a>(alloc: Global, inner: TextInner<'a>) -> TextInnerCollector
         TextInner::MappingItself(base) => {
             Left(Adapted::new(Adapting::Nothing, text_base(alloc, base)))
         }
-        TextInner::MappingLength(base) => {
-            text_lengths(alloc, NumberInner::Base(base))
-        }
+        TextInner::MappingLength(base) => { text_lengths(alloc, NumberInner::Base(base)) }
         TextInner::Filtering(test, base) => Left(Adapted::new(
             Adapting::Filtering(TextCheck::of(test)),
             text_base(alloc, base),

@@ -3,7 +3,9 @@ use crate::{
     Both, NumberCheck, NumberMapping, NumberMerging, Summarizes, Written, number_summary,
     text_inner, text_lengths, texts_by_length, texts_by_themselves, write_result,
 };
-use collectors::{Collector, GroupingBy, Joining, PartitioningBy, Teeing, ToMap, ToMapStrict, collect};
+use collectors::{
+    Collector, GroupingBy, Joining, PartitioningBy, Teeing, ToMap, ToMapStrict, collect,
+};
 use pipeline_language::{
     NumberBase, NumberFunction, NumberInner, NumberMerge, NumberSummary, NumberTest, TextBase,
     TextInner,
@@ -47,14 +49,38 @@ fn bases_of_numbers(rt: HostRuntime) -> Result<(), Fail> {
     let alloc = rt.alloc();
     let hashes = RandomState::new(&rt)?;
     let items = [2, 5, 3];
-    assert_eq!(rt; numbers(alloc, hashes, base(NumberBase::Count), &items)?.as_str(), "3");
-    assert_eq!(rt; numbers(alloc, hashes, base(NumberBase::Sum), &items)?.as_str(), "10");
-    assert_eq!(rt; numbers(alloc, hashes, base(NumberBase::Max), &items)?.as_str(), "Optional[5]");
-    assert_eq!(rt; numbers(alloc, hashes, base(NumberBase::Min), &items)?.as_str(), "Optional[2]");
-    assert_eq!(rt; numbers(alloc, hashes, base(NumberBase::First), &items)?.as_str(), "Optional[2]");
-    assert_eq!(rt; numbers(alloc, hashes, base(NumberBase::ToList), &items)?.as_str(), "[2, 5, 3]");
-    assert_eq!(rt; numbers(alloc, hashes, base(NumberBase::Max), &[])?.as_str(), "Optional.empty");
-    assert_eq!(rt; numbers(alloc, hashes, base(NumberBase::ToList), &[])?.as_str(), "[]");
+    assert_eq!(rt;
+        numbers(alloc, hashes, base(NumberBase::Count), &items)?.as_str(),
+        "3"
+    );
+    assert_eq!(rt;
+        numbers(alloc, hashes, base(NumberBase::Sum), &items)?.as_str(),
+        "10"
+    );
+    assert_eq!(rt;
+        numbers(alloc, hashes, base(NumberBase::Max), &items)?.as_str(),
+        "Optional[5]"
+    );
+    assert_eq!(rt;
+        numbers(alloc, hashes, base(NumberBase::Min), &items)?.as_str(),
+        "Optional[2]"
+    );
+    assert_eq!(rt;
+        numbers(alloc, hashes, base(NumberBase::First), &items)?.as_str(),
+        "Optional[2]"
+    );
+    assert_eq!(rt;
+        numbers(alloc, hashes, base(NumberBase::ToList), &items)?.as_str(),
+        "[2, 5, 3]"
+    );
+    assert_eq!(rt;
+        numbers(alloc, hashes, base(NumberBase::Max), &[])?.as_str(),
+        "Optional.empty"
+    );
+    assert_eq!(rt;
+        numbers(alloc, hashes, base(NumberBase::ToList), &[])?.as_str(),
+        "[]"
+    );
     Ok(())
 }
 
@@ -92,16 +118,25 @@ fn partitions_pairs_and_maps(rt: HostRuntime) -> Result<(), Fail> {
     );
     let inner = number_summary(alloc, hashes, tens);
     let parts = PartitioningBy::new(NumberCheck::of(NumberTest::Less(3)), inner);
-    assert_eq!(rt; text_of(alloc, &parts, &[1, 2, 3])?.as_str(), "{false=[30], true=[10, 20]}");
+    assert_eq!(rt;
+        text_of(alloc, &parts, &[1, 2, 3])?.as_str(),
+        "{false=[30], true=[10, 20]}"
+    );
     let max = number_summary(alloc, hashes, base(NumberBase::Max));
     let min = number_summary(alloc, hashes, base(NumberBase::Min));
     let both = Teeing::new(max, min, Both);
-    assert_eq!(rt; text_of(alloc, &both, &[2, 5, 3])?.as_str(), "[Optional[5], Optional[2]]");
+    assert_eq!(rt;
+        text_of(alloc, &both, &[2, 5, 3])?.as_str(),
+        "[Optional[5], Optional[2]]"
+    );
     let key = NumberMapping::of(NumberFunction::Mod(2));
     let value = NumberMapping::of(NumberFunction::Itself);
     let merge = NumberMerging::of(NumberMerge::Last);
     let last = ToMap::<i64, i64, _, _, _, _>::with_hasher(alloc, key, value, merge, hashes);
-    assert_eq!(rt; text_of(alloc, &last, &[1, 2, 3, 4])?.as_str(), "{1=3, 0=4}");
+    assert_eq!(rt;
+        text_of(alloc, &last, &[1, 2, 3, 4])?.as_str(),
+        "{1=3, 0=4}"
+    );
     Ok(())
 }
 
@@ -134,7 +169,10 @@ fn summaries_of_texts(rt: HostRuntime) -> Result<(), Fail> {
     let text = text_of(alloc, &groups, &["bb", "a", "cc"])?;
     assert_eq!(rt; text.as_str(), "{2=Optional[bb], 1=Optional[a]}");
     let groups = texts_by_themselves(alloc, hashes, TextInner::Base(TextBase::Count));
-    assert_eq!(rt; text_of(alloc, &groups, &["b", "", "b"])?.as_str(), "{b=2, =1}");
+    assert_eq!(rt;
+        text_of(alloc, &groups, &["b", "", "b"])?.as_str(),
+        "{b=2, =1}"
+    );
     let framed = Joining::<&str>::new(alloc, ",", "[", "]");
     assert_eq!(rt; text_of(alloc, &framed, &[])?.as_str(), "[]");
     Ok(())
@@ -148,6 +186,9 @@ fn texts_of_values(rt: HostRuntime) -> Result<(), Fail> {
     false.write_to(&mut text)?;
     "as it stands".write_to(&mut text)?;
     (Some(5), -7).write_to(&mut text)?;
-    assert_eq!(rt; text.as_str(), "-9223372036854775808truefalseas it stands[Optional[5], -7]");
+    assert_eq!(rt;
+        text.as_str(),
+        "-9223372036854775808truefalseas it stands[Optional[5], -7]"
+    );
     Ok(())
 }
