@@ -6,6 +6,7 @@ use crate::{Counted, Gate, Settings, run};
 use std::alloc::Global;
 use std::sync::atomic::{AtomicU64, Ordering};
 use std::test::Fail;
+use std::random::RandomSource;
 use std::thread::Threads;
 
 /// Counts the leaves that were entered and ended, and the calls of no worker.
@@ -45,7 +46,7 @@ impl Gate for Counting {
 }
 
 /// How many leaves a run enters and ends, and how many calls were no worker's.
-fn leaves<R: Threads + Sync>(
+fn leaves<R: Threads + RandomSource + Sync>(
     rt: &R,
     alloc: Global,
     file: &[u8],

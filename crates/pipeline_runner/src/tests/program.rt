@@ -4,6 +4,7 @@ use super::Script;
 use crate::{Counted, command};
 use std::alloc::{AllocError, Global};
 use std::test::Fail;
+use std::random::RandomSource;
 use std::thread::Threads;
 
 const HELP: &str = "Runs a pipeline file, and writes its answer
@@ -83,7 +84,7 @@ struct End {
 }
 
 /// How the program ends, with an output that fails at one call.
-fn program<R: Threads + Sync>(
+fn program<R: Threads + RandomSource + Sync>(
     rt: &R,
     alloc: Global,
     words: &[&str],

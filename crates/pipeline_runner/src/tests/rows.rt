@@ -6,6 +6,7 @@ use super::answer;
 use crate::Settings;
 use std::alloc::{AllocError, Global};
 use std::test::Fail;
+use std::random::RandomSource;
 use std::thread::Threads;
 
 /// The lines behind `pipeline 1`, and the answer: sums, products, counts and the like of numbers.
@@ -157,7 +158,7 @@ fn file_of(alloc: Global, first: &[u8], lines: &[u8]) -> Result<Vec<u8>, AllocEr
 }
 
 /// The first row with another answer, and that answer.
-fn first_wrong<R: Threads + Sync>(
+fn first_wrong<R: Threads + RandomSource + Sync>(
     rt: &R,
     alloc: Global,
     first: &[u8],
@@ -178,7 +179,7 @@ fn first_wrong<R: Threads + Sync>(
 }
 
 /// Each row has its answer with 1, 2, 7 and 64 workers, at target 1 and at the one that is chosen.
-fn all_right<R: Threads + Sync>(
+fn all_right<R: Threads + RandomSource + Sync>(
     rt: &R,
     alloc: Global,
     first: &[u8],
