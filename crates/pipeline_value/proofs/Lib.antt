@@ -1,3 +1,4 @@
-mod Separated
+pub mod Nested
 pub mod Stages
+pub mod Strict
 pub mod Telling

@@ -1,4 +1,2 @@
 pub mod Ranges
-pub mod Summaries
-pub mod Texts
 pub mod Value

@@ -1,14 +1,17 @@
 //! The value of a pipeline, over the library's streams and pool.
 #![tactic(auto)]
 
+mod collected;
 mod gather;
+mod maps;
+mod nested;
 mod number_end;
+mod number_groups;
 mod numbers;
 mod text_end;
 mod texts;
 mod told;
 mod value;
-mod written;
 
 pub use told::ValueError;
 pub use value::pipeline_value;

@@ -14,13 +14,15 @@ use pipeline_language::{NumberBody, NumberSource, Pipeline};
 use sources::RangeSplit;
 use stages::Nothing;
 use std::alloc::Global;
+use std::hash::RandomState;
 use std::thread::Threads;
 use stealing_pool::Gate;
 
-/// The text of a pipeline's value.
+/// The text of a pipeline's value. Keys are hashed by `hashes`, since whoever writes a file picks them.
 pub fn pipeline_value<R: Threads + Sync, H: Gate + Sync>(
     rt: &R,
     alloc: Global,
+    hashes: RandomState,
     pipeline: Pipeline<'_>,
     run: &Run<'_, H>,
 ) -> Result<String, ValueError>
@@ -29,9 +31,17 @@ pub fn pipeline_value<R: Threads + Sync, H: Gate + Sync>(
     ensures { Tells (pipeline_told pipeline.entry) result }
 {
     match pipeline {
-        Pipeline::Numbers(source, body) => source_value(rt, alloc, source, &body, run),
+        Pipeline::Numbers(source, body) => source_value(rt, alloc, hashes, source, &body, run),
         Pipeline::Texts(texts, body) => {
-            text_value(rt, alloc, texts, body.stages.as_slice(), &body.end, run)
+            text_value(
+                rt,
+                alloc,
+                hashes,
+                texts,
+                body.stages.as_slice(),
+                &body.end,
+                run,
+            )
         }
     }
 }
@@ -40,6 +50,7 @@ pub fn pipeline_value<R: Threads + Sync, H: Gate + Sync>(
 fn source_value<R: Threads + Sync, H: Gate + Sync>(
     rt: &R,
     alloc: Global,
+    hashes: RandomState,
     source: NumberSource,
     body: &NumberBody,
     run: &Run<'_, H>,
@@ -50,12 +61,13 @@ fn source_value<R: Threads + Sync, H: Gate + Sync>(
     ensures { Tells (number_body_told body.now (source_numbers source)) result }
 {
     match source {
-        NumberSource::Range(start, end) => range_value(rt, alloc, start, end, body, run),
-        NumberSource::Closed(start, last) => closed_value(rt, alloc, start, last, body, run),
+        NumberSource::Range(start, end) => range_value(rt, alloc, hashes, start, end, body, run),
+        NumberSource::Closed(start, last) => closed_value(rt, alloc, hashes, start, last, body, run),
         NumberSource::Numbers(numbers) => {
             list_value(
                 rt,
                 alloc,
+                hashes,
                 numbers,
                 body.stages.as_slice(),
                 &body.terminal,
@@ -69,6 +81,7 @@ fn source_value<R: Threads + Sync, H: Gate + Sync>(
 fn range_value<R: Threads + Sync, H: Gate + Sync>(
     rt: &R,
     alloc: Global,
+    hashes: RandomState,
     start: i64,
     end: i64,
     body: &NumberBody,
@@ -80,13 +93,14 @@ fn range_value<R: Threads + Sync, H: Gate + Sync>(
     ensures { Tells (number_body_told body.now (integers_between start end)) result }
 {
     let range = RangeSplit::range(start, end).unwrap();
-    number_value(rt, alloc, range, Nothing::new(), body, run)
+    number_value(rt, alloc, hashes, range, Nothing::new(), body, run)
 }
 
 /// The same up to and including `last`.
 fn closed_value<R: Threads + Sync, H: Gate + Sync>(
     rt: &R,
     alloc: Global,
+    hashes: RandomState,
     start: i64,
     last: i64,
     body: &NumberBody,
@@ -98,5 +112,5 @@ fn closed_value<R: Threads + Sync, H: Gate + Sync>(
     ensures { Tells (number_body_told body.now (integers_between start (last +ℤ pos 1))) result }
 {
     let range = RangeSplit::closed(start, last).unwrap();
-    number_value(rt, alloc, range, Nothing::new(), body, run)
+    number_value(rt, alloc, hashes, range, Nothing::new(), body, run)
 }
