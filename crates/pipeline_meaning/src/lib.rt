@@ -23,7 +23,7 @@ pub use number_summaries::{
     number_summary,
 };
 pub use spelled::Spelled;
-pub use summarizes::{Both, Summarizes, write_result};
+pub use summarizes::{Both, Summarizes, grouped, write_result};
 pub use text_steps::TextSteps;
 pub use text_summaries::{
     TextBaseCollector, TextInnerCollector, TextPlainCollector, TextsByLength, TextsByThemselves,

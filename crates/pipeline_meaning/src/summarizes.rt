@@ -47,7 +47,7 @@ where
 }
 
 /// Groups by a hasher, with the text of the groups in terms of the key's and the downstream's.
-pub(crate) fn grouped<D: Summarizes, K: Mapping<D::Item>, S: BuildHasher + Copy>(
+pub fn grouped<D: Summarizes, K: Mapping<D::Item>, S: BuildHasher + Copy>(
     alloc: Global,
     key: K,
     downstream: D,

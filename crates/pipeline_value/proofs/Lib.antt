@@ -1,4 +1,5 @@
 pub mod KnownSizes
-mod Separated
+pub mod Nested
 pub mod Stages
+pub mod Strict
 pub mod Telling

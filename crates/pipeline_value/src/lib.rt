@@ -1,15 +1,18 @@
 //! The value of a pipeline, over the library's streams and pool.
 #![tactic(auto)]
 
+mod collected;
 mod gather;
 mod known_size;
+mod maps;
+mod nested;
 mod number_end;
+mod number_groups;
 mod numbers;
 mod text_end;
 mod texts;
 mod told;
 mod value;
-mod written;
 
 pub use told::ValueError;
 pub use value::pipeline_value;

@@ -3,13 +3,17 @@
 ghost use Rattle.parallel_streams.specs.Runs.{IsLawfulRun};
 ghost use Rattle.pipeline_value.specs.Value.{Tells, number_told};
 
+use crate::collected::collected;
+use crate::maps::{merged_value, strict_value};
+use crate::number_groups::{number_groups, number_pair, number_parts};
 use crate::told::{ValueError, told};
 use collectors::ToList;
 use parallel_streams::{Run, Stream};
 use pipeline_language::NumberTerminal;
-use pipeline_meaning::NumberCheck;
+use pipeline_meaning::{NumberCheck, NumberMapping, NumberMerging};
 use stages::{Max, Min, WrapAdd, WrapMul};
 use std::alloc::Global;
+use std::hash::RandomState;
 use std::thread::Threads;
 use stealing_pool::Gate;
 
@@ -17,6 +21,7 @@ use stealing_pool::Gate;
 pub(crate) fn number_end<R, X, H>(
     rt: &R,
     alloc: Global,
+    hashes: RandomState,
     stream: &X,
     terminal: &NumberTerminal,
     run: &Run<'_, H>,
@@ -54,10 +59,28 @@ where
             alloc,
             &stream.none_match(rt, alloc, run, &NumberCheck::of(test))?,
         ),
-        NumberTerminal::GroupBy(_, _)
-        | NumberTerminal::Partition(_, _)
-        | NumberTerminal::ToMap(_, _, _)
-        | NumberTerminal::ToMapStrict(_, _)
-        | NumberTerminal::Teeing(_, _) => Err(ValueError::NoMemory),
+        NumberTerminal::GroupBy(function, summary) => {
+            let groups = number_groups(alloc, hashes, function, summary);
+            collected(rt, alloc, stream, &groups, run)
+        }
+        NumberTerminal::Partition(test, summary) => {
+            let parts = number_parts(alloc, hashes, test, summary);
+            collected(rt, alloc, stream, &parts, run)
+        }
+        NumberTerminal::ToMap(key, value, merge) => {
+            let key = NumberMapping::of(key);
+            let value = NumberMapping::of(value);
+            let merge = NumberMerging::of(merge);
+            merged_value(rt, alloc, hashes, stream, key, value, merge, run)
+        }
+        NumberTerminal::ToMapStrict(key, value) => {
+            let key = NumberMapping::of(key);
+            let value = NumberMapping::of(value);
+            strict_value(rt, alloc, hashes, stream, key, value, run)
+        }
+        NumberTerminal::Teeing(one, other) => {
+            let pair = number_pair(alloc, hashes, one, other);
+            collected(rt, alloc, stream, &pair, run)
+        }
     }
 }

@@ -17,6 +17,7 @@ use sources::SliceSplit;
 use spliterator::{NoMemory, Spliterator};
 use stages::{Stage, Then};
 use std::alloc::Global;
+use std::hash::RandomState;
 use std::thread::Threads;
 use stealing_pool::Gate;
 
@@ -24,6 +25,7 @@ use stealing_pool::Gate;
 pub(crate) fn number_value<R, S, A, H>(
     rt: &R,
     alloc: Global,
+    hashes: RandomState,
     source: S,
     front: A,
     body: &NumberBody,
@@ -44,16 +46,17 @@ where
     let (steps, taken) = NumberSteps::front_of(alloc, stages)?;
     let stage = Then::new(front, steps);
     if taken == stages.len() {
-        return number_end(rt, alloc, &of(source).then(stage), &body.terminal, run);
+        return number_end(rt, alloc, hashes, &of(source).then(stage), &body.terminal, run);
     }
     let items = through_barrier(rt, alloc, source, &stage, &stages[taken], run)?;
-    list_value(rt, alloc, items, &stages[taken + 1..], &body.terminal, run)
+    list_value(rt, alloc, hashes, items, &stages[taken + 1..], &body.terminal, run)
 }
 
 /// The text of the value of stages and a terminal, over a list.
 pub(crate) fn list_value<R: Threads + Sync, H: Gate + Sync>(
     rt: &R,
     alloc: Global,
+    hashes: RandomState,
     items: Vec<i64>,
     stages: &[NumberStage],
     terminal: &NumberTerminal,
@@ -66,11 +69,11 @@ pub(crate) fn list_value<R: Threads + Sync, H: Gate + Sync>(
     let (steps, taken) = NumberSteps::front_of(alloc, stages)?;
     let source = SliceSplit::new(items.as_slice());
     if taken == stages.len() {
-        return number_end(rt, alloc, &of(source).then(steps), terminal, run);
+        return number_end(rt, alloc, hashes, &of(source).then(steps), terminal, run);
     }
     let kept = through_barrier(rt, alloc, source, &steps, &stages[taken], run)?;
     drop(items);
-    list_value(rt, alloc, kept, &stages[taken + 1..], terminal, run)
+    list_value(rt, alloc, hashes, kept, &stages[taken + 1..], terminal, run)
 }
 
 /// What a barrier leaves of a source's items behind a stage.

@@ -6,11 +6,10 @@ ghost use Rattle.parallel_streams.specs.Runs.{IsLawfulRun};
 ghost use Rattle.pipeline_value.specs.Value.{Tells, text_told};
 
 use crate::told::{ValueError, told};
-use crate::written::Written;
 use collectors::{Joining, ToList};
 use parallel_streams::{Run, Stream};
 use pipeline_language::TextTerminal;
-use pipeline_meaning::TextCheck;
+use pipeline_meaning::{TextCheck, Written};
 use spliterator::{OrderedValue, Text};
 use std::alloc::Global;
 use std::thread::Threads;

@@ -11,16 +11,15 @@ use crate::gather::gather;
 use crate::numbers::number_value;
 use crate::text_end::text_end;
 use crate::told::ValueError;
-use crate::written::Written;
 use barriers::{Distinct, DropWhile, Limit, Skip, TakeWhile};
 use parallel_streams::{Run, Stream, of};
 use pipeline_language::{TextEnd, TextStage};
-use pipeline_meaning::{TextCheck, TextLength, TextSteps};
+use pipeline_meaning::{TextCheck, TextLength, TextSteps, Written};
 use sources::SliceSplit;
 use spliterator::{NoMemory, OrderedValue, Spliterator, Text};
 use stages::{Map, Stage, Then};
 use std::alloc::Global;
-use std::hash::Hash;
+use std::hash::{Hash, RandomState};
 use std::thread::Threads;
 use stealing_pool::Gate;
 
@@ -28,6 +27,7 @@ use stealing_pool::Gate;
 pub(crate) fn text_value<'a, R: Threads + Sync, H: Gate + Sync>(
     rt: &R,
     alloc: Global,
+    hashes: RandomState,
     items: Vec<&'a str>,
     stages: &[TextStage<'a>],
     end: &TextEnd<'a>,
@@ -41,17 +41,18 @@ pub(crate) fn text_value<'a, R: Threads + Sync, H: Gate + Sync>(
     let (steps, taken) = TextSteps::front_of(alloc, stages)?;
     let source = SliceSplit::new(items.as_slice());
     if taken == stages.len() {
-        return end_value(rt, alloc, source, steps, end, run);
+        return end_value(rt, alloc, hashes, source, steps, end, run);
     }
     let kept = through_barrier(rt, alloc, source, &steps, &stages[taken], run)?;
     drop(items);
-    text_value(rt, alloc, kept, &stages[taken + 1..], end, run)
+    text_value(rt, alloc, hashes, kept, &stages[taken + 1..], end, run)
 }
 
 /// The text of the value of what follows stages over texts, over a source's items behind a stage.
 fn end_value<T, R, S, A, H>(
     rt: &R,
     alloc: Global,
+    hashes: RandomState,
     source: S,
     stage: A,
     end: &TextEnd<'_>,
@@ -77,7 +78,7 @@ where
         }
         TextEnd::Lengths(body) => {
             let lengths = Then::new(stage, Map::new(TextLength));
-            number_value(rt, alloc, source, lengths, body, run)
+            number_value(rt, alloc, hashes, source, lengths, body, run)
         }
     }
 }

@@ -4,7 +4,7 @@ ghost use Rattle.std.specs.Prelude.{◌≡◌, Ok, IfOk, string_bytes};
 ghost use Rattle.pipeline_value.specs.Value.{Tells};
 ghost use Rattle.pipeline_value.specs.declared.told.ValueError.TheVariants as variants;
 
-use crate::written::Written;
+use pipeline_meaning::Written;
 use parallel_streams::StreamError;
 use spliterator::NoMemory;
 use std::alloc::{AllocError, Global};

@@ -15,13 +15,16 @@ use pipeline_language::{NumberBody, NumberSource, Pipeline};
 use sources::RangeSplit;
 use stages::Nothing;
 use std::alloc::Global;
+use std::hash::RandomState;
 use std::thread::Threads;
 use stealing_pool::Gate;
 
-/// The text of a pipeline's value. A count that is known from the source's size runs no leaf.
+/// The text of a pipeline's value. Keys are hashed by `hashes`, since whoever writes a file picks them. A count that is known from the
+/// source's size runs no leaf.
 pub fn pipeline_value<R: Threads + Sync, H: Gate + Sync>(
     rt: &R,
     alloc: Global,
+    hashes: RandomState,
     pipeline: Pipeline<'_>,
     run: &Run<'_, H>,
 ) -> Result<String, ValueError>
@@ -33,9 +36,17 @@ pub fn pipeline_value<R: Threads + Sync, H: Gate + Sync>(
         return told(alloc, &count);
     }
     match pipeline {
-        Pipeline::Numbers(source, body) => source_value(rt, alloc, source, &body, run),
+        Pipeline::Numbers(source, body) => source_value(rt, alloc, hashes, source, &body, run),
         Pipeline::Texts(texts, body) => {
-            text_value(rt, alloc, texts, body.stages.as_slice(), &body.end, run)
+            text_value(
+                rt,
+                alloc,
+                hashes,
+                texts,
+                body.stages.as_slice(),
+                &body.end,
+                run,
+            )
         }
     }
 }
@@ -44,6 +55,7 @@ pub fn pipeline_value<R: Threads + Sync, H: Gate + Sync>(
 fn source_value<R: Threads + Sync, H: Gate + Sync>(
     rt: &R,
     alloc: Global,
+    hashes: RandomState,
     source: NumberSource,
     body: &NumberBody,
     run: &Run<'_, H>,
@@ -54,12 +66,13 @@ fn source_value<R: Threads + Sync, H: Gate + Sync>(
     ensures { Tells (number_body_told body.now (source_numbers source)) result }
 {
     match source {
-        NumberSource::Range(start, end) => range_value(rt, alloc, start, end, body, run),
-        NumberSource::Closed(start, last) => closed_value(rt, alloc, start, last, body, run),
+        NumberSource::Range(start, end) => range_value(rt, alloc, hashes, start, end, body, run),
+        NumberSource::Closed(start, last) => closed_value(rt, alloc, hashes, start, last, body, run),
         NumberSource::Numbers(numbers) => {
             list_value(
                 rt,
                 alloc,
+                hashes,
                 numbers,
                 body.stages.as_slice(),
                 &body.terminal,
@@ -73,6 +86,7 @@ fn source_value<R: Threads + Sync, H: Gate + Sync>(
 fn range_value<R: Threads + Sync, H: Gate + Sync>(
     rt: &R,
     alloc: Global,
+    hashes: RandomState,
     start: i64,
     end: i64,
     body: &NumberBody,
@@ -84,13 +98,14 @@ fn range_value<R: Threads + Sync, H: Gate + Sync>(
     ensures { Tells (number_body_told body.now (integers_between start end)) result }
 {
     let range = RangeSplit::range(start, end).unwrap();
-    number_value(rt, alloc, range, Nothing::new(), body, run)
+    number_value(rt, alloc, hashes, range, Nothing::new(), body, run)
 }
 
 /// The same up to and including `last`.
 fn closed_value<R: Threads + Sync, H: Gate + Sync>(
     rt: &R,
     alloc: Global,
+    hashes: RandomState,
     start: i64,
     last: i64,
     body: &NumberBody,
@@ -102,5 +117,5 @@ fn closed_value<R: Threads + Sync, H: Gate + Sync>(
     ensures { Tells (number_body_told body.now (integers_between start (last +ℤ pos 1))) result }
 {
     let range = RangeSplit::closed(start, last).unwrap();
-    number_value(rt, alloc, range, Nothing::new(), body, run)
+    number_value(rt, alloc, hashes, range, Nothing::new(), body, run)
 }

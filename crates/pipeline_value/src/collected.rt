@@ -1,0 +1,55 @@
+//! What collectors make of a stream, told by its text.
+
+ghost use Rattle.std.specs.Prelude.{◌≡◌, Ok, List};
+ghost use Rattle.parallel_streams.specs.Runs.{IsLawfulRun};
+ghost use Rattle.pipeline_value.specs.Value.{Tells};
+
+use crate::told::ValueError;
+use collectors::Collector;
+use parallel_streams::{Run, Stream};
+use pipeline_meaning::{Summarizes, Written, write_result};
+use std::alloc::Global;
+use std::thread::Threads;
+use stealing_pool::Gate;
+
+/// The text of what a collector makes of a stream.
+pub(crate) fn collected<R, X, C, H>(
+    rt: &R,
+    alloc: Global,
+    stream: &X,
+    collector: &C,
+    run: &Run<'_, H>,
+) -> Result<String, ValueError>
+where
+    R: Threads + Sync,
+    X: Stream + Sync,
+    X::Item: Send + Sync,
+    X::Progress: Send + Sync,
+    X::Part: Send,
+    C: Summarizes + Collector<Item = X::Item> + Sync,
+    C::Acc: Send,
+    C::Out: Written + Send,
+    H: Gate + Sync,
+    requires settings { IsLawfulRun run.now.workers run.now.target }
+    requires stream { X.ready stream.now }
+    requires collector { C.ready collector.now }
+    ensures { Tells (Ok (C.summary collector.now (X.value stream.now))) result }
+{
+    let made = stream.collect(rt, alloc, run, collector)?;
+    told_summary(alloc, collector, &made)
+}
+
+/// The text of what a collector made.
+fn told_summary<C: Summarizes>(
+    alloc: Global,
+    collector: &C,
+    made: &C::Out,
+) -> Result<String, ValueError>
+where
+    C::Out: Written,
+    ensures { (l : List C.Item.Content) → C.gives collector.now l made.now → Tells (Ok (C.summary collector.now l)) result }
+{
+    let mut text = String::new(alloc);
+    write_result(collector, made, &mut text)?;
+    Ok(text)
+}
