@@ -1,5 +1,7 @@
 pub mod ContentLaws
 pub mod FitLaws
 pub mod KnownSizes
+pub mod NumberContents
 pub mod Ranges
+pub mod TextContents
 pub mod Value
