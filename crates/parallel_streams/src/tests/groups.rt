@@ -17,7 +17,11 @@ use std::thread::Threads;
 use stealing_pool::NoGate;
 
 /// Checks the entries of a map, in their order.
-pub fn check_entries<V: PartialEq>(rt: &impl Abort, found: &IndexMap<i64, V>, expected: &[(i64, V)]) {
+pub fn check_entries<V: PartialEq>(
+    rt: &impl Abort,
+    found: &IndexMap<i64, V>,
+    expected: &[(i64, V)],
+) {
     assert_eq!(rt; found.len(), expected.len());
     for ((key, value), entry) in found.iter().zip(expected) {
         assert_eq!(rt; *key, entry.0);
