@@ -1,4 +1,4 @@
-pub mod Nested
+pub mod Parts
 pub mod Stages
 pub mod Strict
 pub mod Telling
