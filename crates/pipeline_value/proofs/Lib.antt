@@ -1,5 +1,5 @@
 pub mod KnownSizes
-pub mod Nested
+pub mod Parts
 pub mod Stages
 pub mod Strict
 pub mod Telling

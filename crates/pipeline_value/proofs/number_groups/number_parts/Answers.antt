@@ -1,6 +1,6 @@
 -- The parts by the prepared test are those by the file's.
 use Rattle.std.proofs.Common.{◌∙◌}
-use Rattle.pipeline_value.proofs.Nested.{parts-same}
+use Rattle.pipeline_value.proofs.Parts.{parts-same}
 use Rattle.pipeline_value.proofs.number_groups.number_parts.Goals as goal
 
 pub returns-clause-summary : goal.returns-clause-summary
