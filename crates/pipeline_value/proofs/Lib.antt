@@ -1,3 +1,4 @@
+pub mod KnownSizes
 mod Separated
 pub mod Stages
 pub mod Telling

@@ -1,5 +1,6 @@
 pub mod ContentLaws
 pub mod FitLaws
+pub mod KnownSizes
 pub mod Ranges
 pub mod Summaries
 pub mod Texts

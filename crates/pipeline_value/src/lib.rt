@@ -2,6 +2,7 @@
 #![tactic(auto)]
 
 mod gather;
+mod known_size;
 mod number_end;
 mod numbers;
 mod text_end;

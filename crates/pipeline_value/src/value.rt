@@ -6,9 +6,10 @@ ghost use Rattle.sources.specs.Integers.{count_between, integers_between};
 ghost use Rattle.pipeline_value.specs.Ranges.{NumberBodyFits, NumberSourceFits, PipelineFits};
 ghost use Rattle.pipeline_value.specs.Value.{Tells, number_body_told, pipeline_told, source_numbers};
 
+use crate::known_size::known_count;
 use crate::numbers::{list_value, number_value};
 use crate::texts::text_value;
-use crate::told::ValueError;
+use crate::told::{ValueError, told};
 use parallel_streams::Run;
 use pipeline_language::{NumberBody, NumberSource, Pipeline};
 use sources::RangeSplit;
@@ -17,7 +18,7 @@ use std::alloc::Global;
 use std::thread::Threads;
 use stealing_pool::Gate;
 
-/// The text of a pipeline's value.
+/// The text of a pipeline's value. A count that is known from the source's size runs no leaf.
 pub fn pipeline_value<R: Threads + Sync, H: Gate + Sync>(
     rt: &R,
     alloc: Global,
@@ -28,6 +29,9 @@ pub fn pipeline_value<R: Threads + Sync, H: Gate + Sync>(
     requires fits { PipelineFits pipeline }
     ensures { Tells (pipeline_told pipeline.entry) result }
 {
+    if let Some(count) = known_count(&pipeline) {
+        return told(alloc, &count);
+    }
     match pipeline {
         Pipeline::Numbers(source, body) => source_value(rt, alloc, source, &body, run),
         Pipeline::Texts(texts, body) => {

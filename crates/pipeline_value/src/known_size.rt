@@ -1,0 +1,161 @@
+//! Counts that are known before anything runs.
+
+ghost use Rattle.std.specs.Prelude.{◌≡◌, ◌≤◌, ◌^◌, ℕ, ℤ, pos, List, Ok, IfSome, IsTrue, is_some, length};
+ghost use Rattle.std.specs.Fmt.{signed_decimal};
+ghost use Rattle.std.specs.List.{list_all};
+ghost use Rattle.spliterator.specs.Characteristics.{tells};
+ghost use Rattle.spliterator.specs.declared.characteristics.TheConstants.{SIZED};
+ghost use Rattle.stages.specs.Wrapping.{wrapped};
+ghost use Rattle.pipeline_meaning.specs.Stages.{number_stage, number_stages, text_stage, text_stages};
+ghost use Rattle.pipeline_value.specs.KnownSizes.{count_is_known, counts_texts, number_count_is_known, number_size_stays_known, text_count_is_known, text_size_stays_known};
+ghost use Rattle.pipeline_value.specs.Ranges.{NumberSourceFits, PipelineFits};
+ghost use Rattle.pipeline_value.specs.Value.{number_body_told, pipeline_told, source_numbers, text_end_told, text_told};
+
+use pipeline_language::{
+    NumberBody, NumberSource, NumberStage, NumberTerminal, Pipeline, TextEnd, TextStage,
+    TextTerminal,
+};
+use sources::RangeSplit;
+use spliterator::Spliterator;
+
+/// The count that a pipeline answers, as an `i64` that wraps, where it is known from the source's size: behind maps, limits and skips.
+///
+/// ```text
+/// range 0 10, skip 3, map negate, limit 5, count    // Some(5)
+/// range 0 10, filter less 4, count                  // None
+/// ```
+pub(crate) fn known_count(pipeline: &Pipeline<'_>) -> Option<i64>
+    requires fits { PipelineFits pipeline.now }
+    ensures value { IfSome result (λ n. pipeline_told pipeline.now ≡ Ok (signed_decimal n)) }
+    ensures known { is_some result ≡ count_is_known pipeline.now }
+{
+    match pipeline {
+        Pipeline::Numbers(source, body) => body_count(source_size(source), body),
+        Pipeline::Texts(texts, body) => {
+            let size = text_size(texts.len() as u64, body.stages.as_slice())?;
+            end_count(size, &body.end)
+        }
+    }
+}
+
+/// The count of so many numbers behind a body's stages, where it is known.
+fn body_count(size: u64, body: &NumberBody) -> Option<i64>
+    ensures value { IfSome result (λ n. (l : List ℤ) → length l ≡ size → number_body_told body.now l ≡ Ok (signed_decimal n)) }
+    ensures known { is_some result ≡ number_count_is_known body.now }
+{
+    match body.terminal {
+        NumberTerminal::Count => {
+            let left = number_size(size, body.stages.as_slice())?;
+            Some(as_count(left))
+        }
+        _ => None,
+    }
+}
+
+/// The count of what follows so many texts, where it is known.
+fn end_count(size: u64, end: &TextEnd<'_>) -> Option<i64>
+    ensures value { IfSome result (λ n. (l : List (List ℕ)) → length l ≡ size → text_end_told end.now l ≡ Ok (signed_decimal n)) }
+    ensures known { is_some result ≡ text_count_is_known end.now }
+{
+    match end {
+        TextEnd::Terminal(terminal) => terminal_count(size, terminal),
+        TextEnd::Lengths(body) => body_count(size, body),
+    }
+}
+
+/// The count of so many texts, where the terminal counts.
+fn terminal_count(size: u64, terminal: &TextTerminal<'_>) -> Option<i64>
+    ensures value { IfSome result (λ n. (l : List (List ℕ)) → length l ≡ size → text_told terminal.now l ≡ Ok (signed_decimal n)) }
+    ensures known { is_some result ≡ counts_texts terminal.now }
+{
+    match *terminal {
+        TextTerminal::Count => Some(as_count(size)),
+        _ => None,
+    }
+}
+
+/// A number of items, as an `i64` that wraps.
+fn as_count(size: u64) -> i64
+    ensures { result ≡ wrapped (pos size) }
+{
+    size.cast_signed()
+}
+
+/// How many numbers stages leave of so many, where that doesn't depend on the numbers.
+pub(crate) fn number_size(size: u64, stages: &[NumberStage]) -> Option<u64>
+    ensures value { IfSome result (λ n. (l : List ℤ) → length l ≡ size → length (number_stages stages.now l) ≡ n) }
+    ensures known { is_some result ≡ list_all number_size_stays_known stages.now }
+{
+    let mut left = size;
+    for stage in stages {
+        left = number_size_after(left, stage)?;
+    }
+    Some(left)
+}
+
+/// How many numbers a stage leaves of so many.
+fn number_size_after(size: u64, stage: &NumberStage) -> Option<u64>
+    ensures value { IfSome result (λ n. (l : List ℤ) → length l ≡ size → length (number_stage stage.now l) ≡ n) }
+    ensures known { is_some result ≡ number_size_stays_known stage.now }
+{
+    match *stage {
+        NumberStage::Map(_) => Some(size),
+        NumberStage::Limit(most) => Some(most.min(size)),
+        NumberStage::Skip(number) => Some(size.saturating_sub(number)),
+        NumberStage::Filter(_)
+        | NumberStage::Repeat(_)
+        | NumberStage::Distinct
+        | NumberStage::TakeWhile(_)
+        | NumberStage::DropWhile(_) => None,
+    }
+}
+
+/// How many texts stages leave of so many, where that doesn't depend on the texts.
+pub(crate) fn text_size(size: u64, stages: &[TextStage<'_>]) -> Option<u64>
+    ensures value { IfSome result (λ n. (l : List (List ℕ)) → length l ≡ size → length (text_stages stages.now l) ≡ n) }
+    ensures known { is_some result ≡ list_all text_size_stays_known stages.now }
+{
+    let mut left = size;
+    for stage in stages {
+        left = text_size_after(left, stage)?;
+    }
+    Some(left)
+}
+
+/// How many texts a stage leaves of so many.
+fn text_size_after(size: u64, stage: &TextStage<'_>) -> Option<u64>
+    ensures value { IfSome result (λ n. (l : List (List ℕ)) → length l ≡ size → length (text_stage stage.now l) ≡ n) }
+    ensures known { is_some result ≡ text_size_stays_known stage.now }
+{
+    match *stage {
+        TextStage::MapItself => Some(size),
+        TextStage::Limit(most) => Some(most.min(size)),
+        TextStage::Skip(number) => Some(size.saturating_sub(number)),
+        TextStage::Filter(_)
+        | TextStage::Repeat(_)
+        | TextStage::Words
+        | TextStage::Distinct
+        | TextStage::TakeWhile(_)
+        | TextStage::DropWhile(_) => None,
+    }
+}
+
+/// How many numbers a source has.
+fn source_size(source: &NumberSource) -> u64
+    requires { NumberSourceFits source.now }
+    ensures { result ≡ length (source_numbers source.now) }
+{
+    match source {
+        NumberSource::Range(start, end) => left_of(&RangeSplit::range(*start, *end).unwrap()),
+        NumberSource::Closed(start, last) => left_of(&RangeSplit::closed(*start, *last).unwrap()),
+        NumberSource::Numbers(numbers) => numbers.len() as u64,
+    }
+}
+
+/// How many items are left of a source that tells `SIZED`.
+fn left_of<S: Spliterator>(source: &S) -> u64
+    requires { IsTrue (tells (S.told source.now) SIZED) }
+    ensures { result ≡ length (S.items source.now) }
+{
+    source.estimate_size()
+}
