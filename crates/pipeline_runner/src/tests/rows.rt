@@ -131,7 +131,10 @@ const FAULTS: [(&[u8], &str); 22] = [
     (b"lines 1\n\xff\ncount\n", "line 3: BAD_TEXT"),
     (b"lines 5\na\n", "line 4: MISSING_TERMINAL"),
     (b"numbers 1\nmap mod 0\nsum\n", "line 3: BAD_NUMBER"),
-    (b"numbers 1\ngroupby mod x counting y\n", "line 3: BAD_ARITY"),
+    (
+        b"numbers 1\ngroupby mod x counting y\n",
+        "line 3: BAD_ARITY",
+    ),
     (b"numbers 1\ncount\n\n", "line 4: AFTER_TERMINAL"),
     (
         b"numbers 1\ntomapstrict self self\n",
