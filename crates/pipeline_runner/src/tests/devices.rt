@@ -4,14 +4,13 @@ use super::{SETTINGS, Script};
 use crate::{Counted, NoGate, RunError, run};
 use std::alloc::{AllocError, Global};
 use std::test::Fail;
-use std::random::RandomSource;
 use std::thread::Threads;
 
 /// Its answer is 123456.
 const FILE: &[u8] = b"pipeline 1\nrange 0 123456\ncount\n";
 
 /// How a run on the file ends, and what its output then has. The input gives 4 bytes a read.
-fn run_with<R: Threads + RandomSource + Sync>(
+fn run_with<R: Threads + Sync>(
     rt: &R,
     alloc: Global,
     read_fails: u64,

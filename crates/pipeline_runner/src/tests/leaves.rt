@@ -6,7 +6,6 @@ use crate::{Counted, Gate, Settings, run};
 use std::alloc::Global;
 use std::sync::atomic::{AtomicU64, Ordering};
 use std::test::Fail;
-use std::random::RandomSource;
 use std::thread::Threads;
 
 /// Counts the leaves that were entered and ended, and the calls of no worker.
@@ -46,7 +45,7 @@ impl Gate for Counting {
 }
 
 /// How many leaves a run enters and ends, and how many calls were no worker's.
-fn leaves<R: Threads + RandomSource + Sync>(
+fn leaves<R: Threads + Sync>(
     rt: &R,
     alloc: Global,
     file: &[u8],
@@ -89,23 +88,9 @@ fn a_sum_runs_the_leaves_of_the_split_rule(rt: HostRuntime) -> Result<(), Fail> 
 }
 
 #[test]
-fn a_count_of_a_known_size_runs_no_leaf(rt: HostRuntime) -> Result<(), Fail> {
-    let files: [&[u8]; 4] = [
-        b"pipeline 1\nrange 0 4611686018427387904\ncount\n",
-        b"pipeline 1\nrange 0 4611686018427387904\nmap add 1\nmap mod 7\ncount\n",
-        b"pipeline 1\nrange 0 4611686018427387904\nskip 3\nlimit 100\nmap add 1\ncount\n",
-        b"pipeline 1\nlines 2\na\nb\nmap self\nmap length\ncount\n",
-    ];
-    for (place, file) in files.iter().enumerate() {
-        assert_eq!(rt; leaves(&rt, rt.alloc(), file, 4, 0), (0, 0, 0), "{place}");
-        assert_eq!(rt; leaves(&rt, rt.alloc(), file, 4, 1), (0, 0, 0), "{place}");
-    }
-    Ok(())
-}
-
-#[test]
-fn a_fault_runs_no_leaf(rt: HostRuntime) -> Result<(), Fail> {
-    let file = b"pipeline 1\nrange 0 10\nsum\nsum\n";
+fn a_count_runs_no_leaf(rt: HostRuntime) -> Result<(), Fail> {
+    let file = b"pipeline 1\nrange 0 4611686018427387904\ncount\n";
+    assert_eq!(rt; leaves(&rt, rt.alloc(), file, 4, 0), (0, 0, 0));
     assert_eq!(rt; leaves(&rt, rt.alloc(), file, 4, 1), (0, 0, 0));
     Ok(())
 }
