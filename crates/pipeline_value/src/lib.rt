@@ -1,0 +1,26 @@
+//! The value of a pipeline, over the library's streams and pool.
+#![tactic(auto)]
+
+mod collected;
+mod gather;
+mod known_size;
+mod maps;
+mod nested;
+mod number_end;
+mod number_groups;
+mod number_maps;
+mod number_parts;
+mod numbers;
+mod text_end;
+mod text_groups;
+mod text_maps;
+mod text_parts;
+mod texts;
+mod told;
+mod value;
+
+pub use told::ValueError;
+pub use value::pipeline_value;
+
+#[cfg(test)]
+mod tests;

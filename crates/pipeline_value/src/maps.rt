@@ -1,0 +1,105 @@
+//! Maps of a stream's keys and values, told by their texts.
+
+ghost use Rattle.std.specs.Prelude.{◌≡◌, Ok, List};
+ghost use Rattle.parallel_streams.specs.Runs.{IsLawfulRun};
+ghost use Rattle.stages.specs.Operators.{IsAssociative};
+ghost use Rattle.pipeline_meaning.specs.Summaries.{merged_text};
+ghost use Rattle.pipeline_value.specs.Value.{Tells, strict_told};
+
+use crate::collected::collected;
+use crate::nested::merged;
+use crate::told::{ValueError, text_of, told};
+use collectors::{Collector, DuplicateKey, ToMapStrict};
+use indexmap::IndexMap;
+use parallel_streams::{Run, Stream};
+use pipeline_meaning::Spelled;
+use spliterator::Value;
+use stages::{Mapping, Operator};
+use std::alloc::Global;
+use std::hash::{Hash, RandomState};
+use std::thread::Threads;
+use stealing_pool::Gate;
+
+/// The text of the map of a stream's keys and values, where values of one key are merged.
+pub(crate) fn merged_value<R, X, U, K, V, M, H>(
+    rt: &R,
+    alloc: Global,
+    hashes: RandomState,
+    stream: &X,
+    key: K,
+    value: V,
+    merge: M,
+    run: &Run<'_, H>,
+) -> Result<String, ValueError>
+where
+    R: Threads + Sync,
+    X: Stream + Sync,
+    X::Item: Send + Sync,
+    X::Progress: Send + Sync,
+    X::Part: Send,
+    U: Spelled + Drop + Send + Sync,
+    K: Mapping<X::Item> + Drop + Sync,
+    V: Mapping<X::Item, Out = U> + Drop + Sync,
+    M: Operator<U> + Drop + Sync,
+    K::Out: Spelled + Hash + Drop + Send,
+    H: Gate + Sync,
+    requires settings { IsLawfulRun run.now.workers run.now.target }
+    requires stream { X.ready stream.now }
+    requires keys { K.ready key }
+    requires values { V.ready value }
+    requires merge { M.ready merge }
+    requires associative { IsAssociative U.is_value (M.join merge) }
+    ensures { Tells (Ok (merged_text K.Out.spelling U.spelling K.Out.same (K.image key) (V.image value) (M.join merge) (X.value stream.now))) result }
+{
+    let map = merged(alloc, hashes, key, value, merge);
+    collected(rt, alloc, stream, &map, run)
+}
+
+/// The text of the map of a stream's keys and values, or of the first key that comes again.
+pub(crate) fn strict_value<R, X, K, V, H>(
+    rt: &R,
+    alloc: Global,
+    hashes: RandomState,
+    stream: &X,
+    key: K,
+    value: V,
+    run: &Run<'_, H>,
+) -> Result<String, ValueError>
+where
+    R: Threads + Sync,
+    X: Stream + Sync,
+    X::Item: Send + Sync,
+    X::Progress: Send + Sync,
+    X::Part: Send,
+    K: Mapping<X::Item> + Drop + Sync,
+    V: Mapping<X::Item> + Drop + Sync,
+    K::Out: Spelled + Hash + Drop + Send,
+    V::Out: Spelled + Drop + Send,
+    H: Gate + Sync,
+    requires settings { IsLawfulRun run.now.workers run.now.target }
+    requires stream { X.ready stream.now }
+    requires keys { K.ready key }
+    requires values { V.ready value }
+    ensures { Tells (strict_told K.Out.spelling V.Out.spelling K.Out.same (K.image key) (V.image value) (X.value stream.now)) result }
+{
+    let strict = ToMapStrict::with_hasher(alloc, key, value, hashes);
+    let made = stream.collect(rt, alloc, run, &strict)?;
+    told_strict(alloc, &strict, &made)
+}
+
+/// The text of what a strict map's collector made.
+fn told_strict<T: Value, K: Mapping<T>, V: Mapping<T>>(
+    alloc: Global,
+    _strict: &ToMapStrict<T, K, V, RandomState>,
+    made: &Result<IndexMap<K::Out, V::Out, RandomState>, DuplicateKey<K::Out>>,
+) -> Result<String, ValueError>
+where
+    K::Out: Spelled + Hash + Drop,
+    V::Out: Spelled + Drop,
+    ensures { (l : List T.Content) → ⟦<ToMapStrict<T, K, V, RandomState> as Collector>⟧.gives _strict.now l made.now → Tells (strict_told K.Out.spelling V.Out.spelling K.Out.same (K.image _strict.now.key) (V.image _strict.now.value) l) result }
+{
+    match made {
+        Ok(entries) => told(alloc, entries),
+        Err(repeated) => Err(ValueError::DuplicateKey(text_of(alloc, &repeated.key)?)),
+    }
+}

@@ -1,0 +1,77 @@
+//! What the terminals make of numbers.
+
+ghost use Rattle.parallel_streams.specs.Runs.{IsLawfulRun};
+ghost use Rattle.pipeline_value.specs.Value.{Tells, number_told};
+
+use crate::number_maps::{map_value, strict_map_value};
+use crate::number_parts::{groups_value, pair_value, parts_value};
+use crate::told::{ValueError, told};
+use collectors::ToList;
+use parallel_streams::{Run, Stream};
+use pipeline_language::NumberTerminal;
+use pipeline_meaning::NumberCheck;
+use stages::{Max, Min, WrapAdd, WrapMul};
+use std::alloc::Global;
+use std::hash::RandomState;
+use std::thread::Threads;
+use stealing_pool::Gate;
+
+/// The text of a terminal's value on a stream of numbers.
+pub(crate) fn number_end<R, X, H>(
+    rt: &R,
+    alloc: Global,
+    hashes: RandomState,
+    stream: &X,
+    terminal: &NumberTerminal,
+    run: &Run<'_, H>,
+) -> Result<String, ValueError>
+where
+    R: Threads + Sync,
+    X: Stream<Item = i64> + Sync,
+    X::Progress: Send + Sync,
+    X::Part: Send,
+    H: Gate + Sync,
+    requires settings { IsLawfulRun run.now.workers run.now.target }
+    requires stream { X.ready stream.now }
+    ensures { Tells (number_told terminal.now (X.value stream.now)) result }
+{
+    match *terminal {
+        NumberTerminal::Sum => told(alloc, &stream.reduce(rt, alloc, run, 0, &WrapAdd::new())?),
+        NumberTerminal::Product => told(alloc, &stream.reduce(rt, alloc, run, 1, &WrapMul::new())?),
+        NumberTerminal::Max => told(alloc, &stream.reduce_optional(rt, alloc, run, &Max::new())?),
+        NumberTerminal::Min => told(alloc, &stream.reduce_optional(rt, alloc, run, &Min::new())?),
+        NumberTerminal::Count => told(alloc, &stream.count(rt, alloc, run)?),
+        NumberTerminal::FindFirst => told(alloc, &stream.find_first(rt, alloc, run)?),
+        NumberTerminal::ToList => told(
+            alloc,
+            &stream.collect(rt, alloc, run, &ToList::new(alloc))?,
+        ),
+        NumberTerminal::AllMatch(test) => told(
+            alloc,
+            &stream.all_match(rt, alloc, run, &NumberCheck::of(test))?,
+        ),
+        NumberTerminal::AnyMatch(test) => told(
+            alloc,
+            &stream.any_match(rt, alloc, run, &NumberCheck::of(test))?,
+        ),
+        NumberTerminal::NoneMatch(test) => told(
+            alloc,
+            &stream.none_match(rt, alloc, run, &NumberCheck::of(test))?,
+        ),
+        NumberTerminal::GroupBy(function, summary) => {
+            groups_value(rt, alloc, hashes, stream, function, summary, run)
+        }
+        NumberTerminal::Partition(test, summary) => {
+            parts_value(rt, alloc, hashes, stream, test, summary, run)
+        }
+        NumberTerminal::ToMap(key, value, merge) => {
+            map_value(rt, alloc, hashes, stream, key, value, merge, run)
+        }
+        NumberTerminal::ToMapStrict(key, value) => {
+            strict_map_value(rt, alloc, hashes, stream, key, value, run)
+        }
+        NumberTerminal::Teeing(one, other) => {
+            pair_value(rt, alloc, hashes, stream, one, other, run)
+        }
+    }
+}

@@ -1,0 +1,75 @@
+//! The collectors of the terminals that part numbers, put them under keys, or collect them twice.
+
+ghost use Rattle.std.specs.Prelude.{◌≡◌, ℤ, List};
+ghost use Rattle.std.specs.Fmt.{signed_decimal};
+ghost use Rattle.std.specs.Ordering.{int_eq};
+ghost use Rattle.pipeline_meaning.specs.Functions.{number_image, number_holds};
+ghost use Rattle.pipeline_meaning.specs.Summaries.{groups_text, parts_text, number_summary_text};
+ghost use Rattle.pipeline_meaning.specs.Texts.{pair_text};
+
+use crate::nested::{paired, parted};
+use collectors::{Collector, GroupingBy, PartitioningBy, Teeing};
+use pipeline_language::{NumberFunction, NumberSummary, NumberTest};
+use pipeline_meaning::{
+    Both, NumberCheck, NumberMapping, NumberSummaryCollector, Summarizes, grouped, number_summary,
+};
+use std::alloc::Global;
+use std::hash::RandomState;
+
+/// The collector of groups of numbers.
+pub(crate) type NumberGroups = GroupingBy<NumberMapping, NumberSummaryCollector, RandomState>;
+
+/// The collector of the numbers that fail a test and of those that pass.
+pub(crate) type NumberParts = PartitioningBy<NumberCheck, NumberSummaryCollector>;
+
+/// The collector of two results of the same numbers.
+pub(crate) type NumberPair = Teeing<NumberSummaryCollector, NumberSummaryCollector, Both>;
+
+/// The groups of numbers by their images.
+pub(crate) fn number_groups(
+    alloc: Global,
+    hashes: RandomState,
+    function: NumberFunction,
+    summary: NumberSummary,
+) -> NumberGroups
+    ensures ready { ⟦<NumberGroups as Collector>⟧.ready result }
+    ensures summary { (l : List ℤ) → ⟦<NumberGroups as Summarizes>⟧.summary result l ≡ groups_text signed_decimal int_eq (number_image function) (number_summary_text summary) l }
+{
+    grouped(
+        alloc,
+        NumberMapping::of(function),
+        number_summary(alloc, hashes, summary),
+        hashes,
+    )
+}
+
+/// The results of the numbers that fail a test, and of those that pass.
+pub(crate) fn number_parts(
+    alloc: Global,
+    hashes: RandomState,
+    test: NumberTest,
+    summary: NumberSummary,
+) -> NumberParts
+    ensures ready { ⟦<NumberParts as Collector>⟧.ready result }
+    ensures summary { (l : List ℤ) → ⟦<NumberParts as Summarizes>⟧.summary result l ≡ parts_text (number_holds test) (number_summary_text summary) l }
+{
+    parted(
+        NumberCheck::of(test),
+        number_summary(alloc, hashes, summary),
+    )
+}
+
+/// Two results of the same numbers.
+pub(crate) fn number_pair(
+    alloc: Global,
+    hashes: RandomState,
+    one: NumberSummary,
+    other: NumberSummary,
+) -> NumberPair
+    ensures ready { ⟦<NumberPair as Collector>⟧.ready result }
+    ensures summary { (l : List ℤ) → ⟦<NumberPair as Summarizes>⟧.summary result l ≡ pair_text (number_summary_text one l) (number_summary_text other l) }
+{
+    let first = number_summary(alloc, hashes, one);
+    let second = number_summary(alloc, hashes, other);
+    paired(first, second)
+}

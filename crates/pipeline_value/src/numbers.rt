@@ -1,0 +1,129 @@
+//! The value of stages over numbers and a terminal.
+
+ghost use Rattle.std.specs.Prelude.{◌≡◌, IfOk, All, flat_map, true};
+ghost use Rattle.parallel_streams.specs.Runs.{IsLawfulRun};
+ghost use Rattle.pipeline_meaning.specs.Stages.{is_number_barrier, number_stage, number_stages};
+ghost use Rattle.pipeline_value.specs.Ranges.{NumberStageFits};
+ghost use Rattle.pipeline_value.specs.Value.{Tells, number_told, number_body_told};
+
+use crate::gather::gather;
+use crate::number_end::number_end;
+use crate::told::ValueError;
+use barriers::{Distinct, DropWhile, Limit, Skip, TakeWhile};
+use parallel_streams::{Run, Stream, of};
+use pipeline_language::{NumberBody, NumberStage, NumberTerminal};
+use pipeline_meaning::{NumberCheck, NumberSteps};
+use sources::SliceSplit;
+use spliterator::{NoMemory, Spliterator};
+use stages::{Stage, Then};
+use std::alloc::Global;
+use std::hash::RandomState;
+use std::thread::Threads;
+use stealing_pool::Gate;
+
+/// The text of the value of a body, over a source's items behind a stage in front.
+pub(crate) fn number_value<R, S, A, H>(
+    rt: &R,
+    alloc: Global,
+    hashes: RandomState,
+    source: S,
+    front: A,
+    body: &NumberBody,
+    run: &Run<'_, H>,
+) -> Result<String, ValueError>
+where
+    R: Threads + Sync,
+    S: Spliterator + Drop + Send + Sync,
+    S::Item: Clone + Send + Sync,
+    A: Stage<In = S::Item, Out = i64> + Drop + Sync,
+    H: Gate + Sync,
+    requires settings { IsLawfulRun run.now.workers run.now.target }
+    requires front { A.ready front }
+    requires fits { All NumberStageFits body.now.stages.items }
+    ensures { Tells (number_body_told body.now (flat_map (A.expand front) (S.items source))) result }
+{
+    let stages = body.stages.as_slice();
+    let (steps, taken) = NumberSteps::front_of(alloc, stages)?;
+    let stage = Then::new(front, steps);
+    if taken == stages.len() {
+        return number_end(
+            rt,
+            alloc,
+            hashes,
+            &of(source).then(stage),
+            &body.terminal,
+            run,
+        );
+    }
+    let items = through_barrier(rt, alloc, source, &stage, &stages[taken], run)?;
+    list_value(
+        rt,
+        alloc,
+        hashes,
+        items,
+        &stages[taken + 1..],
+        &body.terminal,
+        run,
+    )
+}
+
+/// The text of the value of stages and a terminal, over a list.
+pub(crate) fn list_value<R: Threads + Sync, H: Gate + Sync>(
+    rt: &R,
+    alloc: Global,
+    hashes: RandomState,
+    items: Vec<i64>,
+    stages: &[NumberStage],
+    terminal: &NumberTerminal,
+    run: &Run<'_, H>,
+) -> Result<String, ValueError>
+    requires settings { IsLawfulRun run.now.workers run.now.target }
+    requires fits { All NumberStageFits stages.now }
+    ensures { Tells (number_told terminal.now (number_stages stages.now items.items)) result }
+{
+    let (steps, taken) = NumberSteps::front_of(alloc, stages)?;
+    let source = SliceSplit::new(items.as_slice());
+    if taken == stages.len() {
+        return number_end(rt, alloc, hashes, &of(source).then(steps), terminal, run);
+    }
+    let kept = through_barrier(rt, alloc, source, &steps, &stages[taken], run)?;
+    drop(items);
+    list_value(rt, alloc, hashes, kept, &stages[taken + 1..], terminal, run)
+}
+
+/// What a barrier leaves of a source's items behind a stage.
+fn through_barrier<R, S, A, H>(
+    rt: &R,
+    alloc: Global,
+    source: S,
+    stage: &A,
+    barrier: &NumberStage,
+    run: &Run<'_, H>,
+) -> Result<Vec<i64>, NoMemory>
+where
+    R: Threads + Sync,
+    S: Spliterator + Drop + Send + Sync,
+    S::Item: Send,
+    A: Stage<In = S::Item, Out = i64> + Sync,
+    H: Gate + Sync,
+    requires settings { IsLawfulRun run.now.workers run.now.target }
+    requires stage { A.ready stage.now }
+    requires barrier { is_number_barrier barrier.now ≡ true }
+    requires fits { NumberStageFits barrier.now }
+    ensures { IfOk result (λ kept. kept.items ≡ number_stage barrier.now (flat_map (A.expand stage.now) (S.items source))) }
+{
+    match *barrier {
+        NumberStage::Distinct => gather(rt, alloc, source, stage, &Distinct, run),
+        NumberStage::Limit(most) => gather(rt, alloc, source, stage, &Limit::new(most), run),
+        NumberStage::Skip(number) => gather(rt, alloc, source, stage, &Skip::new(number), run),
+        NumberStage::TakeWhile(test) => {
+            let barrier = TakeWhile::new(NumberCheck::of(test));
+            gather(rt, alloc, source, stage, &barrier, run)
+        }
+        NumberStage::DropWhile(test) => {
+            let barrier = DropWhile::new(NumberCheck::of(test));
+            gather(rt, alloc, source, stage, &barrier, run)
+        }
+        NumberStage::Map(_) | NumberStage::Filter(_) | NumberStage::Repeat(_) => unreachable!(),
+    }
+}

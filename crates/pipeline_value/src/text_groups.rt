@@ -1,0 +1,119 @@
+//! The collectors of the terminals that part texts, put them under keys, or collect them twice.
+
+ghost use Rattle.std.specs.Prelude.{◌≡◌, ℕ, List};
+ghost use Rattle.pipeline_language.specs.declared.pipeline.TextFunction.TheVariants as keys;
+ghost use Rattle.pipeline_meaning.specs.Functions.{text_holds};
+ghost use Rattle.pipeline_meaning.specs.Summaries.{parts_text, text_groups_text, text_summary_text};
+ghost use Rattle.pipeline_meaning.specs.Texts.{pair_text};
+
+use crate::nested::{paired, parted};
+use collectors::{Collector, GroupingBy, PartitioningBy, Teeing};
+use either::{Either, Left, Right};
+use pipeline_language::{TextFunction, TextSummary, TextTest};
+use pipeline_meaning::{
+    Both, Itself, Summarizes, TextCheck, TextLength, TextPlainCollector, TextsByLength,
+    TextsByThemselves, grouped, text_plain, texts_by_length, texts_by_themselves,
+};
+use std::alloc::Global;
+use std::hash::RandomState;
+
+/// What is made of some of the texts.
+pub(crate) type TextSummaryCollector<'a> = Either<
+    TextPlainCollector<'a>,
+    Either<TextsByLength<'a>, TextsByThemselves<'a>>,
+>;
+
+/// The collector of groups of texts by their lengths.
+pub(crate) type LengthGroups<'a> = GroupingBy<TextLength, TextSummaryCollector<'a>, RandomState>;
+
+/// The collector of groups of equal texts.
+pub(crate) type TextGroups<'a> = GroupingBy<Itself, TextSummaryCollector<'a>, RandomState>;
+
+/// The collector of the texts that fail a test and of those that pass.
+pub(crate) type TextParts<'a> = PartitioningBy<TextCheck<'a>, TextSummaryCollector<'a>>;
+
+/// The collector of two results of the same texts.
+pub(crate) type TextPair<'a> = Teeing<TextSummaryCollector<'a>, TextSummaryCollector<'a>, Both>;
+
+/// The collector of a summary of texts.
+pub(crate) fn text_summary<'a>(
+    alloc: Global,
+    hashes: RandomState,
+    summary: TextSummary<'a>,
+) -> TextSummaryCollector<'a>
+    ensures ready { ⟦<TextSummaryCollector<'a> as Collector>⟧.ready result }
+    ensures summary { (l : List (List ℕ)) → ⟦<TextSummaryCollector<'a> as Summarizes>⟧.summary result l ≡ text_summary_text summary.entry l }
+{
+    if let Some(plain) = text_plain(alloc, summary) {
+        return Left(plain);
+    }
+    match summary {
+        TextSummary::GroupBy(TextFunction::Length, inner) => {
+            Right(Left(texts_by_length(alloc, hashes, inner)))
+        }
+        TextSummary::GroupBy(TextFunction::Itself, inner) => {
+            Right(Right(texts_by_themselves(alloc, hashes, inner)))
+        }
+        TextSummary::Base(_)
+        | TextSummary::MappingLength(_)
+        | TextSummary::MappingItself(_)
+        | TextSummary::Filtering(_, _) => unreachable!(),
+    }
+}
+
+/// The groups of texts by their lengths.
+pub(crate) fn length_groups<'a>(
+    alloc: Global,
+    hashes: RandomState,
+    summary: TextSummary<'a>,
+) -> LengthGroups<'a>
+    ensures ready { ⟦<LengthGroups<'a> as Collector>⟧.ready result }
+    ensures summary { (l : List (List ℕ)) → ⟦<LengthGroups<'a> as Summarizes>⟧.summary result l ≡ text_groups_text keys.Length (text_summary_text summary.entry) l }
+{
+    grouped(
+        alloc,
+        TextLength,
+        text_summary(alloc, hashes, summary),
+        hashes,
+    )
+}
+
+/// The groups of equal texts.
+pub(crate) fn text_groups<'a>(
+    alloc: Global,
+    hashes: RandomState,
+    summary: TextSummary<'a>,
+) -> TextGroups<'a>
+    ensures ready { ⟦<TextGroups<'a> as Collector>⟧.ready result }
+    ensures summary { (l : List (List ℕ)) → ⟦<TextGroups<'a> as Summarizes>⟧.summary result l ≡ text_groups_text keys.Itself (text_summary_text summary.entry) l }
+{
+    grouped(alloc, Itself, text_summary(alloc, hashes, summary), hashes)
+}
+
+/// The results of the texts that fail a test, and of those that pass.
+pub(crate) fn text_parts<'a>(
+    alloc: Global,
+    hashes: RandomState,
+    test: TextTest<'a>,
+    summary: TextSummary<'a>,
+) -> TextParts<'a>
+    ensures ready { ⟦<TextParts<'a> as Collector>⟧.ready result }
+    ensures summary { (l : List (List ℕ)) → ⟦<TextParts<'a> as Summarizes>⟧.summary result l ≡ parts_text (text_holds test.entry) (text_summary_text summary.entry) l }
+{
+    parted(TextCheck::of(test), text_summary(alloc, hashes, summary))
+}
+
+/// Two results of the same texts.
+pub(crate) fn text_pair<'a>(
+    alloc: Global,
+    hashes: RandomState,
+    one: TextSummary<'a>,
+    other: TextSummary<'a>,
+) -> TextPair<'a>
+    ensures ready { ⟦<TextPair<'a> as Collector>⟧.ready result }
+    ensures summary { (l : List (List ℕ)) → ⟦<TextPair<'a> as Summarizes>⟧.summary result l ≡ pair_text (text_summary_text one.entry l) (text_summary_text other.entry l) }
+{
+    let first = text_summary(alloc, hashes, one);
+    let second = text_summary(alloc, hashes, other);
+    paired(first, second)
+}

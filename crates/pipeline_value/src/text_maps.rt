@@ -1,0 +1,128 @@
+//! The maps whose values are texts or their lengths.
+
+ghost use Rattle.std.specs.Prelude.{◌≡◌, Ok};
+ghost use Rattle.parallel_streams.specs.Runs.{IsLawfulRun};
+ghost use Rattle.pipeline_meaning.specs.Summaries.{itself};
+ghost use Rattle.pipeline_language.specs.declared.pipeline.TextTerminal.TheVariants as terminals;
+ghost use Rattle.pipeline_value.specs.Value.{Tells, text_map_text, text_strict_told, text_told};
+
+use crate::maps::{merged_value, strict_value};
+use crate::text_parts::Texts;
+use crate::told::ValueError;
+use parallel_streams::{Run, Stream};
+use pipeline_language::{TextFunction, TextValue};
+use pipeline_meaning::{Itself, NumberMerging, Spelled, TextLength, TextMerging};
+use spliterator::{OrderedValue, Text};
+use stages::Mapping;
+use std::alloc::Global;
+use std::hash::{Hash, RandomState};
+use std::thread::Threads;
+use stealing_pool::Gate;
+
+/// The text of the map of a stream's keys and values, where values of one key are merged.
+pub(crate) fn map_value<'s, 'a, R: Threads + Sync, H: Gate + Sync>(
+    rt: &R,
+    alloc: Global,
+    hashes: RandomState,
+    stream: &Texts<'s, 'a>,
+    key: TextFunction,
+    value: TextValue,
+    run: &Run<'_, H>,
+) -> Result<String, ValueError>
+    requires settings { IsLawfulRun run.now.workers run.now.target }
+    requires stream { ⟦<Texts<'s, 'a> as Stream>⟧.ready stream.now }
+    ensures { Tells (text_told (terminals.ToMap key value) (⟦<Texts<'s, 'a> as Stream>⟧.value stream.now)) result }
+{
+    match key {
+        TextFunction::Length => text_map(rt, alloc, hashes, stream, TextLength, value, run),
+        TextFunction::Itself => text_map(rt, alloc, hashes, stream, Itself, value, run),
+    }
+}
+
+/// The text of the map of a stream's keys and values, or of the first key that comes again.
+pub(crate) fn strict_map_value<'s, 'a, R: Threads + Sync, H: Gate + Sync>(
+    rt: &R,
+    alloc: Global,
+    hashes: RandomState,
+    stream: &Texts<'s, 'a>,
+    key: TextFunction,
+    value: TextFunction,
+    run: &Run<'_, H>,
+) -> Result<String, ValueError>
+    requires settings { IsLawfulRun run.now.workers run.now.target }
+    requires stream { ⟦<Texts<'s, 'a> as Stream>⟧.ready stream.now }
+    ensures { Tells (text_told (terminals.ToMapStrict key value) (⟦<Texts<'s, 'a> as Stream>⟧.value stream.now)) result }
+{
+    match key {
+        TextFunction::Length => text_strict_map(rt, alloc, hashes, stream, TextLength, value, run),
+        TextFunction::Itself => text_strict_map(rt, alloc, hashes, stream, Itself, value, run),
+    }
+}
+
+/// The text of the map of a stream's keys and values, where values of one key are merged.
+fn text_map<T, R, X, K, H>(
+    rt: &R,
+    alloc: Global,
+    hashes: RandomState,
+    stream: &X,
+    key: K,
+    value: TextValue,
+    run: &Run<'_, H>,
+) -> Result<String, ValueError>
+where
+    T: Text + OrderedValue + Spelled + Copy + Drop + Send + Sync,
+    R: Threads + Sync,
+    X: Stream<Item = T> + Sync,
+    X::Progress: Send + Sync,
+    X::Part: Send,
+    K: Mapping<T> + Drop + Sync,
+    K::Out: Spelled + Hash + Drop + Send,
+    H: Gate + Sync,
+    requires settings { IsLawfulRun run.now.workers run.now.target }
+    requires stream { X.ready stream.now }
+    requires keys { K.ready key }
+    requires spelling { T.spelling ≡ itself }
+    ensures { Tells (Ok (text_map_text K.Out.spelling K.Out.same (K.image key) value (X.value stream.now))) result }
+{
+    match value {
+        TextValue::Length(merge) => {
+            let merge = NumberMerging::of(merge);
+            merged_value(rt, alloc, hashes, stream, key, TextLength, merge, run)
+        }
+        TextValue::Itself(merge) => {
+            let merge = TextMerging::of(merge);
+            merged_value(rt, alloc, hashes, stream, key, Itself, merge, run)
+        }
+    }
+}
+
+/// The text of the map of a stream's keys and values, or of the first key that comes again.
+fn text_strict_map<T, R, X, K, H>(
+    rt: &R,
+    alloc: Global,
+    hashes: RandomState,
+    stream: &X,
+    key: K,
+    value: TextFunction,
+    run: &Run<'_, H>,
+) -> Result<String, ValueError>
+where
+    T: Text + OrderedValue + Spelled + Copy + Drop + Send + Sync,
+    R: Threads + Sync,
+    X: Stream<Item = T> + Sync,
+    X::Progress: Send + Sync,
+    X::Part: Send,
+    K: Mapping<T> + Drop + Sync,
+    K::Out: Spelled + Hash + Drop + Send,
+    H: Gate + Sync,
+    requires settings { IsLawfulRun run.now.workers run.now.target }
+    requires stream { X.ready stream.now }
+    requires keys { K.ready key }
+    requires spelling { T.spelling ≡ itself }
+    ensures { Tells (text_strict_told K.Out.spelling K.Out.same (K.image key) value (X.value stream.now)) result }
+{
+    match value {
+        TextFunction::Length => strict_value(rt, alloc, hashes, stream, key, TextLength, run),
+        TextFunction::Itself => strict_value(rt, alloc, hashes, stream, key, Itself, run),
+    }
+}

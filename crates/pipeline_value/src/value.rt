@@ -1,0 +1,123 @@
+//! The value of a pipeline.
+
+ghost use Rattle.std.specs.Prelude.{pos, ◌+ℤ◌, ◌≤◌, ◌^◌};
+ghost use Rattle.parallel_streams.specs.Runs.{IsLawfulRun};
+ghost use Rattle.sources.specs.Integers.{count_between, integers_between};
+ghost use Rattle.pipeline_value.specs.Ranges.{NumberBodyFits, NumberSourceFits, PipelineFits};
+ghost use Rattle.pipeline_value.specs.Value.{Tells, number_body_told, pipeline_told, source_numbers};
+
+use crate::known_size::known_count;
+use crate::numbers::{list_value, number_value};
+use crate::texts::text_value;
+use crate::told::{ValueError, told};
+use parallel_streams::Run;
+use pipeline_language::{NumberBody, NumberSource, Pipeline};
+use sources::RangeSplit;
+use stages::Nothing;
+use std::alloc::Global;
+use std::hash::RandomState;
+use std::thread::Threads;
+use stealing_pool::Gate;
+
+/// The text of a pipeline's value. Keys are hashed by `hashes`, since whoever writes a file picks them. A count that is known from the
+/// source's size runs no leaf.
+pub fn pipeline_value<R: Threads + Sync, H: Gate + Sync>(
+    rt: &R,
+    alloc: Global,
+    hashes: RandomState,
+    pipeline: Pipeline<'_>,
+    run: &Run<'_, H>,
+) -> Result<String, ValueError>
+    requires settings { IsLawfulRun run.now.workers run.now.target }
+    requires fits { PipelineFits pipeline }
+    ensures { Tells (pipeline_told pipeline.entry) result }
+{
+    if let Some(count) = known_count(&pipeline) {
+        return told(alloc, &count);
+    }
+    match pipeline {
+        Pipeline::Numbers(source, body) => source_value(rt, alloc, hashes, source, &body, run),
+        Pipeline::Texts(texts, body) => {
+            text_value(
+                rt,
+                alloc,
+                hashes,
+                texts,
+                body.stages.as_slice(),
+                &body.end,
+                run,
+            )
+        }
+    }
+}
+
+/// The text of the value of a body, over a source of numbers.
+fn source_value<R: Threads + Sync, H: Gate + Sync>(
+    rt: &R,
+    alloc: Global,
+    hashes: RandomState,
+    source: NumberSource,
+    body: &NumberBody,
+    run: &Run<'_, H>,
+) -> Result<String, ValueError>
+    requires settings { IsLawfulRun run.now.workers run.now.target }
+    requires source { NumberSourceFits source }
+    requires body { NumberBodyFits body.now }
+    ensures { Tells (number_body_told body.now (source_numbers source)) result }
+{
+    match source {
+        NumberSource::Range(start, end) => range_value(rt, alloc, hashes, start, end, body, run),
+        NumberSource::Closed(start, last) => closed_value(
+            rt, alloc, hashes, start, last, body, run,
+        ),
+        NumberSource::Numbers(numbers) => {
+            list_value(
+                rt,
+                alloc,
+                hashes,
+                numbers,
+                body.stages.as_slice(),
+                &body.terminal,
+                run,
+            )
+        }
+    }
+}
+
+/// The text of the value of a body, over the integers from `start` up to, not including, `end`.
+fn range_value<R: Threads + Sync, H: Gate + Sync>(
+    rt: &R,
+    alloc: Global,
+    hashes: RandomState,
+    start: i64,
+    end: i64,
+    body: &NumberBody,
+    run: &Run<'_, H>,
+) -> Result<String, ValueError>
+    requires settings { IsLawfulRun run.now.workers run.now.target }
+    requires few { count_between start end ≤ 2 ^ 62 }
+    requires body { NumberBodyFits body.now }
+    ensures { Tells (number_body_told body.now (integers_between start end)) result }
+{
+    let range = RangeSplit::range(start, end).unwrap();
+    number_value(rt, alloc, hashes, range, Nothing::new(), body, run)
+}
+
+/// The same up to and including `last`.
+fn closed_value<R: Threads + Sync, H: Gate + Sync>(
+    rt: &R,
+    alloc: Global,
+    hashes: RandomState,
+    start: i64,
+    last: i64,
+    body: &NumberBody,
+    run: &Run<'_, H>,
+) -> Result<String, ValueError>
+    requires settings { IsLawfulRun run.now.workers run.now.target }
+    requires few { count_between start (last +ℤ pos 1) ≤ 2 ^ 62 }
+    requires body { NumberBodyFits body.now }
+    ensures { Tells (number_body_told body.now (integers_between start (last +ℤ pos 1))) result }
+{
+    let range = RangeSplit::closed(start, last).unwrap();
+    number_value(rt, alloc, hashes, range, Nothing::new(), body, run)
+}
