@@ -19,8 +19,8 @@ pub use functions::{
 };
 pub use number_steps::NumberSteps;
 pub use number_summaries::{
-    NumberBaseCollector, NumberInnerCollector, NumberSummaryCollector, number_base, number_inner,
-    number_summary,
+    NumberBaseCollector, NumberBaseContainer, NumberBaseResult, NumberInnerCollector,
+    NumberSummaryCollector, number_base, number_inner, number_summary,
 };
 pub use spelled::Spelled;
 pub use summarizes::{Both, Summarizes, grouped, write_result};
