@@ -4,10 +4,13 @@
 mod adapted;
 mod divisor;
 mod functions;
+mod number_bases;
 mod number_steps;
 mod number_summaries;
 mod spelled;
 mod summarizes;
+mod text_bases;
+mod text_inners;
 mod text_steps;
 mod text_summaries;
 mod written;
@@ -17,17 +20,21 @@ pub use divisor::Divisor;
 pub use functions::{
     Itself, NumberCheck, NumberMapping, NumberMerging, TextCheck, TextLength, TextMerging,
 };
+pub use number_bases::{NumberBaseCollector, NumberBaseContainer, NumberBaseResult, number_base};
 pub use number_steps::NumberSteps;
 pub use number_summaries::{
-    NumberBaseCollector, NumberBaseContainer, NumberBaseResult, NumberInnerCollector,
-    NumberSummaryCollector, number_base, number_inner, number_summary,
+    NumberInnerCollector, NumberSummaryCollector, NumberSummaryContainer, NumberSummaryResult,
+    number_inner, number_summary,
 };
 pub use spelled::Spelled;
 pub use summarizes::{Both, Summarizes, grouped, write_result};
+pub use text_bases::{TextBaseCollector, TextBaseContainer, TextBaseResult, text_base};
+pub use text_inners::{
+    TextInnerCollector, TextInnerContainer, TextInnerResult, text_inner, text_lengths,
+};
 pub use text_steps::TextSteps;
 pub use text_summaries::{
-    TextBaseCollector, TextInnerCollector, TextPlainCollector, TextsByLength, TextsByThemselves,
-    text_base, text_inner, text_lengths, text_plain, texts_by_length, texts_by_themselves,
+    TextSummaryCollector, TextSummaryContainer, TextSummaryResult, text_summary,
 };
 pub use written::Written;
 

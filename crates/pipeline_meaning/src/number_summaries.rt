@@ -1,138 +1,113 @@
-//! The language's collectors, level by level, each chosen at run time.
-ghost use Rattle.std.proofs.Common.{ap};
-ghost use Rattle.std.specs.Prelude.{◌≡◌, ℕ, ℤ, pos, refl, List};
+//! The language's collectors of numbers, level by level, each chosen at run time.
+ghost use Rattle.std.specs.Prelude.{◌≡◌, ℕ, ℤ, refl, List};
 ghost use Rattle.std.specs.Fmt.{signed_decimal};
 ghost use Rattle.std.specs.Ordering.{int_eq};
-ghost use Rattle.spliterator.specs.Values.{int_eq-decides};
-ghost use Rattle.spliterator.specs.Values.{IsI64};
-ghost use Rattle.stages.specs.Operators.{associative-tested};
+ghost use Rattle.spliterator.specs.Values.{IsI64, int_eq-decides};
 ghost use Rattle.collectors.specs.Either.{either_laws};
-ghost use Rattle.collectors.specs.NestedLaws.{list_laws};
-ghost use Rattle.collectors.specs.Reductions.{reduced, reduce_laws};
-ghost use Rattle.collectors.specs.Sums.{sum_laws};
-ghost use Rattle.pipeline_meaning.specs.Functions.{number_join};
-ghost use Rattle.pipeline_meaning.specs.PreparedLaws.{number_join-value};
-ghost use Rattle.pipeline_meaning.specs.SummaryLaws.{optional_tells, list_tells, either_tells};
-ghost use Rattle.pipeline_meaning.specs.Summaries.{number_base_text, number_inner_text, number_summary_text};
+ghost use Rattle.collectors.specs.GroupingLaws.{grouping_laws};
+ghost use Rattle.pipeline_meaning.specs.Adapting.{adapted_items, adapted_laws};
+ghost use Rattle.pipeline_meaning.specs.Prepared.{mapping_image, check_holds};
+ghost use Rattle.pipeline_meaning.specs.PreparedLaws.{mapping_image-value};
+ghost use Rattle.pipeline_meaning.specs.Summaries.{number_inner_text, number_summary_text};
+ghost use Rattle.pipeline_meaning.specs.SummaryLaws.{either_tells, groups_tell};
+ghost use Rattle.pipeline_meaning.specs.contracts.number_bases.NumberBaseCollectorCollector.TheImpl.Laws as base;
+ghost use Rattle.pipeline_meaning.specs.contracts.number_bases.NumberBaseCollectorSummarizes.TheImpl.Laws as tells;
 
+use crate::number_bases::{NumberBaseCollector, number_base};
 use crate::summarizes::grouped;
-use crate::{
-    Adapted, Adapting, Itself, NumberCheck, NumberMapping, NumberMerging, Summarizes, Written,
-};
-use collectors::{Collector, Counting, GroupingBy, Reducing, SummingLong, ToList};
+use crate::{Adapted, Adapting, NumberCheck, NumberMapping, Summarizes, Written};
+use collectors::{Collector, GroupingBy};
 use either::{Either, Left, Right};
-use pipeline_language::{NumberBase, NumberInner, NumberMerge, NumberSummary};
+use pipeline_language::{NumberInner, NumberSummary};
 use spliterator::NoMemory;
 use std::alloc::Global;
 use std::hash::RandomState;
 
-// What is made of numbers at once, as is chosen at run time.
-type NumberBaseChoice = Either<
-    Either<Counting<i64>, SummingLong<i64, Itself>>,
-    Either<Reducing<i64, NumberMerging>, ToList<i64>>,
+/// What is made of numbers inside another collector.
+pub type NumberInnerCollector = Adapted<NumberMapping, NumberCheck, NumberBaseCollector>;
+
+// What is made of some of the numbers, as is chosen at run time.
+type NumberSummaryChoice = Either<
+    Adapted<NumberMapping, NumberCheck, NumberInnerCollector>,
+    GroupingBy<NumberMapping, NumberInnerCollector, RandomState>,
 >;
 
-/// What is made of numbers at once. It has a type of its own, since a tower of `Either`s costs what stands over it.
+/// What is made of some of the numbers.
 #[derive(Drop)]
-pub struct NumberBaseCollector {
-    chosen: NumberBaseChoice,
+pub struct NumberSummaryCollector {
+    chosen: NumberSummaryChoice,
 }
 
-/// The container of a `NumberBaseCollector`.
+/// The container of a `NumberSummaryCollector`.
 #[derive(Drop)]
-pub struct NumberBaseContainer {
-    held: <NumberBaseChoice as Collector>::Acc,
+pub struct NumberSummaryContainer {
+    held: <NumberSummaryChoice as Collector>::Acc,
 }
 
-/// What a `NumberBaseCollector` makes.
+/// What a `NumberSummaryCollector` makes.
 #[derive(Drop)]
-pub struct NumberBaseResult {
-    made: <NumberBaseChoice as Collector>::Out,
+pub struct NumberSummaryResult {
+    made: <NumberSummaryChoice as Collector>::Out,
 }
 
-impl Written for NumberBaseResult {
-    ghost text = { λ result. ⟦<<NumberBaseChoice as Collector>::Out as Written>⟧.text result.made };
+impl Written for NumberSummaryResult {
+    ghost text = { λ result. ⟦<<NumberSummaryChoice as Collector>::Out as Written>⟧.text result.made };
 
     fn write_to(&self, out: &mut String) -> Result<(), NoMemory> {
         self.made.write_to(out)
     }
 }
 
-impl Collector for NumberBaseCollector {
+impl Collector for NumberSummaryCollector {
     type Item = i64;
 
-    type Acc = NumberBaseContainer;
+    type Acc = NumberSummaryContainer;
 
-    type Out = NumberBaseResult;
+    type Out = NumberSummaryResult;
 
-    ghost ready = { λ c. ⟦<NumberBaseChoice as Collector>⟧.ready c.chosen };
+    ghost ready = { λ c. ⟦<NumberSummaryChoice as Collector>⟧.ready c.chosen };
 
-    ghost Content = { ⟦<NumberBaseChoice as Collector>⟧.Content };
+    ghost Content = { ⟦<NumberSummaryChoice as Collector>⟧.Content };
 
-    ghost content = { λ c acc. ⟦<NumberBaseChoice as Collector>⟧.content c.chosen acc.held };
+    ghost content = { λ c acc. ⟦<NumberSummaryChoice as Collector>⟧.content c.chosen acc.held };
 
-    ghost empty = { λ c. ⟦<NumberBaseChoice as Collector>⟧.empty c.chosen };
+    ghost empty = { λ c. ⟦<NumberSummaryChoice as Collector>⟧.empty c.chosen };
 
-    ghost add = { λ c. ⟦<NumberBaseChoice as Collector>⟧.add c.chosen };
+    ghost add = { λ c. ⟦<NumberSummaryChoice as Collector>⟧.add c.chosen };
 
-    ghost merge = { λ c. ⟦<NumberBaseChoice as Collector>⟧.merge c.chosen };
+    ghost merge = { λ c. ⟦<NumberSummaryChoice as Collector>⟧.merge c.chosen };
 
-    ghost gives = { λ c l result. ⟦<NumberBaseChoice as Collector>⟧.gives c.chosen l result.made };
+    ghost gives = { λ c l result. ⟦<NumberSummaryChoice as Collector>⟧.gives c.chosen l result.made };
 
-    ghost laws = { λ c. either_laws IsI64 _ _ _ _ _ _ (either_laws IsI64 _ _ _ _ _ _ (λ _. sum_laws (λ _. pos 1) IsI64) (λ _. sum_laws (λ x. x) IsI64)) (either_laws IsI64 _ _ _ _ _ _ (λ r. reduce_laws (number_join r.operator.merge) IsI64 (number_join-value r.operator.merge) (associative-tested int_eq int_eq-decides IsI64 (number_join r.operator.merge) r.associative)) (λ _. list_laws IsI64)) c.chosen };
+    ghost laws = { λ c. either_laws IsI64 _ _ _ _ _ _ (λ a. adapted_laws mapping_image check_holds _ _ IsI64 mapping_image-value _ (adapted_laws mapping_image check_holds _ _ IsI64 mapping_image-value _ (base.laws-law a.downstream.downstream) a.downstream.step) a.step) (λ g. grouping_laws int_eq int_eq-decides (mapping_image g.key) IsI64 _ _ _ (adapted_laws mapping_image check_holds _ _ IsI64 mapping_image-value _ (base.laws-law g.downstream.downstream) g.downstream.step)) c.chosen };
 
-    fn supply(&self) -> Result<NumberBaseContainer, NoMemory> {
+    fn supply(&self) -> Result<NumberSummaryContainer, NoMemory> {
         let held = self.chosen.supply()?;
-        Ok(NumberBaseContainer { held })
+        Ok(NumberSummaryContainer { held })
     }
 
-    fn accumulate(&self, acc: &mut NumberBaseContainer, x: &i64) -> Result<(), NoMemory> {
+    fn accumulate(&self, acc: &mut NumberSummaryContainer, x: &i64) -> Result<(), NoMemory> {
         self.chosen.accumulate(&mut acc.held, x)
     }
 
     fn combine(
         &self,
-        left: &mut NumberBaseContainer,
-        right: NumberBaseContainer,
+        left: &mut NumberSummaryContainer,
+        right: NumberSummaryContainer,
     ) -> Result<(), NoMemory> {
         self.chosen.combine(&mut left.held, right.held)
     }
 
-    fn finish(&self, acc: NumberBaseContainer) -> Result<NumberBaseResult, NoMemory> {
+    fn finish(&self, acc: NumberSummaryContainer) -> Result<NumberSummaryResult, NoMemory> {
         let made = self.chosen.finish(acc.held)?;
-        Ok(NumberBaseResult { made })
+        Ok(NumberSummaryResult { made })
     }
 }
 
-impl Summarizes for NumberBaseCollector {
-    ghost summary = { λ c. ⟦<NumberBaseChoice as Summarizes>⟧.summary c.chosen };
+impl Summarizes for NumberSummaryCollector {
+    ghost summary = { λ c. ⟦<NumberSummaryChoice as Summarizes>⟧.summary c.chosen };
 
-    ghost tells = { λ c l result. either_tells _ _ _ _ _ _ (either_tells _ _ _ _ _ _ (λ _ _ _ h. ap signed_decimal h) (λ _ _ _ h. ap signed_decimal h)) (either_tells _ _ _ _ _ _ (λ r l made. optional_tells signed_decimal (λ x. x) signed_decimal (λ _. refl) made (reduced (number_join r.operator.merge) l)) (λ _ l made. list_tells signed_decimal (λ x. x) signed_decimal (λ _. refl) made.items l)) c.chosen l result.made };
-}
-
-/// What is made of numbers inside another collector.
-pub type NumberInnerCollector = Adapted<NumberMapping, NumberCheck, NumberBaseCollector>;
-
-/// What is made of some of the numbers.
-pub type NumberSummaryCollector = Either<
-    Adapted<NumberMapping, NumberCheck, NumberInnerCollector>,
-    GroupingBy<NumberMapping, NumberInnerCollector, RandomState>,
->;
-
-/// The collector of a base of numbers.
-pub fn number_base(alloc: Global, base: NumberBase) -> NumberBaseCollector
-    ensures ready { ⟦<NumberBaseCollector as Collector>⟧.ready result }
-    ensures summary { (l : List ℤ) → ⟦<NumberBaseCollector as Summarizes>⟧.summary result l ≡ number_base_text base l }
-{
-    let chosen = match base {
-        NumberBase::Count => Left(Left(Counting::new())),
-        NumberBase::Sum => Left(Right(SummingLong::new(Itself))),
-        NumberBase::Max => Right(Left(Reducing::new(NumberMerging::of(NumberMerge::Max)))),
-        NumberBase::Min => Right(Left(Reducing::new(NumberMerging::of(NumberMerge::Min)))),
-        NumberBase::First => Right(Left(Reducing::new(NumberMerging::of(NumberMerge::First)))),
-        NumberBase::ToList => Right(Right(ToList::new(alloc))),
-    };
-    NumberBaseCollector { chosen }
+    ghost tells = { λ c l result. either_tells _ _ _ _ _ _ (λ a l. tells.tells-law a.downstream.downstream (adapted_items mapping_image check_holds a.downstream.step (adapted_items mapping_image check_holds a.step l))) (λ g l made. groups_tell signed_decimal (λ x. x) signed_decimal (λ _. refl) int_eq (mapping_image g.key) _ _ _ (λ l. tells.tells-law g.downstream.downstream (adapted_items mapping_image check_holds g.downstream.step l)) l made.entries) c.chosen l result.made };
 }
 
 /// The collector of numbers inside another.
@@ -162,7 +137,7 @@ pub fn number_summary(
     ensures ready { ⟦<NumberSummaryCollector as Collector>⟧.ready result }
     ensures summary { (l : List ℤ) → ⟦<NumberSummaryCollector as Summarizes>⟧.summary result l ≡ number_summary_text summary l }
 {
-    match summary {
+    let chosen = match summary {
         NumberSummary::Base(base) => Left(Adapted::new(
             Adapting::Nothing,
             number_inner(alloc, NumberInner::Base(base)),
@@ -181,5 +156,6 @@ pub fn number_summary(
             number_inner(alloc, inner),
             hashes,
         )),
-    }
+    };
+    NumberSummaryCollector { chosen }
 }

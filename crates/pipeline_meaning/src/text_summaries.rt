@@ -1,105 +1,120 @@
-//! The language's collectors of texts, level by level, each chosen at run time.
-ghost use Rattle.std.specs.Prelude.{◌≡◌, ℕ, List, map, IfSome, IfNone};
+//! The language's collectors of texts, each chosen at run time.
+ghost use Rattle.std.specs.Prelude.{◌≡◌, ⊤, ℕ, refl, List, bytes_eq};
+ghost use Rattle.std.specs.Fmt.{signed_decimal};
+ghost use Rattle.std.specs.Ordering.{int_eq};
+ghost use Rattle.spliterator.specs.Values.{int_eq-decides, bytes_eq-decides};
+ghost use Rattle.collectors.specs.Either.{either_laws};
+ghost use Rattle.collectors.specs.GroupingLaws.{grouping_laws};
 ghost use Rattle.pipeline_language.specs.declared.pipeline.TextFunction.TheVariants as keys;
-ghost use Rattle.pipeline_meaning.specs.Functions.{text_length};
-ghost use Rattle.pipeline_meaning.specs.Summaries.{number_inner_text, text_base_text, text_inner_text, text_summary_text, text_groups_text, IsTextGroups};
+ghost use Rattle.pipeline_meaning.specs.Adapting.{adapted_items, adapted_laws};
+ghost use Rattle.pipeline_meaning.specs.Functions.{text_holds, text_length};
+ghost use Rattle.pipeline_meaning.specs.Summaries.{itself, text_inner_text, text_summary_text, text_groups_text};
+ghost use Rattle.pipeline_meaning.specs.SummaryLaws.{either_tells, groups_tell};
+ghost use Rattle.pipeline_meaning.specs.contracts.text_inners.TextInnerCollectorCollector.TheImpl.Laws as inner;
+ghost use Rattle.pipeline_meaning.specs.contracts.text_inners.TextInnerCollectorSummarizes.TheImpl.Laws as told;
 
-use crate::number_summaries::{NumberInnerCollector, number_inner};
 use crate::summarizes::grouped;
-use crate::{Adapted, Adapting, Itself, Summarizes, TextCheck, TextLength};
-use collectors::{Collector, Counting, First, GroupingBy, Joining, MappingTo, ToList};
+use crate::text_inners::{TextInnerCollector, text_inner, text_lengths};
+use crate::{Adapted, Adapting, Itself, Summarizes, TextCheck, TextLength, Written};
+use collectors::{Collector, GroupingBy};
 use either::{Either, Left, Right};
-use pipeline_language::{NumberInner, TextBase, TextInner, TextSummary};
+use pipeline_language::{TextFunction, TextInner, TextSummary};
+use spliterator::NoMemory;
 use std::alloc::Global;
 use std::hash::RandomState;
 
-/// What is made of texts at once.
-pub type TextBaseCollector<'a> = Either<
-    Either<Counting<&'a str>, First<&'a str>>,
-    Either<ToList<&'a str>, Joining<'a, &'a str>>,
+// The groups of texts by their lengths.
+type TextsByLength<'a> = GroupingBy<TextLength, TextInnerCollector<'a>, RandomState>;
+
+// The groups of equal texts.
+type TextsByThemselves<'a> = GroupingBy<Itself, TextInnerCollector<'a>, RandomState>;
+
+// What is made of some of the texts, as is chosen at run time.
+type TextSummaryChoice<'a> = Either<
+    Adapted<Itself, TextCheck<'a>, TextInnerCollector<'a>>,
+    Either<TextsByLength<'a>, TextsByThemselves<'a>>,
 >;
 
-/// What is made of texts inside another collector: of them, or of their lengths.
-pub type TextInnerCollector<'a> = Either<
-    Adapted<Itself, TextCheck<'a>, TextBaseCollector<'a>>,
-    MappingTo<&'a str, TextLength, NumberInnerCollector>,
->;
+/// What is made of some of the texts.
+#[derive(Drop)]
+pub struct TextSummaryCollector<'a> {
+    chosen: TextSummaryChoice<'a>,
+}
 
-/// What is made of some of the texts, without groups.
-pub type TextPlainCollector<'a> = Adapted<Itself, TextCheck<'a>, TextInnerCollector<'a>>;
+/// The container of a `TextSummaryCollector`.
+#[derive(Drop)]
+pub struct TextSummaryContainer<'a> {
+    held: <TextSummaryChoice<'a> as Collector>::Acc,
+}
 
-/// The groups of texts by their lengths.
-pub type TextsByLength<'a> = GroupingBy<TextLength, TextInnerCollector<'a>, RandomState>;
+/// What a `TextSummaryCollector` makes.
+#[derive(Drop)]
+pub struct TextSummaryResult<'a> {
+    made: <TextSummaryChoice<'a> as Collector>::Out,
+}
 
-/// The groups of equal texts.
-pub type TextsByThemselves<'a> = GroupingBy<Itself, TextInnerCollector<'a>, RandomState>;
+impl<'a> Written for TextSummaryResult<'a> {
+    ghost text = { λ result. ⟦<<TextSummaryChoice<'a> as Collector>::Out as Written>⟧.text result.made };
 
-/// The collector of a base of texts.
-pub fn text_base<'a>(alloc: Global, base: TextBase<'a>) -> TextBaseCollector<'a>
-    ensures ready { ⟦<TextBaseCollector<'a> as Collector>⟧.ready result }
-    ensures summary { (l : List (List ℕ)) → ⟦<TextBaseCollector<'a> as Summarizes>⟧.summary result l ≡ text_base_text base.entry l }
-{
-    match base {
-        TextBase::Count => Left(Left(Counting::new())),
-        TextBase::First => Left(Right(First::new())),
-        TextBase::ToList => Right(Left(ToList::new(alloc))),
-        TextBase::Joining(delimiter) => Right(Right(Joining::new(alloc, delimiter, "", ""))),
+    fn write_to(&self, out: &mut String) -> Result<(), NoMemory> {
+        self.made.write_to(out)
     }
 }
 
-/// The collector of texts inside another.
-pub fn text_inner<'a>(alloc: Global, inner: TextInner<'a>) -> TextInnerCollector<'a>
-    ensures ready { ⟦<TextInnerCollector<'a> as Collector>⟧.ready result }
-    ensures summary { (l : List (List ℕ)) → ⟦<TextInnerCollector<'a> as Summarizes>⟧.summary result l ≡ text_inner_text inner.entry l }
-{
-    match inner {
-        TextInner::Base(base) => Left(Adapted::new(Adapting::Nothing, text_base(alloc, base))),
-        TextInner::MappingItself(base) => {
-            Left(Adapted::new(Adapting::Nothing, text_base(alloc, base)))
-        }
-        TextInner::MappingLength(base) => { text_lengths(alloc, NumberInner::Base(base)) }
-        TextInner::Filtering(test, base) => Left(Adapted::new(
-            Adapting::Filtering(TextCheck::of(test)),
-            text_base(alloc, base),
-        )),
+impl<'a> Collector for TextSummaryCollector<'a> {
+    type Item = &'a str;
+
+    type Acc = TextSummaryContainer<'a>;
+
+    type Out = TextSummaryResult<'a>;
+
+    ghost ready = { λ c. ⟦<TextSummaryChoice<'a> as Collector>⟧.ready c.chosen };
+
+    ghost Content = { ⟦<TextSummaryChoice<'a> as Collector>⟧.Content };
+
+    ghost content = { λ c acc. ⟦<TextSummaryChoice<'a> as Collector>⟧.content c.chosen acc.held };
+
+    ghost empty = { λ c. ⟦<TextSummaryChoice<'a> as Collector>⟧.empty c.chosen };
+
+    ghost add = { λ c. ⟦<TextSummaryChoice<'a> as Collector>⟧.add c.chosen };
+
+    ghost merge = { λ c. ⟦<TextSummaryChoice<'a> as Collector>⟧.merge c.chosen };
+
+    ghost gives = { λ c l result. ⟦<TextSummaryChoice<'a> as Collector>⟧.gives c.chosen l result.made };
+
+    ghost laws = { λ c. either_laws (λ _. ⊤) _ _ _ _ _ _ (λ a. adapted_laws (λ _ x. x) (λ check. text_holds check.test) _ _ (λ _. ⊤) (λ _ _ value. value) _ (inner.laws-law a.downstream) a.step) (either_laws (λ _. ⊤) _ _ _ _ _ _ (λ g. grouping_laws int_eq int_eq-decides text_length (λ _. ⊤) _ _ _ (inner.laws-law g.downstream)) (λ g. grouping_laws bytes_eq bytes_eq-decides itself (λ _. ⊤) _ _ _ (inner.laws-law g.downstream))) c.chosen };
+
+    fn supply(&self) -> Result<TextSummaryContainer<'a>, NoMemory> {
+        let held = self.chosen.supply()?;
+        Ok(TextSummaryContainer { held })
+    }
+
+    fn accumulate(&self, acc: &mut TextSummaryContainer<'a>, x: &&'a str) -> Result<(), NoMemory> {
+        self.chosen.accumulate(&mut acc.held, x)
+    }
+
+    fn combine(
+        &self,
+        left: &mut TextSummaryContainer<'a>,
+        right: TextSummaryContainer<'a>,
+    ) -> Result<(), NoMemory> {
+        self.chosen.combine(&mut left.held, right.held)
+    }
+
+    fn finish(&self, acc: TextSummaryContainer<'a>) -> Result<TextSummaryResult<'a>, NoMemory> {
+        let made = self.chosen.finish(acc.held)?;
+        Ok(TextSummaryResult { made })
     }
 }
 
-/// The collector of the lengths of texts.
-pub fn text_lengths<'a>(alloc: Global, inner: NumberInner) -> TextInnerCollector<'a>
-    ensures ready { ⟦<TextInnerCollector<'a> as Collector>⟧.ready result }
-    ensures summary { (l : List (List ℕ)) → ⟦<TextInnerCollector<'a> as Summarizes>⟧.summary result l ≡ number_inner_text inner (map text_length l) }
-{
-    Right(MappingTo::new(TextLength, number_inner(alloc, inner)))
+impl<'a> Summarizes for TextSummaryCollector<'a> {
+    ghost summary = { λ c. ⟦<TextSummaryChoice<'a> as Summarizes>⟧.summary c.chosen };
+
+    ghost tells = { λ c l result. either_tells _ _ _ _ _ _ (λ a l. told.tells-law a.downstream (adapted_items (λ _ x. x) (λ check. text_holds check.test) a.step l)) (either_tells _ _ _ _ _ _ (λ g l made. groups_tell signed_decimal (λ n. n) signed_decimal (λ _. refl) int_eq text_length _ _ _ (told.tells-law g.downstream) l made.entries) (λ g l made. groups_tell (λ text. text.now) (λ text. text.now) itself (λ _. refl) bytes_eq itself _ _ _ (told.tells-law g.downstream) l made.entries)) c.chosen l result.made };
 }
 
-/// The collector of a summary of texts that is no grouping, or `None` for one that is.
-pub fn text_plain<'a>(alloc: Global, summary: TextSummary<'a>) -> Option<TextPlainCollector<'a>>
-    ensures ready { IfSome result (λ c. ⟦<TextPlainCollector<'a> as Collector>⟧.ready c) }
-    ensures summary { IfSome result (λ c. (l : List (List ℕ)) → ⟦<TextPlainCollector<'a> as Summarizes>⟧.summary c l ≡ text_summary_text summary.entry l) }
-    ensures groups { IfNone result (IsTextGroups summary.entry) }
-{
-    match summary {
-        TextSummary::Base(base) => Some(Adapted::new(
-            Adapting::Nothing,
-            text_inner(alloc, TextInner::Base(base)),
-        )),
-        TextSummary::MappingItself(inner) => {
-            Some(Adapted::new(Adapting::Nothing, text_inner(alloc, inner)))
-        }
-        TextSummary::MappingLength(inner) => {
-            Some(Adapted::new(Adapting::Nothing, text_lengths(alloc, inner)))
-        }
-        TextSummary::Filtering(test, inner) => Some(Adapted::new(
-            Adapting::Filtering(TextCheck::of(test)),
-            text_inner(alloc, inner),
-        )),
-        TextSummary::GroupBy(_, _) => None,
-    }
-}
-
-/// The collector of groups of texts by their lengths. They are hashed by `hashes`, since whoever writes a file picks the keys.
-pub fn texts_by_length<'a>(
+// The collector of groups of texts by their lengths.
+fn texts_by_length<'a>(
     alloc: Global,
     hashes: RandomState,
     inner: TextInner<'a>,
@@ -110,8 +125,8 @@ pub fn texts_by_length<'a>(
     grouped(alloc, TextLength, text_inner(alloc, inner), hashes)
 }
 
-/// The collector of groups of equal texts.
-pub fn texts_by_themselves<'a>(
+// The collector of groups of equal texts.
+fn texts_by_themselves<'a>(
     alloc: Global,
     hashes: RandomState,
     inner: TextInner<'a>,
@@ -120,4 +135,38 @@ pub fn texts_by_themselves<'a>(
     ensures summary { (l : List (List ℕ)) → ⟦<TextsByThemselves<'a> as Summarizes>⟧.summary result l ≡ text_groups_text keys.Itself (text_inner_text inner.entry) l }
 {
     grouped(alloc, Itself, text_inner(alloc, inner), hashes)
+}
+
+/// The collector of texts. Groups are hashed by `hashes`, since whoever writes a file picks the keys.
+pub fn text_summary<'a>(
+    alloc: Global,
+    hashes: RandomState,
+    summary: TextSummary<'a>,
+) -> TextSummaryCollector<'a>
+    ensures ready { ⟦<TextSummaryCollector<'a> as Collector>⟧.ready result }
+    ensures summary { (l : List (List ℕ)) → ⟦<TextSummaryCollector<'a> as Summarizes>⟧.summary result l ≡ text_summary_text summary.entry l }
+{
+    let chosen = match summary {
+        TextSummary::Base(base) => Left(Adapted::new(
+            Adapting::Nothing,
+            text_inner(alloc, TextInner::Base(base)),
+        )),
+        TextSummary::MappingItself(inner) => {
+            Left(Adapted::new(Adapting::Nothing, text_inner(alloc, inner)))
+        }
+        TextSummary::MappingLength(inner) => {
+            Left(Adapted::new(Adapting::Nothing, text_lengths(alloc, inner)))
+        }
+        TextSummary::Filtering(test, inner) => Left(Adapted::new(
+            Adapting::Filtering(TextCheck::of(test)),
+            text_inner(alloc, inner),
+        )),
+        TextSummary::GroupBy(TextFunction::Length, inner) => {
+            Right(Left(texts_by_length(alloc, hashes, inner)))
+        }
+        TextSummary::GroupBy(TextFunction::Itself, inner) => {
+            Right(Right(texts_by_themselves(alloc, hashes, inner)))
+        }
+    };
+    TextSummaryCollector { chosen }
 }

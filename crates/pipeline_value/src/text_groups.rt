@@ -8,20 +8,12 @@ ghost use Rattle.pipeline_meaning.specs.Texts.{pair_text};
 
 use crate::nested::{paired, parted};
 use collectors::{Collector, GroupingBy, PartitioningBy, Teeing};
-use either::{Either, Left, Right};
-use pipeline_language::{TextFunction, TextSummary, TextTest};
+use pipeline_language::{TextSummary, TextTest};
 use pipeline_meaning::{
-    Both, Itself, Summarizes, TextCheck, TextLength, TextPlainCollector, TextsByLength,
-    TextsByThemselves, grouped, text_plain, texts_by_length, texts_by_themselves,
+    Both, Itself, Summarizes, TextCheck, TextLength, TextSummaryCollector, grouped, text_summary,
 };
 use std::alloc::Global;
 use std::hash::RandomState;
-
-/// What is made of some of the texts.
-pub(crate) type TextSummaryCollector<'a> = Either<
-    TextPlainCollector<'a>,
-    Either<TextsByLength<'a>, TextsByThemselves<'a>>,
->;
 
 /// The collector of groups of texts by their lengths.
 pub(crate) type LengthGroups<'a> = GroupingBy<TextLength, TextSummaryCollector<'a>, RandomState>;
@@ -34,32 +26,6 @@ pub(crate) type TextParts<'a> = PartitioningBy<TextCheck<'a>, TextSummaryCollect
 
 /// The collector of two results of the same texts.
 pub(crate) type TextPair<'a> = Teeing<TextSummaryCollector<'a>, TextSummaryCollector<'a>, Both>;
-
-/// The collector of a summary of texts.
-pub(crate) fn text_summary<'a>(
-    alloc: Global,
-    hashes: RandomState,
-    summary: TextSummary<'a>,
-) -> TextSummaryCollector<'a>
-    ensures ready { ⟦<TextSummaryCollector<'a> as Collector>⟧.ready result }
-    ensures summary { (l : List (List ℕ)) → ⟦<TextSummaryCollector<'a> as Summarizes>⟧.summary result l ≡ text_summary_text summary.entry l }
-{
-    if let Some(plain) = text_plain(alloc, summary) {
-        return Left(plain);
-    }
-    match summary {
-        TextSummary::GroupBy(TextFunction::Length, inner) => {
-            Right(Left(texts_by_length(alloc, hashes, inner)))
-        }
-        TextSummary::GroupBy(TextFunction::Itself, inner) => {
-            Right(Right(texts_by_themselves(alloc, hashes, inner)))
-        }
-        TextSummary::Base(_)
-        | TextSummary::MappingLength(_)
-        | TextSummary::MappingItself(_)
-        | TextSummary::Filtering(_, _) => unreachable!(),
-    }
-}
 
 /// The groups of texts by their lengths.
 pub(crate) fn length_groups<'a>(

@@ -6,7 +6,7 @@ use Rattle.pipeline_meaning.specs.Functions.{number_join}
 use Rattle.pipeline_meaning.specs.SummaryLaws.{reduced-first_of}
 use Rattle.pipeline_meaning.specs.Summaries.{number_base_text}
 use Rattle.pipeline_meaning.specs.Texts.{optional_text}
-use Rattle.pipeline_meaning.proofs.number_summaries.number_base.Goals as goal
+use Rattle.pipeline_meaning.proofs.number_bases.number_base.Goals as goal
 
 pub returns-in-First-clause-summary : goal.returns-in-First-clause-summary
 returns-in-First-clause-summary c = λ l.

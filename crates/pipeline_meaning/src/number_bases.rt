@@ -1,0 +1,122 @@
+//! The collector of a base of numbers, chosen at run time.
+ghost use Rattle.std.proofs.Common.{ap};
+ghost use Rattle.std.specs.Prelude.{◌≡◌, ℕ, ℤ, pos, refl, List};
+ghost use Rattle.std.specs.Fmt.{signed_decimal};
+ghost use Rattle.std.specs.Ordering.{int_eq};
+ghost use Rattle.spliterator.specs.Values.{IsI64, int_eq-decides};
+ghost use Rattle.stages.specs.Operators.{associative-tested};
+ghost use Rattle.collectors.specs.Either.{either_laws};
+ghost use Rattle.collectors.specs.NestedLaws.{list_laws};
+ghost use Rattle.collectors.specs.Reductions.{reduced, reduce_laws};
+ghost use Rattle.collectors.specs.Sums.{sum_laws};
+ghost use Rattle.pipeline_meaning.specs.Functions.{number_join};
+ghost use Rattle.pipeline_meaning.specs.PreparedLaws.{number_join-value};
+ghost use Rattle.pipeline_meaning.specs.Summaries.{number_base_text};
+ghost use Rattle.pipeline_meaning.specs.SummaryLaws.{optional_tells, list_tells, either_tells};
+
+use crate::{Itself, NumberMerging, Summarizes, Written};
+use collectors::{Collector, Counting, Reducing, SummingLong, ToList};
+use either::{Either, Left, Right};
+use pipeline_language::{NumberBase, NumberMerge};
+use spliterator::NoMemory;
+use std::alloc::Global;
+
+// What is made of numbers at once, as is chosen at run time.
+type NumberBaseChoice = Either<
+    Either<Counting<i64>, SummingLong<i64, Itself>>,
+    Either<Reducing<i64, NumberMerging>, ToList<i64>>,
+>;
+
+/// What is made of numbers at once. It has a type of its own, since a tower of `Either`s costs what stands over it.
+#[derive(Drop)]
+pub struct NumberBaseCollector {
+    chosen: NumberBaseChoice,
+}
+
+/// The container of a `NumberBaseCollector`.
+#[derive(Drop)]
+pub struct NumberBaseContainer {
+    held: <NumberBaseChoice as Collector>::Acc,
+}
+
+/// What a `NumberBaseCollector` makes.
+#[derive(Drop)]
+pub struct NumberBaseResult {
+    made: <NumberBaseChoice as Collector>::Out,
+}
+
+impl Written for NumberBaseResult {
+    ghost text = { λ result. ⟦<<NumberBaseChoice as Collector>::Out as Written>⟧.text result.made };
+
+    fn write_to(&self, out: &mut String) -> Result<(), NoMemory> {
+        self.made.write_to(out)
+    }
+}
+
+impl Collector for NumberBaseCollector {
+    type Item = i64;
+
+    type Acc = NumberBaseContainer;
+
+    type Out = NumberBaseResult;
+
+    ghost ready = { λ c. ⟦<NumberBaseChoice as Collector>⟧.ready c.chosen };
+
+    ghost Content = { ⟦<NumberBaseChoice as Collector>⟧.Content };
+
+    ghost content = { λ c acc. ⟦<NumberBaseChoice as Collector>⟧.content c.chosen acc.held };
+
+    ghost empty = { λ c. ⟦<NumberBaseChoice as Collector>⟧.empty c.chosen };
+
+    ghost add = { λ c. ⟦<NumberBaseChoice as Collector>⟧.add c.chosen };
+
+    ghost merge = { λ c. ⟦<NumberBaseChoice as Collector>⟧.merge c.chosen };
+
+    ghost gives = { λ c l result. ⟦<NumberBaseChoice as Collector>⟧.gives c.chosen l result.made };
+
+    ghost laws = { λ c. either_laws IsI64 _ _ _ _ _ _ (either_laws IsI64 _ _ _ _ _ _ (λ _. sum_laws (λ _. pos 1) IsI64) (λ _. sum_laws (λ x. x) IsI64)) (either_laws IsI64 _ _ _ _ _ _ (λ r. reduce_laws (number_join r.operator.merge) IsI64 (number_join-value r.operator.merge) (associative-tested int_eq int_eq-decides IsI64 (number_join r.operator.merge) r.associative)) (λ _. list_laws IsI64)) c.chosen };
+
+    fn supply(&self) -> Result<NumberBaseContainer, NoMemory> {
+        let held = self.chosen.supply()?;
+        Ok(NumberBaseContainer { held })
+    }
+
+    fn accumulate(&self, acc: &mut NumberBaseContainer, x: &i64) -> Result<(), NoMemory> {
+        self.chosen.accumulate(&mut acc.held, x)
+    }
+
+    fn combine(
+        &self,
+        left: &mut NumberBaseContainer,
+        right: NumberBaseContainer,
+    ) -> Result<(), NoMemory> {
+        self.chosen.combine(&mut left.held, right.held)
+    }
+
+    fn finish(&self, acc: NumberBaseContainer) -> Result<NumberBaseResult, NoMemory> {
+        let made = self.chosen.finish(acc.held)?;
+        Ok(NumberBaseResult { made })
+    }
+}
+
+impl Summarizes for NumberBaseCollector {
+    ghost summary = { λ c. ⟦<NumberBaseChoice as Summarizes>⟧.summary c.chosen };
+
+    ghost tells = { λ c l result. either_tells _ _ _ _ _ _ (either_tells _ _ _ _ _ _ (λ _ _ _ h. ap signed_decimal h) (λ _ _ _ h. ap signed_decimal h)) (either_tells _ _ _ _ _ _ (λ r l made. optional_tells signed_decimal (λ x. x) signed_decimal (λ _. refl) made (reduced (number_join r.operator.merge) l)) (λ _ l made. list_tells signed_decimal (λ x. x) signed_decimal (λ _. refl) made.items l)) c.chosen l result.made };
+}
+
+/// The collector of a base of numbers.
+pub fn number_base(alloc: Global, base: NumberBase) -> NumberBaseCollector
+    ensures ready { ⟦<NumberBaseCollector as Collector>⟧.ready result }
+    ensures summary { (l : List ℤ) → ⟦<NumberBaseCollector as Summarizes>⟧.summary result l ≡ number_base_text base l }
+{
+    let chosen = match base {
+        NumberBase::Count => Left(Left(Counting::new())),
+        NumberBase::Sum => Left(Right(SummingLong::new(Itself))),
+        NumberBase::Max => Right(Left(Reducing::new(NumberMerging::of(NumberMerge::Max)))),
+        NumberBase::Min => Right(Left(Reducing::new(NumberMerging::of(NumberMerge::Min)))),
+        NumberBase::First => Right(Left(Reducing::new(NumberMerging::of(NumberMerge::First)))),
+        NumberBase::ToList => Right(Right(ToList::new(alloc))),
+    };
+    NumberBaseCollector { chosen }
+}

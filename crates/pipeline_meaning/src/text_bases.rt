@@ -1,0 +1,116 @@
+//! The collector of a base of texts, chosen at run time.
+ghost use Rattle.std.proofs.Common.{ap};
+ghost use Rattle.std.specs.Prelude.{◌≡◌, ⊤, ℕ, pos, refl, List};
+ghost use Rattle.std.specs.Fmt.{signed_decimal};
+ghost use Rattle.collectors.specs.Either.{either_laws};
+ghost use Rattle.collectors.specs.NestedLaws.{list_laws};
+ghost use Rattle.collectors.specs.Reductions.{first, first_laws};
+ghost use Rattle.collectors.specs.Sums.{sum_laws};
+ghost use Rattle.collectors.specs.Texts.{joining_laws};
+ghost use Rattle.pipeline_meaning.specs.Summaries.{itself, text_base_text};
+ghost use Rattle.pipeline_meaning.specs.SummaryLaws.{optional_tells, list_tells, either_tells};
+
+use crate::{Summarizes, Written};
+use collectors::{Collector, Counting, First, Joining, ToList};
+use either::{Either, Left, Right};
+use pipeline_language::TextBase;
+use spliterator::NoMemory;
+use std::alloc::Global;
+
+// What is made of texts at once, as is chosen at run time.
+type TextBaseChoice<'a> = Either<
+    Either<Counting<&'a str>, First<&'a str>>,
+    Either<ToList<&'a str>, Joining<'a, &'a str>>,
+>;
+
+/// What is made of texts at once.
+#[derive(Drop)]
+pub struct TextBaseCollector<'a> {
+    chosen: TextBaseChoice<'a>,
+}
+
+/// The container of a `TextBaseCollector`.
+#[derive(Drop)]
+pub struct TextBaseContainer<'a> {
+    held: <TextBaseChoice<'a> as Collector>::Acc,
+}
+
+/// What a `TextBaseCollector` makes.
+#[derive(Drop)]
+pub struct TextBaseResult<'a> {
+    made: <TextBaseChoice<'a> as Collector>::Out,
+}
+
+impl<'a> Written for TextBaseResult<'a> {
+    ghost text = { λ result. ⟦<<TextBaseChoice<'a> as Collector>::Out as Written>⟧.text result.made };
+
+    fn write_to(&self, out: &mut String) -> Result<(), NoMemory> {
+        self.made.write_to(out)
+    }
+}
+
+impl<'a> Collector for TextBaseCollector<'a> {
+    type Item = &'a str;
+
+    type Acc = TextBaseContainer<'a>;
+
+    type Out = TextBaseResult<'a>;
+
+    ghost ready = { λ c. ⟦<TextBaseChoice<'a> as Collector>⟧.ready c.chosen };
+
+    ghost Content = { ⟦<TextBaseChoice<'a> as Collector>⟧.Content };
+
+    ghost content = { λ c acc. ⟦<TextBaseChoice<'a> as Collector>⟧.content c.chosen acc.held };
+
+    ghost empty = { λ c. ⟦<TextBaseChoice<'a> as Collector>⟧.empty c.chosen };
+
+    ghost add = { λ c. ⟦<TextBaseChoice<'a> as Collector>⟧.add c.chosen };
+
+    ghost merge = { λ c. ⟦<TextBaseChoice<'a> as Collector>⟧.merge c.chosen };
+
+    ghost gives = { λ c l result. ⟦<TextBaseChoice<'a> as Collector>⟧.gives c.chosen l result.made };
+
+    ghost laws = { λ c. either_laws (λ _. ⊤) _ _ _ _ _ _ (either_laws (λ _. ⊤) _ _ _ _ _ _ (λ _. sum_laws (λ _. pos 1) (λ _. ⊤)) (λ _. first_laws (λ _. ⊤))) (either_laws (λ _. ⊤) _ _ _ _ _ _ (λ _. list_laws (λ _. ⊤)) (λ joining. joining_laws joining.delimiter.now (λ _. ⊤))) c.chosen };
+
+    fn supply(&self) -> Result<TextBaseContainer<'a>, NoMemory> {
+        let held = self.chosen.supply()?;
+        Ok(TextBaseContainer { held })
+    }
+
+    fn accumulate(&self, acc: &mut TextBaseContainer<'a>, x: &&'a str) -> Result<(), NoMemory> {
+        self.chosen.accumulate(&mut acc.held, x)
+    }
+
+    fn combine(
+        &self,
+        left: &mut TextBaseContainer<'a>,
+        right: TextBaseContainer<'a>,
+    ) -> Result<(), NoMemory> {
+        self.chosen.combine(&mut left.held, right.held)
+    }
+
+    fn finish(&self, acc: TextBaseContainer<'a>) -> Result<TextBaseResult<'a>, NoMemory> {
+        let made = self.chosen.finish(acc.held)?;
+        Ok(TextBaseResult { made })
+    }
+}
+
+impl<'a> Summarizes for TextBaseCollector<'a> {
+    ghost summary = { λ c. ⟦<TextBaseChoice<'a> as Summarizes>⟧.summary c.chosen };
+
+    ghost tells = { λ c l result. either_tells _ _ _ _ _ _ (either_tells _ _ _ _ _ _ (λ _ _ _ h. ap signed_decimal h) (λ _ l made. optional_tells (λ text. text.now) (λ text. text.now) itself (λ _. refl) made (first l))) (either_tells _ _ _ _ _ _ (λ _ l made. list_tells (λ text. text.now) (λ text. text.now) itself (λ _. refl) made.items l) (λ _ _ _ h. h)) c.chosen l result.made };
+}
+
+/// The collector of a base of texts.
+pub fn text_base<'a>(alloc: Global, base: TextBase<'a>) -> TextBaseCollector<'a>
+    ensures ready { ⟦<TextBaseCollector<'a> as Collector>⟧.ready result }
+    ensures summary { (l : List (List ℕ)) → ⟦<TextBaseCollector<'a> as Summarizes>⟧.summary result l ≡ text_base_text base.entry l }
+{
+    let chosen = match base {
+        TextBase::Count => Left(Left(Counting::new())),
+        TextBase::First => Left(Right(First::new())),
+        TextBase::ToList => Right(Left(ToList::new(alloc))),
+        TextBase::Joining(delimiter) => Right(Right(Joining::new(alloc, delimiter, "", ""))),
+    };
+    TextBaseCollector { chosen }
+}
