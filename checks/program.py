@@ -69,7 +69,7 @@ def commands():
 
 
 def refusals(library):
-    """Runs in which one request for memory is refused: each ends as with ample memory, or says so."""
+    """Runs in which one request for memory is refused: each ends as with ample memory, or says so. With ample memory none says so."""
     for words, file in commands():
         ample = run(words, input=file)
         above = above_requests(words, file, library)
@@ -78,7 +78,8 @@ def refusals(library):
         wrong = [(number, end) for number, end in ends if end not in (ample, WANT_OF_MEMORY)]
         wants = sum(end == WANT_OF_MEMORY for _, end in ends)
         spoken = " ".join([getattr(word, "stem", word) for word in words] + file.decode().split("\n")).strip()
-        yield f"memory refused in turn, `{spoken}`: {wants} wants of memory in {len(ends)} runs", (wrong, wants > 0), ([], True)
+        name = f"memory refused in turn, `{spoken}`: {wants} wants of memory in {len(ends)} runs"
+        yield name, (wrong, wants > 0, ample != WANT_OF_MEMORY), ([], True, True)
 
 
 def refusing(library, **requests):
