@@ -19,9 +19,9 @@ import sys
 import tempfile
 import textwrap
 
-from program import PSTREAM, run
+from built import PSTREAM, ROOT, need_program, run, tell
 
-DOCS = pathlib.Path(__file__).resolve().parent.parent / "docs"
+DOCS = ROOT / "docs"
 FENCE = re.compile(r"^```(pipeline|sh)\n(.*?)^```\n(.*?)(?=^```|^#|\Z)", re.MULTILINE | re.DOTALL)
 # macros of the man page that put no space between their words, and those that begin a paragraph
 JOINING = (".BI", ".BR", ".IR", ".RB")
@@ -169,19 +169,14 @@ def main():
     parser = argparse.ArgumentParser()
     parser.add_argument("--help-of", type=pathlib.Path, help="a file with the words of `pstream --help`")
     options = parser.parse_args()
-    if not options.help_of and not PSTREAM.exists():
-        sys.exit("crates/pstream/out/pstream is missing: `rt run` in crates/pstream builds it")
+    if not options.help_of:
+        need_program()
     told = Help(options.help_of.read_text() if options.help_of else run(["--help"])[1].decode())
     manual = Manual((DOCS / "pstream.1").read_text())
     findings = [*man_page(manual, told), *pages(manual, told)]
     if not options.help_of:
         findings += [*shown_files(), *help_examples(told), *sessions(manual)]
-    failed = 0
-    for name, found, wanted in findings:
-        good = found == wanted
-        failed += not good
-        print(f"{'ok' if good else 'FAILED'}: {name}" + ("" if good else f": {found!r}, wanted {wanted!r}"))
-    sys.exit(1 if failed else 0)
+    sys.exit(tell(findings) > 0)
 
 
 if __name__ == "__main__":

@@ -11,10 +11,9 @@ its answer. The program has to be built before (`rt run` in crates/pstream).
 import itertools
 import sys
 
-from program import EXAMPLES, PSTREAM, run
+from built import EXAMPLES, need_program, run, tell
 
-WORKERS = ["1", "2", "7", "64"]
-TARGETS = ["1", "0"]
+SETTINGS = [["--workers", workers, "--target", target] for workers, target in itertools.product(["1", "2", "7", "64"], ["1", "0"])]
 
 
 def wanted(file):
@@ -28,39 +27,29 @@ def wanted(file):
     return int(status.removeprefix("status ")), b"", f"{line}\n".encode()
 
 
-def row_of(file, end):
-    """How the row of a file begins and ends in the tour's page."""
-    status, out, err = end
-    return f"| [{file.stem}]({file.name}) | ", f" | `{(out or err).decode().rstrip()}` |"
+def rows_of(file, end, page):
+    """How many rows of the tour's page have the file with its answer."""
+    _, out, err = end
+    begins, ends = f"| [{file.stem}]({file.name}) | ", f" | `{(out or err).decode().rstrip()}` |"
+    return sum(line.startswith(begins) and line.endswith(ends) for line in page)
 
 
-def findings(file, page):
-    """What is wrong with an example."""
-    end = wanted(file)
-    begins, ends = row_of(file, end)
-    if sum(line.startswith(begins) and line.endswith(ends) for line in page) != 1:
-        yield f"the tour has no row {begins}..{ends}"
-    for workers, target in itertools.product(WORKERS, TARGETS):
-        found = run([file, "--workers", workers, "--target", target])
-        if found != end:
-            yield f"{workers} workers, target {target}: {found!r}, wanted {end!r}"
+def findings():
+    """For each example its rows in the tour and its ends with all settings, each with what was wanted."""
+    page = (EXAMPLES / "README.md").read_text().splitlines()
+    files = sorted(EXAMPLES.glob("*.pipeline"))
+    yield "there are examples", bool(files), True
+    for file in files:
+        end = wanted(file)
+        ends = [(words, run([file, *words])) for words in SETTINGS]
+        yield file.stem, (rows_of(file, end, page), [found for found in ends if found[1] != end]), (1, [])
+    strays = {path.stem for path in EXAMPLES.iterdir()} - {file.stem for file in files} - {"README"}
+    yield "no answer without a pipeline", strays, set()
 
 
 def main():
-    if not PSTREAM.exists():
-        sys.exit("crates/pstream/out/pstream is missing: `rt run` in crates/pstream builds it")
-    page = (EXAMPLES / "README.md").read_text().splitlines()
-    files = sorted(EXAMPLES.glob("*.pipeline"))
-    failed = 0
-    for file in files:
-        found = list(findings(file, page))
-        failed += bool(found)
-        print(f"{'FAILED' if found else 'ok'}: {file.stem}", *found, sep="\n    ")
-    strays = {path.stem for path in EXAMPLES.iterdir()} - {file.stem for file in files} - {"README"}
-    if strays:
-        print("FAILED: no pipeline beside", *sorted(strays))
-    print(f"{len(files) - failed} of {len(files)} examples as they should be")
-    sys.exit(1 if failed or strays or not files else 0)
+    need_program()
+    sys.exit(tell(findings()) > 0)
 
 
 if __name__ == "__main__":

@@ -7,30 +7,38 @@ The program has to be built before (`rt run` in crates/pstream). Memory is refus
 built by `rustc` and loaded before the C library.
 """
 
-import os
 import pathlib
 import subprocess
 import sys
 
+from built import EXAMPLES, need_program, run, tell
+
 CHECKS = pathlib.Path(__file__).resolve().parent
-PSTREAM = CHECKS.parent / "crates" / "pstream" / "out" / "pstream"
-EXAMPLES = CHECKS.parent / "examples"
 BUILT = CHECKS / "out"
 SUM = EXAMPLES / "01-sum.pipeline"
+# files beside the examples that run with each request for memory refused
+FILES = [
+    "pipeline 1\nrange 5 5\nsum\n",
+    "pipeline 1\nrange 0 10\nlimit 0\ntolist\n",
+    "pipeline 1\nlines 3\n\na\n\njoining ,\n",
+    "pipeline 1\nnumbers 1 2 3 4\ntomap mod 2 self last\n",
+    "pipeline 1\nrange 1 5\nteeing sum count\n",
+    "pipeline 1\nrange 0 0\nallmatch less 0\n",
+    "pipeline 1\nrange 0 0\nanymatch less 0\n",
+    "pipeline 1\nnumbers 1 2 3\nskip 10\ncount\n",
+    "pipeline 1\nnumbers 1 2 3\nflatmap repeat 0\ncount\n",
+    "pipeline 1\nlines 2\na b\nc\nflatmap words\njoining - < >\n",
+    "pipeline 1\nnumbers 4 8 15\nskip 1\nlimit 1\nmap add 1\ntolist\n",
+    "pipeline 2\nlines 3\na b\nc\na\ngroupby length mapping length sum\n",
+    "pipeline 2\nlines 3\nab\nc\ncd\ntomapstrict length self\n",
+    "pipeline 2\nnumbers 1 2 3 4\nteeing mapping mul 2 sum filtering divisible 2 tolist\n",
+    "pipeline 2\nnumbers 5 2 7 4 5\npartition greater 3 groupby mod 2 tolist\n",
+]
 # how many requests of a run are refused, evenly spread where it makes more
 MOST_REFUSALS = 400
 # the status of a run that got to its last request
 REACHED = 77
-
-
-def run(words, library=None, refused=0, last=0, **streams):
-    """Status, standard output and standard error of one run."""
-    environment = dict(os.environ)
-    if library:
-        environment |= {"LD_PRELOAD": str(library), "REFUSED_REQUEST": str(refused), "LAST_REQUEST": str(last)}
-    streams.setdefault("stdout", subprocess.PIPE)
-    done = subprocess.run([PSTREAM, *words], stderr=subprocess.PIPE, env=environment, timeout=60, **streams)
-    return done.returncode, done.stdout or b"", done.stderr
+WANT_OF_MEMORY = (3, b"", b"out of memory\n")
 
 
 def devices():
@@ -46,49 +54,53 @@ def devices():
     yield "an endless file", run(["/dev/zero"]), (2, b"", b"line 0: TOO_LARGE\n")
 
 
+def commands():
+    """Words after the program's name, with what stands on standard input."""
+    yield [SUM, "--workers", "64", "--target", "1"], b""
+    yield [SUM, "--workers", "65"], b""
+    yield ["--help"], b""
+    yield [], b""
+    for workers in ["1", "7"]:
+        settings = ["--workers", workers, "--target", "1"]
+        for file in sorted(EXAMPLES.glob("*.pipeline")):
+            yield [file, *settings], b""
+        for file in FILES:
+            yield ["/dev/stdin", *settings], file.encode()
+
+
 def refusals(library):
-    """Runs in which one request for memory is refused: each ends as with ample memory, or says so."""
-    cases = [
-        [SUM],
-        [SUM, "--workers", "64", "--target", "1"],
-        [SUM, "--workers", "65"],
-        ["--help"],
-        [],
-    ]
-    examples = sorted(EXAMPLES.glob("*.pipeline"))
-    cases += [[file, "--workers", workers, "--target", "1"] for file in examples for workers in ["1", "7"]]
-    want_of_memory = (3, b"", b"out of memory\n")
-    for words in cases:
-        ample = run(words, library)
-        above = above_requests(words, library)
+    """Runs in which one request for memory is refused: each ends as with ample memory, or says so. With ample memory none says so."""
+    for words, file in commands():
+        ample = run(words, input=file)
+        above = above_requests(words, file, library)
         numbers = range(1, above, max(above // MOST_REFUSALS, 1))
-        ends = [(number, run(words, library, refused=number)) for number in numbers]
-        wrong = [(number, end) for number, end in ends if end not in (ample, want_of_memory)]
-        wants = sum(end == want_of_memory for _, end in ends)
-        spoken = " ".join(getattr(word, "stem", word) for word in words)
-        yield f"memory refused in turn, `{spoken}`: {wants} wants of memory in {len(ends)} runs", (wrong, wants > 0), ([], True)
+        ends = [(number, run(words, refusing(library, REFUSED_REQUEST=number), input=file)) for number in numbers]
+        wrong = [(number, end) for number, end in ends if end not in (ample, WANT_OF_MEMORY)]
+        wants = sum(end == WANT_OF_MEMORY for _, end in ends)
+        spoken = " ".join([getattr(word, "stem", word) for word in words] + file.decode().split("\n")).strip()
+        name = f"memory refused in turn, `{spoken}`: {wants} wants of memory in {len(ends)} runs"
+        yield name, (wrong, wants > 0, ample != WANT_OF_MEMORY), ([], True, True)
 
 
-def above_requests(words, library):
+def refusing(library, **requests):
+    """The variables with which a run loads the library, and those that tell it of requests."""
+    return {"LD_PRELOAD": str(library)} | {name: str(number) for name, number in requests.items()}
+
+
+def above_requests(words, file, library):
     """A number above that of the requests of a run."""
     number = 64
-    while run(words, library, last=number)[0] == REACHED:
+    while run(words, refusing(library, LAST_REQUEST=number), input=file)[0] == REACHED:
         number *= 2
     return number
 
 
 def main():
-    if not PSTREAM.exists():
-        sys.exit("crates/pstream/out/pstream is missing: `rt run` in crates/pstream builds it")
+    need_program()
     BUILT.mkdir(exist_ok=True)
     library = BUILT / "librefuse_memory.so"
     subprocess.run(["rustc", "--edition", "2024", "-O", "-C", "panic=abort", "--crate-type", "cdylib", "-o", library, CHECKS / "refuse_memory.rs"], check=True)
-    failed = 0
-    for name, found, wanted in [*devices(), *refusals(library)]:
-        good = found == wanted
-        failed += not good
-        print(f"{'ok' if good else 'FAILED'}: {name}" + ("" if good else f": {found!r}, wanted {wanted!r}"))
-    sys.exit(1 if failed else 0)
+    sys.exit(tell(devices()) + tell(refusals(library)) > 0)
 
 
 if __name__ == "__main__":

@@ -1,0 +1,33 @@
+"""The built program, as the other scripts of this folder run it, and how they tell what they found."""
+
+import os
+import pathlib
+import subprocess
+import sys
+
+ROOT = pathlib.Path(__file__).resolve().parent.parent
+PSTREAM = ROOT / "crates" / "pstream" / "out" / "pstream"
+EXAMPLES = ROOT / "examples"
+
+
+def need_program():
+    """Ends the script where the program isn't built."""
+    if not PSTREAM.exists():
+        sys.exit(f"{PSTREAM.relative_to(ROOT)} is missing: `rt run` in crates/pstream builds it")
+
+
+def run(words, environment=None, **streams):
+    """Status, standard output and standard error of one run, with these variables beside those of the script."""
+    streams.setdefault("stdout", subprocess.PIPE)
+    done = subprocess.run([PSTREAM, *words], stderr=subprocess.PIPE, env=os.environ | (environment or {}), timeout=60, **streams)
+    return done.returncode, done.stdout or b"", done.stderr
+
+
+def tell(findings):
+    """Prints a line for each name with what was found and what was wanted, and answers how many differ."""
+    failed = 0
+    for name, found, wanted in findings:
+        good = found == wanted
+        failed += not good
+        print(f"{'ok' if good else 'FAILED'}: {name}" + ("" if good else f": {found!r}, wanted {wanted!r}"))
+    return failed

@@ -1,0 +1,197 @@
+//! Lines behind the first one of a file, each with what a run writes.
+
+use super::rows::{ONE, TWO, all_right};
+use std::test::Fail;
+
+/// Sums, products and the like of numbers, which need no list.
+const REDUCTIONS: [(&[u8], &str); 18] = [
+    (b"range 1 6\nsum\n", "15\n"),
+    (b"range 1 6\nmap self\nsum\n", "15\n"),
+    (b"range 5 5\nsum\n", "0\n"),
+    (b"range 0 1\nsum\n", "0\n"),
+    (b"range 5 5\nmax\n", "Optional.empty\n"),
+    (
+        b"closed 9223372036854775806 9223372036854775807\nsum\n",
+        "-3\n",
+    ),
+    (b"numbers\nproduct\n", "1\n"),
+    (b"numbers 2 5 3\nmax\n", "Optional[5]\n"),
+    (b"numbers 2 5 3\nmin\n", "Optional[2]\n"),
+    (b"numbers 2 5 3\nproduct\n", "30\n"),
+    (b"numbers 7 8\nfindfirst\n", "Optional[7]\n"),
+    (b"range 0 10\nfindfirst\n", "Optional[0]\n"),
+    (b"range 0 0\nallmatch less 0\n", "true\n"),
+    (b"range 0 0\nanymatch less 0\n", "false\n"),
+    (b"numbers 2 5 3\nallmatch less 6\n", "true\n"),
+    (b"numbers 2 5 3\nanymatch equals 5\n", "true\n"),
+    (b"numbers 7\nnonematch equals 7\n", "false\n"),
+    (b"range 0 70000\nsum\n", "2449965000\n"),
+];
+
+/// Lists of numbers behind stages.
+const LISTS: [(&[u8], &str); 9] = [
+    (b"range 0 10\nlimit 0\ntolist\n", "[]\n"),
+    (b"range 0 10\nlimit 3\ntolist\n", "[0, 1, 2]\n"),
+    (b"numbers 3 1 3 2 1\ndistinct\ntolist\n", "[3, 1, 2]\n"),
+    (b"numbers 1 2 5 1\ntakewhile less 3\ntolist\n", "[1, 2]\n"),
+    (b"range 0 100\ntakewhile less 3\ntolist\n", "[0, 1, 2]\n"),
+    (b"numbers 1 2 5 1\ndropwhile less 3\ntolist\n", "[5, 1]\n"),
+    (
+        b"numbers 4 8 15\nskip 1\nlimit 1\nmap add 1\ntolist\n",
+        "[9]\n",
+    ),
+    (b"numbers -1 -3\nmap mod 3\ntolist\n", "[2, 0]\n"),
+    (
+        b"numbers 1 2 3 4\nfilter greater 2\nmap mul 10\ntolist\n",
+        "[30, 40]\n",
+    ),
+];
+
+/// Counts, with sizes that are known and that aren't.
+const COUNTS: [(&[u8], &str); 10] = [
+    (
+        b"closed 9223372036854775807 9223372036854775807\ncount\n",
+        "1\n",
+    ),
+    (
+        b"range 0 4611686018427387904\ncount\n",
+        "4611686018427387904\n",
+    ),
+    (
+        b"range 0 4611686018427387904\nskip 1\ncount\n",
+        "4611686018427387903\n",
+    ),
+    (b"numbers 1 2 3\nskip 10\ncount\n", "0\n"),
+    (b"numbers 1 2 3\nflatmap repeat 0\ncount\n", "0\n"),
+    (b"range 0 10\nlimit 3\ncount\n", "3\n"),
+    (b"range 0 10\nlimit 0\ncount\n", "0\n"),
+    (b"range 0 10\nskip 3\nlimit 5\ncount\n", "5\n"),
+    (b"range 0 10\nfilter greater 4\nlimit 7\ncount\n", "5\n"),
+    (b"range 0 10\nlimit 5\ndistinct\ncount\n", "5\n"),
+];
+
+/// Values of texts.
+const TEXTS: [(&[u8], &str); 8] = [
+    (b"lines 3\n\na\n\njoining ,\n", ",a,\n"),
+    (b"lines 3\n\n\n\njoining , < >\n", "<,,>\n"),
+    (
+        b"lines 2\na b\nc\nflatmap words\njoining - < >\n",
+        "<a-b-c>\n",
+    ),
+    (b"lines 1\n\xc3\xa9\nmap length\nsum\n", "2\n"),
+    (b"lines 0\njoining , [ ]\n", "[]\n"),
+    (b"lines 2\na\nb\njoining \n", "ab\n"),
+    (b"lines 2\na\nb\ntolist\n", "[a, b]\n"),
+    (b"lines 2\nb\n\nfindfirst\n", "Optional[b]\n"),
+];
+
+/// Maps, partitions and pairs.
+const GROUPS: [(&[u8], &str); 8] = [
+    (
+        b"numbers 5 2 7 4 5\ngroupby mod 2 counting\n",
+        "{1=3, 0=2}\n",
+    ),
+    (
+        b"numbers 1 3\npartition divisible 2 tolist\n",
+        "{false=[1, 3], true=[]}\n",
+    ),
+    (b"numbers 1 2 3 4\ntomap mod 2 self last\n", "{1=3, 0=4}\n"),
+    (b"numbers 1 2 3 4\ntomap mod 2 self first\n", "{1=1, 0=2}\n"),
+    (b"lines 2\na\na\ntomap self length sum\n", "{a=2}\n"),
+    (b"range 1 5\nteeing sum count\n", "[10, 4]\n"),
+    (
+        b"numbers 2 5 3\nteeing max min\n",
+        "[Optional[5], Optional[2]]\n",
+    ),
+    (
+        b"lines 3\nbb\na\ncc\ngroupby length joining +\n",
+        "{2=bb+cc, 1=a}\n",
+    ),
+];
+
+/// Collectors within collectors, which the second version has.
+const NESTED: [(&[u8], &str); 8] = [
+    (
+        b"numbers 1 2 3 4 5 6\ngroupby mod 2 groupby mod 3 counting\n",
+        "{1={1=1, 0=1, 2=1}, 0={2=1, 1=1, 0=1}}\n",
+    ),
+    (
+        b"numbers 1 2 3\npartition less 3 mapping mul 10 tolist\n",
+        "{false=[30], true=[10, 20]}\n",
+    ),
+    (
+        b"numbers 1 2 3\ngroupby mod 2 filtering greater 2 count\n",
+        "{1=1, 0=0}\n",
+    ),
+    (
+        b"numbers 1 2\ngroupby mod 2 filtering greater 100 counting\n",
+        "{1=0, 0=0}\n",
+    ),
+    (
+        b"numbers 1 2 3 4\nteeing mapping mul 2 sum filtering divisible 2 tolist\n",
+        "[20, [2, 4]]\n",
+    ),
+    (
+        b"numbers 4 5\nteeing mapping mul 10 first count\n",
+        "[Optional[40], 2]\n",
+    ),
+    (
+        b"lines 3\na b\nc\na\ngroupby length mapping length sum\n",
+        "{3=3, 1=2}\n",
+    ),
+    (
+        b"numbers 5 2 7 4 5\npartition greater 3 groupby mod 2 tolist\n",
+        "{false={0=[2]}, true={1=[5, 7, 5], 0=[4]}}\n",
+    ),
+];
+
+/// Maps in which no key may repeat, which the second version has.
+const STRICT: [(&[u8], &str); 5] = [
+    (b"numbers 1 2\ntomapstrict self negate\n", "{1=-1, 2=-2}\n"),
+    (
+        b"numbers 1 2 3 4 3 1\ntomapstrict mod 10 self\n",
+        "duplicate key 3",
+    ),
+    (
+        b"numbers 1 2 2 1\ntomapstrict self self\n",
+        "duplicate key 2",
+    ),
+    (
+        b"lines 2\nab\ncd\ntomapstrict length self\n",
+        "duplicate key 2",
+    ),
+    (
+        b"lines 4\nb\na\nb\na\ntomapstrict self length\n",
+        "duplicate key b",
+    ),
+];
+
+#[test]
+fn reductions_and_counts(rt: HostRuntime) -> Result<(), Fail> {
+    for version in [ONE, TWO] {
+        all_right(&rt, rt.alloc(), version, REDUCTIONS.as_slice())?;
+        all_right(&rt, rt.alloc(), version, COUNTS.as_slice())?;
+    }
+    Ok(())
+}
+
+#[test]
+fn lists_and_texts(rt: HostRuntime) -> Result<(), Fail> {
+    for version in [ONE, TWO] {
+        all_right(&rt, rt.alloc(), version, LISTS.as_slice())?;
+        all_right(&rt, rt.alloc(), version, TEXTS.as_slice())?;
+    }
+    Ok(())
+}
+
+#[test]
+fn groups(rt: HostRuntime) -> Result<(), Fail> {
+    all_right(&rt, rt.alloc(), ONE, GROUPS.as_slice())?;
+    all_right(&rt, rt.alloc(), TWO, GROUPS.as_slice())
+}
+
+#[test]
+fn what_the_second_version_adds(rt: HostRuntime) -> Result<(), Fail> {
+    all_right(&rt, rt.alloc(), TWO, NESTED.as_slice())?;
+    all_right(&rt, rt.alloc(), TWO, STRICT.as_slice())
+}
