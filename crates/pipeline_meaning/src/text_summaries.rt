@@ -29,10 +29,13 @@ type TextsByLength<'a> = GroupingBy<TextLength, TextInnerCollector<'a>, RandomSt
 // The groups of equal texts.
 type TextsByThemselves<'a> = GroupingBy<Itself, TextInnerCollector<'a>, RandomState>;
 
+// Groups of texts.
+type TextGroups<'a> = Either<TextsByLength<'a>, TextsByThemselves<'a>>;
+
 // What is made of some of the texts, as is chosen at run time.
 type TextSummaryChoice<'a> = Either<
     Adapted<Itself, TextCheck<'a>, TextInnerCollector<'a>>,
-    Either<TextsByLength<'a>, TextsByThemselves<'a>>,
+    TextGroups<'a>,
 >;
 
 /// What is made of some of the texts.
@@ -137,6 +140,22 @@ fn texts_by_themselves<'a>(
     grouped(alloc, Itself, text_inner(alloc, inner), hashes)
 }
 
+// The collector of groups of texts.
+fn text_groups<'a>(
+    alloc: Global,
+    hashes: RandomState,
+    key: TextFunction,
+    inner: TextInner<'a>,
+) -> TextGroups<'a>
+    ensures ready { ⟦<TextGroups<'a> as Collector>⟧.ready result }
+    ensures summary { (l : List (List ℕ)) → ⟦<TextGroups<'a> as Summarizes>⟧.summary result l ≡ text_groups_text key (text_inner_text inner.entry) l }
+{
+    match key {
+        TextFunction::Length => Left(texts_by_length(alloc, hashes, inner)),
+        TextFunction::Itself => Right(texts_by_themselves(alloc, hashes, inner)),
+    }
+}
+
 /// The collector of texts. Groups are hashed by `hashes`, since whoever writes a file picks the keys.
 pub fn text_summary<'a>(
     alloc: Global,
@@ -161,12 +180,7 @@ pub fn text_summary<'a>(
             Adapting::Filtering(TextCheck::of(test)),
             text_inner(alloc, inner),
         )),
-        TextSummary::GroupBy(TextFunction::Length, inner) => {
-            Right(Left(texts_by_length(alloc, hashes, inner)))
-        }
-        TextSummary::GroupBy(TextFunction::Itself, inner) => {
-            Right(Right(texts_by_themselves(alloc, hashes, inner)))
-        }
+        TextSummary::GroupBy(key, inner) => Right(text_groups(alloc, hashes, key, inner)),
     };
     TextSummaryCollector { chosen }
 }
