@@ -1,14 +1,14 @@
 //! The texts of values, and of what the language's collectors make.
 use crate::{
     Both, NumberCheck, NumberMapping, NumberMerging, Summarizes, Written, number_summary,
-    text_inner, text_lengths, texts_by_length, texts_by_themselves, write_result,
+    text_inner, text_lengths, text_summary, write_result,
 };
 use collectors::{
     Collector, GroupingBy, Joining, PartitioningBy, Teeing, ToMap, ToMapStrict, collect,
 };
 use pipeline_language::{
     NumberBase, NumberFunction, NumberInner, NumberMerge, NumberSummary, NumberTest, TextBase,
-    TextInner,
+    TextFunction, TextInner, TextSummary,
 };
 use spliterator::NoMemory;
 use std::alloc::Global;
@@ -165,10 +165,12 @@ fn summaries_of_texts(rt: HostRuntime) -> Result<(), Fail> {
     assert_eq!(rt; text_of(alloc, &joined, &items)?.as_str(), "a++bb");
     let lengths = text_lengths(alloc, NumberInner::Base(NumberBase::ToList));
     assert_eq!(rt; text_of(alloc, &lengths, &items)?.as_str(), "[1, 0, 2]");
-    let groups = texts_by_length(alloc, hashes, TextInner::Base(TextBase::First));
+    let firsts = TextSummary::GroupBy(TextFunction::Length, TextInner::Base(TextBase::First));
+    let groups = text_summary(alloc, hashes, firsts);
     let text = text_of(alloc, &groups, &["bb", "a", "cc"])?;
     assert_eq!(rt; text.as_str(), "{2=Optional[bb], 1=Optional[a]}");
-    let groups = texts_by_themselves(alloc, hashes, TextInner::Base(TextBase::Count));
+    let counts = TextSummary::GroupBy(TextFunction::Itself, TextInner::Base(TextBase::Count));
+    let groups = text_summary(alloc, hashes, counts);
     assert_eq!(rt;
         text_of(alloc, &groups, &["b", "", "b"])?.as_str(),
         "{b=2, =1}"
