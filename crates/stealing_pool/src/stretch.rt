@@ -74,14 +74,16 @@ fn feed_block<S: Spliterator, G: Stage<In = S::Item>, K: Sink<G::Out>>(
     ensures ready { OnOk result (K.ready sink.new) }
     ensures more { IfOk result (λ more. MatchBool more (length (S.items source.new) < length (S.items source.old)) (K.takes sink.new (flat_map (G.expand stage.now) (S.items source.new)) sink.new)) }
 {
-    Ok(feed_one(stage, source, sink)?
-        && feed_one(stage, source, sink)?
-        && feed_one(stage, source, sink)?
-        && feed_one(stage, source, sink)?
-        && feed_one(stage, source, sink)?
-        && feed_one(stage, source, sink)?
-        && feed_one(stage, source, sink)?
-        && feed_one(stage, source, sink)?)
+    Ok(
+        feed_one(stage, source, sink)?
+            && feed_one(stage, source, sink)?
+            && feed_one(stage, source, sink)?
+            && feed_one(stage, source, sink)?
+            && feed_one(stage, source, sink)?
+            && feed_one(stage, source, sink)?
+            && feed_one(stage, source, sink)?
+            && feed_one(stage, source, sink)?,
+    )
 }
 
 /// Feeds blocks of a source's items to a sink, at least one, as long as it tells that more than so many items are left. Says whether more
