@@ -1,7 +1,7 @@
 import java.util.Scanner;
 import java.util.stream.LongStream;
 
-/** The same runs by parallel streams, each warmed by eight runs. The common pool has three threads beside the caller's. */
+/** The same runs by parallel streams, each warmed by eight runs. The common pool has as many threads as there are workers beside the caller. */
 class Runs {
     static LongStream range(long workers, long numbers) {
         LongStream stream = LongStream.range(0, numbers);

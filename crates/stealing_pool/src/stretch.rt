@@ -9,6 +9,9 @@ use stages::{Sink, Stage};
 /// The source items between two questions whether the leaf was cut.
 const STRETCH: u64 = 1024;
 
+/// The source items between two questions how many items are left.
+const BLOCK: u64 = 8;
+
 /// Feeds one of the source's items to a sink. Says whether it did: nothing is left, or no item makes a difference any more.
 fn feed_one<S: Spliterator, G: Stage<In = S::Item>, K: Sink<G::Out>>(
     stage: &G,
@@ -55,9 +58,66 @@ fn feed_uncounted<S: Spliterator, G: Stage<In = S::Item>, K: Sink<G::Out>>(
     Ok(true)
 }
 
+/// Feeds a block of a source's items to a sink. Says whether more may make a difference.
+///
+/// The calls stand in a row, so a compiler steps the source's own numbers once a block.
+fn feed_block<S: Spliterator, G: Stage<In = S::Item>, K: Sink<G::Out>>(
+    stage: &G,
+    source: &mut S,
+    sink: &mut K,
+) -> Result<bool, NoMemory>
+    requires stage { G.ready stage.now }
+    requires sink { K.ready sink.old }
+    ensures taken { OnOk result ((end : K)
+        → K.takes sink.new (flat_map (G.expand stage.now) (S.items source.new)) end
+        → K.takes sink.old (flat_map (G.expand stage.now) (S.items source.old)) end) }
+    ensures ready { OnOk result (K.ready sink.new) }
+    ensures more { IfOk result (λ more. MatchBool more (length (S.items source.new) < length (S.items source.old)) (K.takes sink.new (flat_map (G.expand stage.now) (S.items source.new)) sink.new)) }
+{
+    Ok(
+        feed_one(stage, source, sink)?
+            && feed_one(stage, source, sink)?
+            && feed_one(stage, source, sink)?
+            && feed_one(stage, source, sink)?
+            && feed_one(stage, source, sink)?
+            && feed_one(stage, source, sink)?
+            && feed_one(stage, source, sink)?
+            && feed_one(stage, source, sink)?,
+    )
+}
+
+/// Feeds blocks of a source's items to a sink, at least one, as long as it tells that more than so many items are left. Says whether more
+/// may make a difference.
+///
+/// The loop keeps one number, the source's own. Where it is at least a block's, that each item of a block is there follows from it.
+fn feed_blocks<S: Spliterator, G: Stage<In = S::Item>, K: Sink<G::Out>>(
+    stage: &G,
+    source: &mut S,
+    sink: &mut K,
+    above: u64,
+) -> Result<bool, NoMemory>
+    requires stage { G.ready stage.now }
+    requires sink { K.ready sink.old }
+    ensures taken { OnOk result ((end : K)
+        → K.takes sink.new (flat_map (G.expand stage.now) (S.items source.new)) end
+        → K.takes sink.old (flat_map (G.expand stage.now) (S.items source.old)) end) }
+    ensures ready { OnOk result (K.ready sink.new) }
+    ensures more { IfOk result (λ more. MatchBool more (length (S.items source.new) < length (S.items source.old)) (K.takes sink.new (flat_map (G.expand stage.now) (S.items source.new)) sink.new)) }
+{
+    'reading: loop {
+        if !feed_block(stage, source, sink)? {
+            return Ok(false);
+        }
+        match source.exact_size() {
+            Some(left) if above < left => {}
+            _ => return Ok(true),
+        }
+    }
+}
+
 /// Feeds a source's items to a sink until it tells that no more than so many are left. Says whether more may make a difference.
 ///
-/// The loop keeps one number, the source's own, and that there is a next item follows from it.
+/// It feeds blocks as long as one fits, and then single items.
 fn feed_counted<S: Spliterator, G: Stage<In = S::Item>, K: Sink<G::Out>>(
     stage: &G,
     source: &mut S,
@@ -72,8 +132,13 @@ fn feed_counted<S: Spliterator, G: Stage<In = S::Item>, K: Sink<G::Out>>(
     ensures ready { OnOk result (K.ready sink.new) }
     ensures more { IfOk result (λ more. MatchBool more (length (S.items source.new) < length (S.items source.old)) (K.takes sink.new (flat_map (G.expand stage.now) (S.items source.new)) sink.new)) }
 {
+    let above = rest.saturating_add(BLOCK - 1);
     'reading: loop {
-        if !feed_one(stage, source, sink)? {
+        let more = match source.exact_size() {
+            Some(left) if above < left => feed_blocks(stage, source, sink, above)?,
+            _ => feed_one(stage, source, sink)?,
+        };
+        if !more {
             return Ok(false);
         }
         match source.exact_size() {
