@@ -9,6 +9,7 @@ mod matches;
 mod own_collector;
 mod own_functions;
 mod own_source;
+mod own_stage;
 mod refusals;
 mod reports;
 mod rows;

@@ -30,6 +30,6 @@ fn unlawful_settings_are_refused(rt: HostRuntime) -> Result<(), Fail> {
         target: 4_611_686_018_427_387_904,
         gate: &gate,
     };
-    assert_eq!(rt; ten.find_first(&rt, rt.alloc(), &run), Ok(Some(0)));
+    assert_eq!(rt; ten.find_first(&rt, rt.alloc(), &run)?, Some(0));
     Ok(())
 }

@@ -1,0 +1,32 @@
+import java.util.Scanner;
+import java.util.function.ToLongFunction;
+import java.util.stream.LongStream;
+
+/** Runs over a range by parallel streams, each warmed by eight runs. The common pool has three threads beside the caller's. */
+class Ranges {
+    private static long answer(String work, long workers, long numbers, ToLongFunction<LongStream> sum) {
+        LongStream range = LongStream.range(0, numbers);
+        LongStream stream = workers == 1 ? range : range.parallel();
+        if (work.equals("sum")) {
+            return sum.applyAsLong(stream);
+        }
+        long limit = numbers / 10 * 4;
+        return stream.filter(x -> limit < x).findFirst().getAsLong();
+    }
+
+    /** Runs each line `CASE WORKERS NUMBERS` of standard input, where CASE is `sum` or `first`, and prints its nanoseconds and its answer. */
+    static void runCases(ToLongFunction<LongStream> sum) {
+        Scanner lines = new Scanner(System.in);
+        while (lines.hasNext()) {
+            String work = lines.next();
+            long workers = lines.nextLong();
+            long numbers = lines.nextLong();
+            for (int round = 0; round < 8; round++) {
+                answer(work, workers, numbers / 10, sum);
+            }
+            long start = System.nanoTime();
+            long answer = answer(work, workers, numbers, sum);
+            System.out.println(work + "-" + workers + "x" + numbers + " " + (System.nanoTime() - start) + " " + answer);
+        }
+    }
+}
