@@ -6,6 +6,7 @@ mod divisor;
 mod functions;
 mod number_steps;
 mod number_summaries;
+mod passage;
 mod spelled;
 mod summarizes;
 mod text_steps;
