@@ -1,7 +1,6 @@
 -- Prepared stages over numbers.
 use Rattle.std.specs.Prelude.{◌≡◌, ℤ, Bool, true, false, cond, List, [], ◌∷◌, ◌++◌, ◌&&◌, flat_map, refl}
 use Rattle.std.proofs.Common.{ap, ◌∙◌, sym, subst}
-use Rattle.std.specs.List.{list_all}
 use Rattle.std.proofs.lemmas.List.Folds.{list_all-append}
 use Rattle.pipeline_language.specs.declared.pipeline.NumberFunction.{NumberFunction}
 use Rattle.pipeline_language.specs.declared.pipeline.NumberTest.{NumberTest}
@@ -40,9 +39,9 @@ joined-steps front last step both h = (
       ∙ ap (flat_map (number_step_images step)) (sym (images-one-more number_step_images front last x))
       ∙ sym (images-one-more number_step_images (front ++ last ∷ []) step x),
   list_all-append is_map_step front (both ∷ []) ∙ ap (λ b. only_maps front && (b && true)) h.1
-  ∙ turned (only_maps front) (is_map_step last) (is_map_step step)
-  ∙ ap (λ b. b && (is_map_step step && true)) (sym (list_all-append is_map_step front (last ∷ [])))
-  ∙ sym (list_all-append is_map_step (front ++ last ∷ []) (step ∷ [])),
+      ∙ turned (only_maps front) (is_map_step last) (is_map_step step)
+      ∙ ap (λ b. b && (is_map_step step && true)) (sym (list_all-append is_map_step front (last ∷ [])))
+      ∙ sym (list_all-append is_map_step (front ++ last ∷ []) (step ∷ [])),
 )
   where
     turned : (a b c : Bool) → (a && ((b && c) && true)) ≡ ((a && (b && true)) && (c && true))

@@ -1,10 +1,9 @@
 -- Two passages one after the other are one.
-use Rattle.std.specs.Prelude.{◌≡◌, ℕ, zero, suc, ℤ, pos, negsuc, neg_ℤ, ◌+ℤ◌, ◌*ℤ◌, ◌-ℤ◌, ◌^◌, ◌-◌, Bool, true, false, cond, not, ◌&&◌, ◌||◌, List, [], ◌∷◌, flat_map, int_lt, refl}
+use Rattle.std.specs.Prelude.{◌≡◌, zero, suc, ℤ, pos, negsuc, neg_ℤ, ◌+ℤ◌, ◌*ℤ◌, ◌-ℤ◌, Bool, true, false, cond, ◌&&◌, List, [], ◌∷◌, flat_map, refl}
 use Rattle.std.proofs.Common.{arith, w64, FitsSigned, ap, ap₂, sym, ◌∙◌, append-nil}
-use Rattle.std.proofs.Math.IntN.{suc_ℤ, pred_ℤ, +ℤ_assoc, +ℤ_idr, +ℤ-suc_ℤ, +ℤ-pred_ℤ, suc_ℤ-*ℤ, pred_ℤ-*ℤ, zero-*ℤ, one, *ℤ-one}
-use Rattle.std.proofs.lemmas.Int.{ints, clamps, int_wrap-add_left, int_wrap-add_right, int_wrap-mul_left, int_wrap_fits}
+use Rattle.std.proofs.Math.IntN.{pred_ℤ, +ℤ_assoc, +ℤ_idr, +ℤ-suc_ℤ, +ℤ-pred_ℤ, suc_ℤ-*ℤ, pred_ℤ-*ℤ, zero-*ℤ, one, *ℤ-one}
+use Rattle.std.proofs.lemmas.Int.{ints, int_wrap-add_left, int_wrap-add_right, int_wrap-mul_left, int_wrap_fits}
 use Rattle.std.specs.Int.{int_max, int_min}
-use Rattle.std.specs.Ordering.{int_eq}
 use Rattle.spliterator.specs.Values.{IsI64}
 use Rattle.stages.specs.Wrapping.{wrapped, wrapped_sum}
 use Rattle.stages.specs.Products.{wrapped_product, wrapped_product_assoc}
@@ -76,9 +75,9 @@ pub followed-images : (p q r : Passage) → keeps_all p ≡ true → q.changes �
 followed-images p q r whole hq hr hf hs hl hm x =
     let y = passage_image p x in
     let image : passage_image r x ≡ passage_image q y =
-      ap (λ b. cond b (wrapped (x *ℤ r.factor +ℤ r.summand)) x) hr ∙ ap₂ (λ f s. wrapped (x *ℤ f +ℤ s)) hf hs
-      ∙ sym (joined-sum x p.factor p.summand q.factor q.summand) ∙ sym (image-on p x q.factor q.summand)
-      ∙ ap (λ b. cond b (wrapped (y *ℤ q.factor +ℤ q.summand)) y) (sym hq) in
+    ap (λ b. cond b (wrapped (x *ℤ r.factor +ℤ r.summand)) x) hr ∙ ap₂ (λ f s. wrapped (x *ℤ f +ℤ s)) hf hs
+    ∙ sym (joined-sum x p.factor p.summand q.factor q.summand) ∙ sym (image-on p x q.factor q.summand)
+    ∙ ap (λ b. cond b (wrapped (y *ℤ q.factor +ℤ q.summand)) y) (sym hq) in
     ap (λ z. between r.least r.most z) image ∙ ap₂ (λ l m. between l m (passage_image q y)) hl hm
     ∙ sym (append-nil (passage_images q y))
     ∙ ap (flat_map (passage_images q)) (sym (image-kept p whole x))
@@ -113,8 +112,8 @@ narrowed-images p q r bounds hq hc hf hs hl hm x =
     let image : passage_image r x ≡ y = ap (λ b. cond b (wrapped (x *ℤ r.factor +ℤ r.summand)) x) hc ∙ ap₂ (λ f s. cond p.changes (wrapped (x *ℤ f +ℤ s)) x) hf hs in
     let same : passage_image q y ≡ y = ap (λ b. cond b (wrapped (y *ℤ q.factor +ℤ q.summand)) y) hq in
     let within : (lies_from r.least y && lies_to r.most y) ≡ (passage_holds p y && passage_holds q y) =
-      ap₂ (λ l m. lies_from l y && lies_to m y) hl hm ∙ ap₂ (λ a b. a && b) (from-both p.least q.least y bounds.0 bounds.1) (to-both p.most q.most y bounds.2 bounds.3)
-      ∙ cross (lies_from p.least y) (lies_from q.least y) (lies_to p.most y) (lies_to q.most y) in
+    ap₂ (λ l m. lies_from l y && lies_to m y) hl hm ∙ ap₂ (λ a b. a && b) (from-both p.least q.least y bounds.0 bounds.1) (to-both p.most q.most y bounds.2 bounds.3)
+    ∙ cross (lies_from p.least y) (lies_from q.least y) (lies_to p.most y) (lies_to q.most y) in
     ap (λ z. between r.least r.most z) image ∙ ap (λ b. cond b (y ∷ []) []) within
     ∙ by (passage_holds p y) (passage_holds q y) y (ap (λ z. between q.least q.most z) same)
   where

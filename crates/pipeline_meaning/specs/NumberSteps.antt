@@ -1,5 +1,5 @@
 -- What prepared steps over numbers give.
-use Rattle.std.specs.Prelude.{◌≡◌, ◌<◌, ℕ, ℤ, Bool, true, false, cond, List, [], ◌∷◌, Option, None, Some, flat_map, length, refl}
+use Rattle.std.specs.Prelude.{◌≡◌, ◌<◌, ℕ, ℤ, Bool, true, false, cond, List, [], ◌∷◌, None, Some, flat_map, length, refl}
 use Rattle.std.proofs.Math.ListN.{replicate}
 use Rattle.std.proofs.Common.{sym, true≢false}
 use Rattle.std.specs.List.{list_all}

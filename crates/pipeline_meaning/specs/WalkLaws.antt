@@ -4,7 +4,7 @@ use Rattle.std.proofs.Common.{ap, ap₂, ◌∙◌, sym, subst, arith, append-ni
 use Rattle.std.proofs.Math.ListN.{replicate}
 use Rattle.std.specs.List.{list_all}
 use Rattle.std.specs.declared.cmp.Ordering.{Ordering}
-use Rattle.std.proofs.lemmas.List.{replicate_more, replicate-append-replicate, take_more}
+use Rattle.std.proofs.lemmas.List.{replicate-append-replicate, take_more}
 use Rattle.std.proofs.lemmas.List.Concat.{flat_map-append}
 use Rattle.std.proofs.lemmas.List.Folds.{list_all-append}
 use Rattle.stages.specs.declared.flags.Operation.TheVariants.{Map as map_row}

@@ -16,6 +16,6 @@ loop-place-preserved c =
     let steps = c.append.new.steps.items ++ c.in_ok-last-in-Some.last ∷ [] in
     front-same number_step_images number_stage is_map_step is_number_map behind steps (take (c.loop-place.place + 1) c.args.stages.now)
     c.in_ok-last-in-Some.ensures.0 c.in_ok-last-in-Some.ensures.1 (
-      front-more number_step_images number_stage is_map_step is_number_map before behind c.in-Some.step c.args.stages.now c.loop-place.place _
-      c.loop-place-test.true refl c.loop-place.invariant c.in-Some.ensures
+    front-more number_step_images number_stage is_map_step is_number_map before behind c.in-Some.step c.args.stages.now c.loop-place.place _
+    c.loop-place-test.true refl c.loop-place.invariant c.in-Some.ensures
     )
