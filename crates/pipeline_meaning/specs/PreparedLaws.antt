@@ -1,6 +1,6 @@
 -- Values of the prepared functions.
-use Rattle.std.specs.Prelude.{◌≡◌, ◌≤◌, ◌<◌, ◌^◌, ℕ, ℤ, pos, negsuc, neg_ℤ, ◌+ℤ◌, ◌*ℤ◌, List, Bool, refl}
-use Rattle.std.proofs.Common.{arith, w64}
+use Rattle.std.specs.Prelude.{◌≤◌, ◌<◌, ◌^◌, ℕ, ℤ, pos, negsuc, neg_ℤ, ◌+ℤ◌, ◌*ℤ◌, List, refl}
+use Rattle.std.proofs.Common.{arith}
 use Rattle.std.specs.Int.{int_rem_euclid}
 use Rattle.std.specs.Ordering.{is_lt, is_gt, int_cmp}
 use Rattle.std.proofs.lemmas.Int.{ints}

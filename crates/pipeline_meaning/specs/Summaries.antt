@@ -1,5 +1,5 @@
 -- What the language's collectors make of a list, as text: numbers as they are, texts as their bytes.
-use Rattle.std.specs.Prelude.{ℕ, ℤ, pos, Bool, List, [], map, filter, length, bytes_eq, Option}
+use Rattle.std.specs.Prelude.{ℕ, ℤ, pos, Bool, List, [], map, filter, length, bytes_eq}
 use Rattle.std.specs.Fmt.{signed_decimal}
 use Rattle.std.specs.Option.{option_map_or}
 use Rattle.std.specs.Ordering.{int_eq, int_cmp}

@@ -1,7 +1,7 @@
 -- The texts of results, by what the results are seen as.
-use Rattle.std.specs.Prelude.{◌≡◌, ℕ, Bool, List, [], ◌∷◌, ◌++◌, All, fold, map, filter, refl, codes, Option, Some, None, option_map}
+use Rattle.std.specs.Prelude.{◌≡◌, ℕ, Bool, List, [], ◌∷◌, ◌++◌, All, fold, map, refl, codes, Option, Some, None, option_map}
 use Rattle.std.specs.Option.{option_map_or}
-use Rattle.std.proofs.Common.{sym, ap, ap₂, ◌∙◌}
+use Rattle.std.proofs.Common.{ap, ap₂, ◌∙◌}
 use Rattle.std.proofs.lemmas.List.Elements.{All-head, All-tail}
 use Rattle.either.specs.declared.Either.{Either}
 use Rattle.either.specs.declared.Either.TheVariants.{Left, Right}
@@ -12,7 +12,7 @@ use Rattle.collectors.specs.Reductions.{reduced, first}
 use Rattle.collectors.specs.Either.{either_gives}
 use Rattle.collectors.specs.Grouping.{IsGrouping, of_key, pairs, contents}
 use Rattle.pipeline_meaning.specs.Texts.{optional_text, list_text, map_text, entry_text, with_commas}
-use Rattle.pipeline_meaning.specs.Summaries.{itself, groups_text, merged_text, strict_text}
+use Rattle.pipeline_meaning.specs.Summaries.{itself, groups_text}
 
 module _ {A C : Type 0} (text : A → List ℕ) (content : A → C) (spelling : C → List ℕ) (spelled : (x : A) → text x ≡ spelling (content x)) where
   pub optional_tells : (o : Option A) (p : Option C) → option_map content o ≡ p → optional_text text o ≡ optional_text spelling p

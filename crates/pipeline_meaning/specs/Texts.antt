@@ -1,5 +1,5 @@
 -- The texts of values, as a pipeline's answer is written: a list of bytes a value. Each is stated over the texts of its members.
-use Rattle.std.specs.Prelude.{ℕ, Bool, true, false, List, [], ◌∷◌, ◌++◌, map, codes, Option, Some, None}
+use Rattle.std.specs.Prelude.{ℕ, Bool, true, false, List, ◌++◌, map, codes, Option, Some, None}
 use Rattle.collectors.specs.Reductions.{delimited}
 
 -- `true` or `false`

@@ -4,7 +4,7 @@ use Rattle.std.proofs.Common.{ap, ap₂, ◌∙◌, sym, subst, arith, append-ni
 use Rattle.std.proofs.Math.ListN.{replicate}
 use Rattle.std.specs.List.{list_all}
 use Rattle.std.specs.declared.cmp.Ordering.{Ordering}
-use Rattle.std.proofs.lemmas.List.{replicate_more, replicate-append-replicate, take_more}
+use Rattle.std.proofs.lemmas.List.{replicate-append-replicate, take_more}
 use Rattle.std.proofs.lemmas.List.Concat.{flat_map-append}
 use Rattle.std.proofs.lemmas.List.Folds.{list_all-append}
 use Rattle.stages.specs.declared.flags.Operation.TheVariants.{Map as map_row}
@@ -14,7 +14,7 @@ use Rattle.pipeline_meaning.specs.Rows.{row_of, size_of}
 use Rattle.pipeline_meaning.specs.Walks.{one_after_other, images_after}
 
 -- the images of images
-flat_map-flat_map : {A B C : Type 0} (f : A → List B) (g : B → List C) (l : List A) → flat_map g (flat_map f l) ≡ flat_map (λ x. flat_map g (f x)) l
+pub flat_map-flat_map : {A B C : Type 0} (f : A → List B) (g : B → List C) (l : List A) → flat_map g (flat_map f l) ≡ flat_map (λ x. flat_map g (f x)) l
 flat_map-flat_map f g [] = refl
 flat_map-flat_map f g (x ∷ l) = flat_map-append g (f x) (flat_map f l) ∙ ap (λ r. flat_map g (f x) ++ r) (flat_map-flat_map f g l)
 
@@ -35,7 +35,7 @@ filter-flat_map p (x ∷ l) = head (flat_map (λ x. cond (p x) (x ∷ []) []) l)
     head kept e false = e
 
 -- the same images of each item
-flat_map-same : {A B : Type 0} (f g : A → List B) → ((x : A) → f x ≡ g x) → (l : List A) → flat_map f l ≡ flat_map g l
+pub flat_map-same : {A B : Type 0} (f g : A → List B) → ((x : A) → f x ≡ g x) → (l : List A) → flat_map f l ≡ flat_map g l
 flat_map-same f g h [] = refl
 flat_map-same f g h (x ∷ l) = ap₂ (λ a b. a ++ b) (h x) (flat_map-same f g h l)
 
@@ -47,7 +47,7 @@ copies-all f i n x h =
 
 module _ {S A : Type 0} (images : S → A → List A) where
   -- a step behind the others
-  images-one-more : (steps : List S) (step : S) (x : A) → images_after images (steps ++ step ∷ []) x ≡ flat_map (images step) (images_after images steps x)
+  pub images-one-more : (steps : List S) (step : S) (x : A) → images_after images (steps ++ step ∷ []) x ≡ flat_map (images step) (images_after images steps x)
   images-one-more [] step x = flat_map-one (images step x) ∙ sym (append-nil (images step x))
   images-one-more (first ∷ steps) step x =
       flat_map-same (images_after images (steps ++ step ∷ [])) (λ y. flat_map (images step) (images_after images steps y)) (images-one-more steps step) (images first x)
@@ -110,6 +110,23 @@ module _ {S A : Type 0} (images : S → A → List A) where
     front-start is_map is_stage_map steps e =
         let P : List S → Type 0 = λ steps. IsFront is_map is_stage_map steps [] in
         subst P (sym e) (flat_map-one, refl)
+
+    -- a step that leaves all as it is
+    pub front-first : (is_map : S → Bool) (is_stage_map : G → Bool) (steps : List S) (step : S) → steps ≡ [] → ((x : A) → images step x ≡ x ∷ []) → is_map step ≡ true
+        → IsFront is_map is_stage_map (steps ++ step ∷ []) []
+    front-first is_map is_stage_map steps step e one m =
+        let P : List S → Type 0 = λ steps. IsFront is_map is_stage_map (steps ++ step ∷ []) [] in
+        subst P (sym e) (
+          (λ l. flat_map-same (images_after images (step ∷ [])) (λ x. x ∷ []) (λ x. ap (flat_map (images_after images [])) (one x)) l ∙ flat_map-one l),
+          ap (λ b. b && true) m,
+        )
+
+    -- the same steps are the same front
+    pub front-same : (is_map : S → Bool) (is_stage_map : G → Bool) (steps new : List S) (stages : List G)
+        → ((x : A) → images_after images new x ≡ images_after images steps x) → list_all is_map new ≡ list_all is_map steps
+        → IsFront is_map is_stage_map steps stages → IsFront is_map is_stage_map new stages
+    front-same is_map is_stage_map steps new stages h maps front =
+        (λ l. flat_map-same (images_after images new) (images_after images steps) h l ∙ front.0 l, maps ∙ front.1)
 
     pub front-more : (is_map : S → Bool) (is_stage_map : G → Bool) (steps new : List S) (step : S) (stages : List G) (i : ℕ) (d : G) → i < length stages
         → new ≡ steps ++ step ∷ [] → IsFront is_map is_stage_map steps (take i stages) → IsStep is_map is_stage_map step (get_or stages i d) → IsFront is_map is_stage_map new (take (i + 1) stages)

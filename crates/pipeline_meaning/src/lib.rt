@@ -7,6 +7,7 @@ mod functions;
 mod number_bases;
 mod number_steps;
 mod number_summaries;
+mod passage;
 mod spelled;
 mod summarizes;
 mod text_bases;

@@ -3,13 +3,19 @@ ghost use Rattle.std.specs.Prelude.{◌≡◌, ◌≤◌, ◌<◌, ℕ, ℤ, IsT
 ghost use Rattle.std.specs.List.{HoldsAt, list_all};
 ghost use Rattle.std.specs.Ordering.{int_cmp};
 ghost use Rattle.std.proofs.Math.ListN.{replicate};
-ghost use Rattle.pipeline_meaning.specs.NumberSteps.{number_images, number_step_images, walked_images, IsFewer, is_map_step, only_maps, KeepsSound-number_steps};
+ghost use Rattle.std.specs.Prelude.{⊤, true, false, cond, [], ◌∷◌, ◌++◌, ◌&&◌};
+ghost use Rattle.std.specs.Prelude.{option_to_list};
+ghost use Rattle.pipeline_meaning.specs.Functions.{number_image, number_holds};
+ghost use Rattle.pipeline_meaning.specs.NumberSteps.{number_images, number_step_images, walked_images, way_steps, IsFewer, is_map_step, only_maps, SameSteps, KeepsSound-number_steps};
+ghost use Rattle.pipeline_meaning.specs.declared.number_steps.NumberStep.TheVariants.{Pass};
+ghost use Rattle.pipeline_meaning.specs.declared.number_steps.Way.TheVariants.{Linear};
 ghost use Rattle.pipeline_meaning.specs.Rows.{row_of, size_of};
 ghost use Rattle.pipeline_meaning.specs.Stages.{number_stage, number_stages, is_number_barrier, is_number_map};
 ghost use Rattle.pipeline_meaning.specs.WalkLaws.{IsStep};
 
+use crate::passage::Passage;
 use crate::{NumberCheck, NumberMapping};
-use pipeline_language::NumberStage;
+use pipeline_language::{NumberFunction, NumberStage, NumberTest};
 use spliterator::NoMemory;
 use stages::{Mapping, Operation, Sink, Stage, Test};
 use std::alloc::Global;
@@ -17,6 +23,8 @@ use std::alloc::Global;
 /// One stage, prepared.
 #[derive(Clone, Copy, Debug)]
 enum NumberStep {
+    // products, sums and bounds
+    Pass(Passage),
     Map(NumberMapping),
     Filter(NumberCheck),
     Repeat(u64),
@@ -28,8 +36,8 @@ impl NumberStep {
         ensures { MatchOption result (IsTrue (is_number_barrier stage.now)) (λ step. IsStep number_step_images number_stage is_map_step is_number_map step stage.now) }
     {
         match stage {
-            NumberStage::Map(function) => Some(NumberStep::Map(NumberMapping::of(*function))),
-            NumberStage::Filter(test) => Some(NumberStep::Filter(NumberCheck::of(*test))),
+            NumberStage::Map(function) => Some(NumberStep::of_function(*function)),
+            NumberStage::Filter(test) => Some(NumberStep::of_test(*test)),
             NumberStage::Repeat(n) => Some(NumberStep::Repeat(*n)),
             NumberStage::Distinct
             | NumberStage::Limit(_)
@@ -39,17 +47,107 @@ impl NumberStep {
         }
     }
 
+    fn of_function(function: NumberFunction) -> NumberStep
+        ensures { ((x : ℤ) → number_step_images result x ≡ number_image function x ∷ []) × (is_map_step result ≡ true) }
+    {
+        match Passage::of_function(function) {
+            Some(passage) => NumberStep::Pass(passage),
+            None => NumberStep::Map(NumberMapping::of(function)),
+        }
+    }
+
+    fn of_test(test: NumberTest) -> NumberStep
+        ensures { ((x : ℤ) → number_step_images result x ≡ cond (number_holds test x) (x ∷ []) []) × (is_map_step result ≡ false) }
+    {
+        match Passage::of_test(test) {
+            Some(passage) => NumberStep::Pass(passage),
+            None => NumberStep::Filter(NumberCheck::of(test)),
+        }
+    }
+
     fn is_map(&self) -> bool
         ensures { result ≡ is_map_step self.now }
     {
-        matches!(self, NumberStep::Map(_))
+        match self {
+            NumberStep::Pass(passage) => passage.keeps_all(),
+            NumberStep::Map(_) => true,
+            NumberStep::Filter(_) | NumberStep::Repeat(_) => false,
+        }
+    }
+
+    fn passage(&self) -> Option<Passage>
+        ensures { MatchOption result ⊤ (λ passage. self.now ≡ Pass passage) }
+    {
+        match *self {
+            NumberStep::Pass(passage) => Some(passage),
+            _ => None,
+        }
+    }
+
+    // This step and the one behind it, if one can be both.
+    fn joined(&self, next: &NumberStep) -> Option<NumberStep>
+        ensures { MatchOption result ⊤ (λ both. ((x : ℤ) → number_step_images both x ≡ flat_map (number_step_images next.now) (number_step_images self.now x))
+            × (is_map_step both ≡ (is_map_step self.now && is_map_step next.now))) }
+    {
+        match (self, next) {
+            (NumberStep::Pass(passage), NumberStep::Pass(other)) => match passage.then(other) {
+                Some(both) => Some(NumberStep::Pass(both)),
+                None => None,
+            },
+            _ => None,
+        }
+    }
+}
+
+// Puts a step behind the last one, which stands behind the others. Gives the last one then.
+fn append(
+    steps: &mut Vec<NumberStep>,
+    last: NumberStep,
+    step: NumberStep,
+) -> Result<NumberStep, NoMemory>
+    ensures { IfOk result (λ end. SameSteps (steps.new.items ++ end ∷ []) ((steps.old.items ++ last ∷ []) ++ step ∷ [])) }
+{
+    match last.joined(&step) {
+        Some(both) => Ok(both),
+        None => {
+            steps.push(last)?;
+            Ok(step)
+        }
+    }
+}
+
+/// How a number walks. The commonest walks are one loop with no call and no list, which a compiler can hold in registers.
+#[derive(Debug, Drop)]
+enum Way {
+    Linear(Passage, Option<Passage>),
+    Steps(Vec<NumberStep>),
+}
+
+impl Way {
+    fn of(steps: Vec<NumberStep>) -> Way
+        ensures { way_steps result ≡ steps.items }
+    {
+        match Way::linear(steps.as_slice()) {
+            Some(way) => way,
+            None => Way::Steps(steps),
+        }
+    }
+
+    fn linear(steps: &[NumberStep]) -> Option<Way>
+        ensures { MatchOption result ⊤ (λ way. way_steps way ≡ steps.now) }
+    {
+        match steps {
+            [only] => Some(Way::Linear(only.passage()?, None)),
+            [first, second] => Some(Way::Linear(first.passage()?, Some(second.passage()?))),
+            _ => None,
+        }
     }
 }
 
 /// Stages over numbers up to the first that looks at more than one item, as one stage: a number walks through them.
 #[derive(Debug, Drop)]
 pub struct NumberSteps {
-    steps: Vec<NumberStep>,
+    way: Way,
 }
 
 impl NumberSteps {
@@ -61,20 +159,55 @@ impl NumberSteps {
         ensures size { IfOk result (λ r. IsTrue (list_all is_number_map (take r.1 stages.now)) → (size : Option ℕ) → ⟦<NumberSteps as Stage>⟧.size_after r.0 size ≡ size) }
     {
         let mut steps = Vec::new(alloc);
+        let mut last = NumberStep::Pass(Passage::all());
         for (place, stage) in stages.iter().enumerate() {
             match NumberStep::of(stage) {
-                Some(step) => steps.push(step)?,
-                None => return Ok((NumberSteps { steps }, place)),
+                Some(step) => last = append(&mut steps, last, step)?,
+                None => return Ok((NumberSteps::ending(steps, last)?, place)),
             }
         }
-        Ok((NumberSteps { steps }, stages.len()))
+        Ok((NumberSteps::ending(steps, last)?, stages.len()))
+    }
+
+    fn ending(steps: Vec<NumberStep>, last: NumberStep) -> Result<NumberSteps, NoMemory>
+        ensures { IfOk result (λ r. way_steps r.way ≡ steps.items ++ last ∷ []) }
+    {
+        let mut steps = steps;
+        steps.push(last)?;
+        Ok(NumberSteps {
+            way: Way::of(steps),
+        })
     }
 
     // Whether each number has one image.
     fn keeps_size(&self) -> bool
-        ensures { result ≡ only_maps self.now.steps.items }
+        ensures { result ≡ only_maps (way_steps self.now.way) }
     {
-        self.steps.iter().all(|step| step.is_map())
+        match &self.way {
+            Way::Linear(first, None) => first.keeps_all(),
+            Way::Linear(first, Some(second)) => first.keeps_all() && second.keeps_all(),
+            Way::Steps(steps) => steps.iter().all(|step| step.is_map()),
+        }
+    }
+}
+
+// Takes a number through one or two passages.
+#[inline(always)]
+fn pass(first: &Passage, second: &Option<Passage>, x: i64) -> Option<i64>
+    ensures { option_to_list result ≡ number_images (way_steps (Linear first.now second.now)) x }
+{
+    let number = first.image_of(x);
+    if !first.holds(number) {
+        return None;
+    }
+    let Some(second) = second else {
+        return Some(number);
+    };
+    let number = second.image_of(number);
+    if second.holds(number) {
+        Some(number)
+    } else {
+        None
     }
 }
 
@@ -95,6 +228,12 @@ fn walk(steps: &[NumberStep], x: i64) -> Walked<'_>
     let mut number = x;
     for (place, step) in steps.iter().enumerate() {
         match step {
+            NumberStep::Pass(passage) => {
+                number = passage.image_of(number);
+                if !passage.holds(number) {
+                    return Walked::Dropped;
+                }
+            }
             NumberStep::Map(mapping) => number = mapping.image_of(number),
             NumberStep::Filter(check) => {
                 if !check.holds(&number) {
@@ -149,21 +288,28 @@ impl Stage for NumberSteps {
 
     type Out = i64;
 
-    ghost expand = { λ s. number_images s.steps.items };
+    ghost expand = { λ s. number_images (way_steps s.way) };
 
-    ghost operation = { λ s. row_of (only_maps s.steps.items) };
+    ghost operation = { λ s. row_of (only_maps (way_steps s.way)) };
 
-    ghost size_after = { λ s. size_of (only_maps s.steps.items) };
+    ghost size_after = { λ s. size_of (only_maps (way_steps s.way)) };
 
-    ghost flag_law = { λ s. KeepsSound-number_steps int_cmp s.steps.items };
+    ghost flag_law = { λ s. KeepsSound-number_steps int_cmp (way_steps s.way) };
 
-    // The walk of a number that isn't copied makes no call, so that a loop over numbers can hold it whole.
+    // The walk of a number that isn't copied makes no call, so that a loop over numbers can hold it whole. There are two ways and no more,
+    // and that is asked first: then a compiler asks it once, before the loop.
     #[inline(always)]
     fn feed<K: Sink<i64>>(&self, x: i64, sink: &mut K) -> Result<(), NoMemory> {
-        match walk(&self.steps, x) {
-            Walked::Passed(number) => sink.take(number),
-            Walked::Dropped => Ok(()),
-            Walked::Copied(n, number, rest) => feed_copies(n, rest, number, sink),
+        match &self.way {
+            Way::Linear(first, second) => match pass(first, second, x) {
+                Some(number) => sink.take(number),
+                None => Ok(()),
+            },
+            Way::Steps(steps) => match walk(steps, x) {
+                Walked::Passed(number) => sink.take(number),
+                Walked::Dropped => Ok(()),
+                Walked::Copied(n, number, rest) => feed_copies(n, rest, number, sink),
+            },
         }
     }
 

@@ -7,14 +7,28 @@ use crate::{
     NumberBase, NumberFunction, NumberInner, NumberSummary, NumberTerminal, NumberTest, TextBase,
     TextFunction, TextInner, TextSummary, TextTerminal, TextTest,
 };
+use std::alloc::Global;
+use std::process::Abort;
 use std::test::Fail;
 
+/// The terminal of a file of the second version, which the first does not have.
+fn is_of_second_version(
+    rt: &(impl Abort + Alloc<A = Global>),
+    rows: &[(&str, NumberTerminal)],
+) -> Result<(), Fail> {
+    for (line, wanted) in rows {
+        assert_eq!(rt; number_terminal(rt.alloc(), 2, line)?, Some(*wanted));
+        assert_eq!(rt; number_terminal(rt.alloc(), 1, line)?, None);
+    }
+    Ok(())
+}
+
 #[test]
-fn reads_nested_collectors_of_numbers(rt: HostRuntime) -> Result<(), Fail> {
+fn reads_strict_maps_and_nested_collectors_of_numbers(rt: HostRuntime) -> Result<(), Fail> {
     let odd = NumberFunction::Mod(2);
     let thirds = NumberFunction::Mod(3);
     let count = NumberInner::Base(NumberBase::Count);
-    let rows: [(&str, NumberTerminal); 8] = [
+    let rows: [(&str, NumberTerminal); 5] = [
         (
             "tomapstrict mod 10 self",
             NumberTerminal::ToMapStrict(NumberFunction::Mod(10), NumberFunction::Itself),
@@ -41,6 +55,15 @@ fn reads_nested_collectors_of_numbers(rt: HostRuntime) -> Result<(), Fail> {
             "groupby mod 2 filtering greater 2 count",
             NumberTerminal::GroupBy(odd, NumberSummary::Filtering(NumberTest::Greater(2), count)),
         ),
+    ];
+    is_of_second_version(&rt, &rows)
+}
+
+#[test]
+fn reads_collectors_of_numbers_in_two_levels(rt: HostRuntime) -> Result<(), Fail> {
+    let odd = NumberFunction::Mod(2);
+    let thirds = NumberFunction::Mod(3);
+    let rows: [(&str, NumberTerminal); 3] = [
         (
             "groupby mod 2 groupby mod 3 mapping negate max",
             NumberTerminal::GroupBy(
@@ -72,16 +95,12 @@ fn reads_nested_collectors_of_numbers(rt: HostRuntime) -> Result<(), Fail> {
             ),
         ),
     ];
-    for (line, wanted) in rows {
-        assert_eq!(rt; number_terminal(rt.alloc(), 2, line)?, Some(wanted));
-        assert_eq!(rt; number_terminal(rt.alloc(), 1, line)?, None);
-    }
-    Ok(())
+    is_of_second_version(&rt, &rows)
 }
 
 #[test]
 fn reads_nested_collectors_of_texts(rt: HostRuntime) -> Result<(), Fail> {
-    let rows: [(&[u8], TextTerminal<'_>); 7] = [
+    let rows: [(&[u8], TextTerminal<'_>); 4] = [
         (
             b"pipeline 2\nlines 0\ntomapstrict self length",
             TextTerminal::ToMapStrict(TextFunction::Itself, TextFunction::Length),
@@ -110,6 +129,16 @@ fn reads_nested_collectors_of_texts(rt: HostRuntime) -> Result<(), Fail> {
                 TextSummary::MappingItself(TextInner::Base(TextBase::Joining("+"))),
             ),
         ),
+    ];
+    for (file, wanted) in rows {
+        assert!(rt; ends_with(rt.alloc(), file, wanted)?);
+    }
+    Ok(())
+}
+
+#[test]
+fn reads_collectors_of_texts_in_two_levels(rt: HostRuntime) -> Result<(), Fail> {
+    let rows: [(&[u8], TextTerminal<'_>); 3] = [
         (
             b"pipeline 2\nlines 0\npartition empty filtering starts a mapping length min",
             TextTerminal::Partition(

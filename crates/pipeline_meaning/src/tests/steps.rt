@@ -63,6 +63,45 @@ fn a_number_walks_through_its_steps(rt: HostRuntime) -> Result<(), Fail> {
 }
 
 #[test]
+fn neighbouring_steps_do_as_each_in_turn(rt: HostRuntime) -> Result<(), Fail> {
+    let most = NumberStage::Map(NumberFunction::Add(i64::MAX));
+    let thrice = NumberStage::Map(NumberFunction::Mul(3));
+    let negated = NumberStage::Map(NumberFunction::Negate);
+    let small = NumberStage::Filter(NumberTest::Less(5));
+    let some = NumberStage::Filter(NumberTest::Greater(2));
+    let below = NumberStage::Filter(NumberTest::Less(-2));
+    let odd = [i64::MIN, -1, 0, i64::MAX];
+    check(&rt, &[most, most, thrice], &[1], &[-3], 3)?;
+    check(&rt, &[small, some], &[2, 3, 4, 5], &[3, 4], 2)?;
+    check(&rt, &[small, negated, below], &[2, 3, 4, 5], &[-3, -4], 3)?;
+    check(
+        &rt,
+        &[some, thrice, below, negated, small],
+        &[i64::MAX],
+        &[],
+        5,
+    )?;
+    check(
+        &rt,
+        &[NumberStage::Filter(NumberTest::Less(i64::MIN))],
+        &odd,
+        &[],
+        1,
+    )?;
+    check(
+        &rt,
+        &[NumberStage::Filter(NumberTest::Greater(i64::MAX))],
+        &odd,
+        &[],
+        1,
+    )?;
+    let least = NumberStage::Filter(NumberTest::Equals(i64::MIN));
+    check(&rt, &[least], &odd, &[i64::MIN], 1)?;
+    check(&rt, &[negated, least, negated], &odd, &[i64::MIN], 3)?;
+    Ok(())
+}
+
+#[test]
 fn a_number_is_repeated(rt: HostRuntime) -> Result<(), Fail> {
     let twice = NumberStage::Repeat(2);
     let negated = NumberStage::Map(NumberFunction::Negate);

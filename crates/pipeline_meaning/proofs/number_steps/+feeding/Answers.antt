@@ -1,4 +1,4 @@
-use Rattle.std.proofs.Common.{arith, w64, subst, ◌≡◌, ◌≤◌, ◌-◌, ℕ, ℤ, List, flat_map}
+use Rattle.std.proofs.Common.{arith, w64, subst, ◌≤◌, ◌-◌, ℤ, List, flat_map}
 use Rattle.std.proofs.lemmas.Int.{to_z-of_z}
 use Rattle.std.proofs.Math.ListN.{replicate}
 use Rattle.pipeline_meaning.specs.NumberSteps.{number_images}

@@ -1,4 +1,4 @@
-use Rattle.std.proofs.Common.{arith, subst, ◌≡◌, ◌≤◌, ◌-◌, ℕ, List, flat_map}
+use Rattle.std.proofs.Common.{arith, subst, ◌≤◌, ◌-◌, ℕ, List, flat_map}
 use Rattle.std.proofs.Math.ListN.{replicate}
 use Rattle.pipeline_meaning.specs.TextSteps.{text_images}
 use Rattle.pipeline_meaning.specs.WalkLaws.{copies-all}

@@ -1,4 +1,4 @@
-use Rattle.std.proofs.Common.{◌+◌, ◌*◌, ℕ, List, flat_map, length}
+use Rattle.std.proofs.Common.{◌+◌, ◌*◌, flat_map, length}
 use Rattle.std.proofs.Math.ListN.{replicate}
 use Rattle.pipeline_language.specs.Words.{words_of}
 use Rattle.pipeline_meaning.specs.TextSteps.{text_images, words_left, letters_left}

@@ -1,10 +1,8 @@
 -- The groups of the inner collector's texts.
 use Rattle.std.proofs.Common.{refl, ◌∙◌}
-use Rattle.std.specs.Prelude.{bytes_eq}
 use Rattle.std.specs.Fmt.{signed_decimal}
 use Rattle.std.specs.Ordering.{int_eq}
 use Rattle.pipeline_meaning.specs.SummaryLaws.{groups-same}
-use Rattle.pipeline_meaning.specs.Summaries.{itself}
 use Rattle.pipeline_meaning.proofs.text_summaries.texts_by_length.Goals as goal
 
 pub returns-clause-summary : goal.returns-clause-summary

@@ -1,4 +1,3 @@
-use Rattle.std.proofs.Common.{arith, ◌≡◌, ℕ, ◌+◌, ◌-◌, ◌*◌, ◌<◌, ◌≤◌, ◌/◌, ◌%◌}
 use Rattle.pipeline_meaning.proofs.Quotients.{high_below, high_above, rest_exact, rest_corrected}
 use Rattle.pipeline_meaning.proofs.divisor.Divisor.rest.Goals as goal
 

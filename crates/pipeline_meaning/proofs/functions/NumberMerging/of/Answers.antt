@@ -1,7 +1,3 @@
-use Rattle.std.proofs.Common.{◌≡◌}
-use Rattle.std.proofs.Math.IntN.{ℤ}
-use Rattle.spliterator.specs.Values.{IsI64}
-use Rattle.stages.specs.Operators.{IsAssociative}
 use Rattle.pipeline_meaning.specs.PreparedLaws.{number_join-associative}
 use Rattle.pipeline_meaning.proofs.functions.NumberMerging.of.Goals as goal
 
