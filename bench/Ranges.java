@@ -2,7 +2,7 @@ import java.util.Scanner;
 import java.util.function.ToLongFunction;
 import java.util.stream.LongStream;
 
-/** Runs over a range by parallel streams, each warmed by eight runs. The common pool has three threads beside the caller's. */
+/** Runs over a range by parallel streams, each warmed by eight runs. The common pool has as many threads as there are workers, the caller's among them. */
 class Ranges {
     private static long answer(String work, long workers, long numbers, ToLongFunction<LongStream> sum) {
         LongStream range = LongStream.range(0, numbers);
