@@ -113,7 +113,7 @@ impl<'a> TextStages<'a> {
     /// These stages again, with what follows them.
     pub fn body(&self, alloc: Global, end: TextEnd<'a>) -> Result<TextBody<'a>, NoMemory>
         requires { All TextStageFits self.now.stages.items }
-        ensures { IfOk result (λ body. All TextStageFits body.stages.items × (body.end ≡ end)) }
+        ensures { IfOk result (λ body. All TextStageFits body.stages.items × (body.end ≡ end.entry)) }
     {
         let stages = Vec::from_slice(alloc, self.stages.as_slice())?;
         Ok(TextBody { stages, end })
