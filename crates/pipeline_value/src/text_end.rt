@@ -4,11 +4,11 @@ ghost use Rattle.parallel_streams.specs.Runs.{IsLawfulRun};
 ghost use Rattle.pipeline_value.specs.Value.{Tells, text_told};
 
 use crate::text_maps::{map_value, strict_map_value};
-use crate::text_parts::{Texts, length_groups_value, pair_value, parts_value, text_groups_value};
+use crate::text_parts::{Texts, groups_value, pair_value, parts_value};
 use crate::told::{ValueError, told};
 use collectors::{Joining, ToList};
 use parallel_streams::{Run, Stream};
-use pipeline_language::{TextFunction, TextTerminal};
+use pipeline_language::TextTerminal;
 use pipeline_meaning::TextCheck;
 use std::alloc::Global;
 use std::hash::RandomState;
@@ -52,11 +52,8 @@ pub(crate) fn text_end<'s, 'a, R: Threads + Sync, H: Gate + Sync>(
             let joining = Joining::new(alloc, between, front, back);
             Ok(stream.collect(rt, alloc, run, &joining)?)
         }
-        TextTerminal::GroupBy(TextFunction::Length, summary) => {
-            length_groups_value(rt, alloc, hashes, stream, summary, run)
-        }
-        TextTerminal::GroupBy(TextFunction::Itself, summary) => {
-            text_groups_value(rt, alloc, hashes, stream, summary, run)
+        TextTerminal::GroupBy(key, summary) => {
+            groups_value(rt, alloc, hashes, stream, key, summary, run)
         }
         TextTerminal::Partition(test, summary) => {
             parts_value(rt, alloc, hashes, stream, test, summary, run)

@@ -9,7 +9,7 @@ use crate::collected::collected;
 use crate::text_groups::{length_groups, text_groups, text_pair, text_parts};
 use crate::told::ValueError;
 use parallel_streams::{Run, Source, Staged, Stream};
-use pipeline_language::{TextSummary, TextTest};
+use pipeline_language::{TextFunction, TextSummary, TextTest};
 use pipeline_meaning::TextSteps;
 use sources::SliceSplit;
 use std::alloc::Global;
@@ -21,7 +21,7 @@ use stealing_pool::Gate;
 pub(crate) type Texts<'s, 'a> = Staged<Source<SliceSplit<'s, &'a str>>, TextSteps<'a>>;
 
 /// The text of the groups of a stream's texts by their lengths.
-pub(crate) fn length_groups_value<'s, 'a, R: Threads + Sync, H: Gate + Sync>(
+fn length_groups_value<'s, 'a, R: Threads + Sync, H: Gate + Sync>(
     rt: &R,
     alloc: Global,
     hashes: RandomState,
@@ -38,7 +38,7 @@ pub(crate) fn length_groups_value<'s, 'a, R: Threads + Sync, H: Gate + Sync>(
 }
 
 /// The text of the groups of equal texts of a stream.
-pub(crate) fn text_groups_value<'s, 'a, R: Threads + Sync, H: Gate + Sync>(
+fn text_groups_value<'s, 'a, R: Threads + Sync, H: Gate + Sync>(
     rt: &R,
     alloc: Global,
     hashes: RandomState,
@@ -52,6 +52,26 @@ pub(crate) fn text_groups_value<'s, 'a, R: Threads + Sync, H: Gate + Sync>(
 {
     let groups = text_groups(alloc, hashes, summary);
     collected(rt, alloc, stream, &groups, run)
+}
+
+/// The text of the groups of a stream's texts by their keys.
+pub(crate) fn groups_value<'s, 'a, R: Threads + Sync, H: Gate + Sync>(
+    rt: &R,
+    alloc: Global,
+    hashes: RandomState,
+    stream: &Texts<'s, 'a>,
+    key: TextFunction,
+    summary: TextSummary<'a>,
+    run: &Run<'_, H>,
+) -> Result<String, ValueError>
+    requires settings { IsLawfulRun run.now.workers run.now.target }
+    requires stream { ⟦<Texts<'s, 'a> as Stream>⟧.ready stream.now }
+    ensures { Tells (text_told (terminals.GroupBy key summary.entry) (⟦<Texts<'s, 'a> as Stream>⟧.value stream.now)) result }
+{
+    match key {
+        TextFunction::Length => length_groups_value(rt, alloc, hashes, stream, summary, run),
+        TextFunction::Itself => text_groups_value(rt, alloc, hashes, stream, summary, run),
+    }
 }
 
 /// The text of the results of the texts that fail a test, and of those that pass.

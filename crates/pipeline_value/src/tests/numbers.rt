@@ -49,62 +49,34 @@ fn ends<R: Threads + RandomSource + Abort + Alloc<A = Global> + Sync>(
 ) -> Result<(), Fail>
     requires settings { IsLawfulRun run.now.workers run.now.target }
 {
-    let alloc = rt.alloc();
-    let all = NumberStages::none(alloc);
+    let all = NumberStages::none(rt.alloc());
     list_answer(rt, run, &NUMBERS, &all, NumberTerminal::Sum, "23")?;
     list_answer(rt, run, &NUMBERS, &all, NumberTerminal::Product, "1400")?;
     list_answer(rt, run, &NUMBERS, &all, NumberTerminal::Max, "Optional[7]")?;
     list_answer(rt, run, &NUMBERS, &all, NumberTerminal::Min, "Optional[2]")?;
-    list_answer(
-        rt,
-        run,
-        &NUMBERS,
-        &all,
-        NumberTerminal::AllMatch(NumberTest::Less(8)),
-        "true",
-    )?;
-    list_answer(
-        rt,
-        run,
-        &NUMBERS,
-        &all,
-        NumberTerminal::AnyMatch(NumberTest::Equals(9)),
-        "false",
-    )?;
-    list_answer(
-        rt,
-        run,
-        &NUMBERS,
-        &all,
-        NumberTerminal::NoneMatch(NumberTest::Equals(9)),
-        "true",
-    )?;
+    let below = NumberTerminal::AllMatch(NumberTest::Less(8));
+    list_answer(rt, run, &NUMBERS, &all, below, "true")?;
+    let nine = NumberTerminal::AnyMatch(NumberTest::Equals(9));
+    list_answer(rt, run, &NUMBERS, &all, nine, "false")?;
+    let no_nine = NumberTerminal::NoneMatch(NumberTest::Equals(9));
+    list_answer(rt, run, &NUMBERS, &all, no_nine, "true")?;
+    let first = NumberTerminal::FindFirst;
     let later = all.and(NumberStage::Skip(2))?;
-    list_answer(
-        rt,
-        run,
-        &NUMBERS,
-        &later,
-        NumberTerminal::FindFirst,
-        "Optional[7]",
-    )?;
-    let none = later.and(NumberStage::Skip(3))?;
-    list_answer(
-        rt,
-        run,
-        &NUMBERS,
-        &none,
-        NumberTerminal::FindFirst,
-        "Optional.empty",
-    )?;
-    list_answer(
-        rt,
-        run,
-        &NUMBERS,
-        &none,
-        NumberTerminal::Max,
-        "Optional.empty",
-    )?;
+    list_answer(rt, run, &NUMBERS, &later, first, "Optional[7]")?;
+    Ok(())
+}
+
+fn ends_of_nothing<R: Threads + RandomSource + Abort + Alloc<A = Global> + Sync>(
+    rt: &R,
+    run: &Run<'_, Counts>,
+) -> Result<(), Fail>
+    requires settings { IsLawfulRun run.now.workers run.now.target }
+{
+    let none = NumberStages::none(rt.alloc()).and(NumberStage::Skip(5))?;
+    let first = NumberTerminal::FindFirst;
+    list_answer(rt, run, &NUMBERS, &none, first, "Optional.empty")?;
+    let most = NumberTerminal::Max;
+    list_answer(rt, run, &NUMBERS, &none, most, "Optional.empty")?;
     list_answer(rt, run, &NUMBERS, &none, NumberTerminal::Sum, "0")?;
     list_answer(rt, run, &NUMBERS, &none, NumberTerminal::Product, "1")?;
     list_answer(rt, run, &NUMBERS, &none, NumberTerminal::ToList, "[]")?;
@@ -140,6 +112,7 @@ fn terminals_end_pipelines(rt: HostRuntime) -> Result<(), Fail> {
                 gate: &gate,
             };
             ends(&rt, &run)?;
+            ends_of_nothing(&rt, &run)?;
         }
     }
     Ok(())

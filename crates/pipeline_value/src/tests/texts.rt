@@ -47,67 +47,34 @@ fn ends<R: Threads + RandomSource + Abort + Alloc<A = Global> + Sync>(
 ) -> Result<(), Fail>
     requires settings { IsLawfulRun run.now.workers run.now.target }
 {
-    let alloc = rt.alloc();
-    let all = TextStages::none(alloc);
-    text_answer(
-        rt,
-        run,
-        &LINES,
-        &all,
-        TextTerminal::FindFirst,
-        "Optional[a bc]",
-    )?;
-    text_answer(
-        rt,
-        run,
-        &LINES,
-        &all,
-        TextTerminal::Joining(","),
-        "a bc,,d,a",
-    )?;
-    text_answer(
-        rt,
-        run,
-        &LINES,
-        &all,
-        TextTerminal::JoiningWithin(",", "<", ">"),
-        "<a bc,,d,a>",
-    )?;
-    text_answer(
-        rt,
-        run,
-        &LINES,
-        &all,
-        TextTerminal::AllMatch(TextTest::Longer(0)),
-        "false",
-    )?;
-    text_answer(
-        rt,
-        run,
-        &LINES,
-        &all,
-        TextTerminal::AnyMatch(TextTest::Empty),
-        "true",
-    )?;
-    text_answer(
-        rt,
-        run,
-        &LINES,
-        &all,
-        TextTerminal::NoneMatch(TextTest::Starts("d")),
-        "false",
-    )?;
-    let lengths = NumberStages::none(alloc);
-    length_answer(
-        rt,
-        run,
-        &LINES,
-        (&all, &lengths),
-        NumberTerminal::ToList,
-        "[4, 0, 1, 1]",
-    )?;
-    length_answer(rt, run, &["é"], (&all, &lengths), NumberTerminal::Sum, "2")?;
-    let some = lengths
+    let all = TextStages::none(rt.alloc());
+    let first = TextTerminal::FindFirst;
+    text_answer(rt, run, &LINES, &all, first, "Optional[a bc]")?;
+    let joined = TextTerminal::Joining(",");
+    text_answer(rt, run, &LINES, &all, joined, "a bc,,d,a")?;
+    let within = TextTerminal::JoiningWithin(",", "<", ">");
+    text_answer(rt, run, &LINES, &all, within, "<a bc,,d,a>")?;
+    let long = TextTerminal::AllMatch(TextTest::Longer(0));
+    text_answer(rt, run, &LINES, &all, long, "false")?;
+    let empty = TextTerminal::AnyMatch(TextTest::Empty);
+    text_answer(rt, run, &LINES, &all, empty, "true")?;
+    let no_d = TextTerminal::NoneMatch(TextTest::Starts("d"));
+    text_answer(rt, run, &LINES, &all, no_d, "false")?;
+    Ok(())
+}
+
+fn lengths<R: Threads + RandomSource + Abort + Alloc<A = Global> + Sync>(
+    rt: &R,
+    run: &Run<'_, Counts>,
+) -> Result<(), Fail>
+    requires settings { IsLawfulRun run.now.workers run.now.target }
+{
+    let all = TextStages::none(rt.alloc());
+    let each = NumberStages::none(rt.alloc());
+    let list = NumberTerminal::ToList;
+    length_answer(rt, run, &LINES, (&all, &each), list, "[4, 0, 1, 1]")?;
+    length_answer(rt, run, &["é"], (&all, &each), NumberTerminal::Sum, "2")?;
+    let some = each
         .and(NumberStage::Filter(NumberTest::Greater(0)))?
         .and(NumberStage::Skip(1))?;
     length_answer(rt, run, &LINES, (&all, &some), NumberTerminal::Count, "2")?;
@@ -143,6 +110,7 @@ fn terminals_end_pipelines_of_texts(rt: HostRuntime) -> Result<(), Fail> {
                 gate: &gate,
             };
             ends(&rt, &run)?;
+            lengths(&rt, &run)?;
         }
     }
     Ok(())
