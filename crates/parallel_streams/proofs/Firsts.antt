@@ -1,9 +1,9 @@
 -- The first item of a front with one item, and reductions from an identity.
-use Rattle.std.specs.Prelude.{◌≡◌, ◌≤◌, ℕ, All, List, [], ◌∷◌, ◌++◌, Option, Some, None, fold, refl}
+use Rattle.std.specs.Prelude.{◌≡◌, ℕ, All, List, [], ◌∷◌, Some, None, fold, refl}
 use Rattle.std.proofs.Common.{ap, sym, ◌∙◌, arith}
 use Rattle.std.proofs.lemmas.List.Elements.{All-head}
 use Rattle.barriers.specs.Needs.{KeepsEnough, IsOutcome, every_item}
-use Rattle.barriers.specs.NeedLaws.{value-front, whole-front}
+use Rattle.barriers.specs.NeedLaws.{value-front}
 use Rattle.collectors.specs.Reductions.{first, reduced}
 use Rattle.parallel_streams.specs.Terminals.{IsLeftIdentity}
 

@@ -1,15 +1,15 @@
 -- What was skipped can't matter: other lists in the place of skipped leaves leave the answer the same.
-use Rattle.std.specs.Prelude.{◌≡◌, ◌<◌, ◌≤◌, ◌+◌, ◌≢◌, ◌⊎◌, ℕ, zero, suc, Bool, refl, List, [], ◌∷◌, ◌++◌, Option, Some, None, cond, count_by, take, drop, length, slice_index_or}
-use Rattle.std.proofs.Common.{sym, ap, ap₂, ◌∙◌, subst, arith, append-nil, ⊎_elim, inl, inr}
+use Rattle.std.specs.Prelude.{◌≡◌, ◌<◌, ◌≤◌, ◌+◌, ◌≢◌, ℕ, zero, suc, Bool, refl, List, [], ◌∷◌, ◌++◌, Option, Some, None, cond, count_by, take, drop, length, slice_index_or}
+use Rattle.std.proofs.Common.{sym, ap, ap₂, ◌∙◌, subst, arith, append-nil, ⊎_elim}
 use Rattle.std.proofs.lemmas.List.{take-append-drop}
 use Rattle.std.proofs.lemmas.List.Sums.{sum_by-append}
 use Rattle.barriers.specs.Needs.{KeepsEnough, IsEnough, Reaches}
-use Rattle.leaf_board.specs.Case.{IsLawful, sum_below}
+use Rattle.leaf_board.specs.Case.{sum_below}
 use Rattle.leaf_board.specs.Closing.{Outcome, count_of, cut_of}
 use Rattle.stealing_pool.specs.Fronts.{joined, full_count}
 use Rattle.stealing_pool.specs.Reports.{Reported, Reports}
 use Rattle.stealing_pool.specs.SpanLaws.{joined-append}
-use Rattle.parallel_streams.specs.Reports.{ReplacesSkipped, IsHarmless, IsReported}
+use Rattle.parallel_streams.specs.Reports.{IsHarmless, IsReported}
 
 joined-split : {T : Type 0} (n : ℕ) (lists : List (List T)) → joined lists ≡ joined (take n lists) ++ joined (drop n lists)
 joined-split n lists = ap joined (sym (take-append-drop n lists)) ∙ joined-append (take n lists) (drop n lists)

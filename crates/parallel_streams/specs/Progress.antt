@@ -1,5 +1,5 @@
 -- How far the barriers of a stream have come.
-use Rattle.std.specs.Prelude.{◌≡◌, ◌<◌, ◌≤◌, ◌+◌, ◌^◌, ℕ, Bool, true, false, List, [], ◌++◌, ◌∷◌, Option, Some, None, map, length}
+use Rattle.std.specs.Prelude.{◌≡◌, ◌+◌, ℕ, Bool, true, false, List, [], ◌++◌, ◌∷◌, Option, Some, None, map, length}
 use Rattle.std.specs.Global.{Vec}
 use Rattle.stealing_pool.specs.Jobs.{Work}
 use Rattle.leaf_board.specs.Closing.{Outcome}

@@ -1,5 +1,5 @@
 -- What holds of the progress of a stream with barriers.
-use Rattle.std.specs.Prelude.{◌≡◌, ◌<◌, ◌≤◌, ◌+◌, ◌++◌, ℕ, Bool, true, false, List, [], Option, Some, None, Result, Ok, Err, OnOk, map, length, slice_get, slice_index_or, refl}
+use Rattle.std.specs.Prelude.{◌≡◌, ◌<◌, ◌+◌, ◌++◌, ℕ, Bool, true, false, List, [], Option, Some, None, Result, Ok, Err, OnOk, map, length, slice_get, slice_index_or, refl}
 use Rattle.std.proofs.Common.{sym, ap, ◌∙◌, subst, arith, true≢false}
 use Rattle.std.specs.Global.{Vec}
 use Rattle.std.proofs.lemmas.List.{length-map}
@@ -10,9 +10,9 @@ use Rattle.leaf_board.specs.Closing.{Outcome}
 use Rattle.stealing_pool.specs.Fronts.{Folding, Folds, joined, work_of}
 use Rattle.stealing_pool.specs.SpanLaws.{spans-combine}
 use Rattle.parallel_streams.specs.LeafLaws.{map-both, get-mapped}
-use Rattle.parallel_streams.specs.Cuts.{Ascends, cut_at, cut_at-map, joined-cut_at, length-cut_at}
+use Rattle.parallel_streams.specs.Cuts.{cut_at, cut_at-map, joined-cut_at, length-cut_at}
 use Rattle.parallel_streams.specs.Ends.{ends_of}
-use Rattle.parallel_streams.specs.Progress.{HoldsListed, ToldSoFar, is_listed, waiting_of, next_leaves, parts_of, barred_work, end_with, KeepsBefore, KeepsOwn}
+use Rattle.parallel_streams.specs.Progress.{HoldsListed, ToldSoFar, is_listed, next_leaves, parts_of, barred_work, end_with}
 use Rattle.parallel_streams.specs.declared.part.Listed.{Listed}
 use Rattle.parallel_streams.specs.declared.part.Part.{Part}
 use Rattle.parallel_streams.specs.declared.part.Part.TheVariants.{Before, Own}

@@ -1,5 +1,5 @@
 -- What the entry of a run says of the lists of its leaves.
-use Rattle.std.specs.Prelude.{◌≡◌, ◌<◌, ◌≢◌, ℕ, Bool, List, [], Option, None, count_by, length, slice_index_or}
+use Rattle.std.specs.Prelude.{◌≡◌, ◌<◌, ◌≢◌, ℕ, Bool, List, [], Option, None, length, slice_index_or}
 use Rattle.leaf_board.specs.Closing.{Outcome, count_of, cut_of}
 use Rattle.stealing_pool.specs.Reports.{Reports}
 use Rattle.stealing_pool.specs.Fronts.{joined, full_count}

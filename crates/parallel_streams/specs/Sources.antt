@@ -1,6 +1,6 @@
 -- What a stream over a source tells.
-use Rattle.std.specs.Prelude.{◌≡◌, ◌<◌, ◌≤◌, ◌^◌, ℕ, Bool, true, false, IsTrue, if◌then◌else◌, List, [], ◌∷◌, map, flat_map, length, slice_get, slice_index_or, Option, Some, None, IfSome, refl}
-use Rattle.std.proofs.Common.{sym, ap, ◌∙◌, subst, arith}
+use Rattle.std.specs.Prelude.{◌≡◌, ◌<◌, ◌^◌, ℕ, Bool, true, false, IsTrue, if◌then◌else◌, List, length, Option, Some, None, IfSome, refl}
+use Rattle.std.proofs.Common.{ap}
 use Rattle.std.specs.declared.cmp.Ordering.{Ordering}
 use Rattle.spliterator.specs.Characteristics.{tells}
 use Rattle.spliterator.specs.declared.characteristics.TheConstants.{SIZED}

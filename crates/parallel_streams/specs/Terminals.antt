@@ -1,5 +1,5 @@
 -- What the terminal operations answer, on the whole list in encounter order.
-use Rattle.std.specs.Prelude.{◌≡◌, Bool, true, false, cond, not, List, [], ◌∷◌}
+use Rattle.std.specs.Prelude.{◌≡◌, Bool, true, false, cond, List, [], ◌∷◌}
 
 -- whether some member meets the test
 -- java.util.stream.Stream, anyMatch

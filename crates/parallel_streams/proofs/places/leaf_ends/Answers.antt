@@ -1,4 +1,4 @@
-use Rattle.std.proofs.Common.{◌≡◌, ◌≤◌, ◌++◌, ◌∷◌, ◌+◌, ℕ, List, [], length, sym, ap, ◌∙◌, subst, arith, length-append}
+use Rattle.std.proofs.Common.{◌≤◌, ◌∷◌, ◌+◌, ℕ, List, [], length, sym, ap, ◌∙◌, subst, arith, length-append}
 use Rattle.parallel_streams.specs.Cuts.{Ascends, Ascends-push}
 use Rattle.parallel_streams.proofs.places.leaf_ends.Goals as goal
 

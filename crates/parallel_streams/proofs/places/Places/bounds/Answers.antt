@@ -1,4 +1,4 @@
-use Rattle.std.proofs.Common.{◌≡◌, ◌≤◌, arith}
+use Rattle.std.proofs.Common.{arith}
 use Rattle.std.proofs.lemmas.Grind.{get_or_default_zero}
 use Rattle.parallel_streams.specs.Cuts.{start-within}
 use Rattle.parallel_streams.specs.Ends.{ends_of}

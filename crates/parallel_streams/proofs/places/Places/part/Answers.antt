@@ -1,5 +1,5 @@
-use Rattle.std.proofs.Common.{◌≡◌, ◌-◌, ℕ, Some, take, drop, slice_index, length, sym, ap, ap₂, ◌∙◌, arith}
-use Rattle.parallel_streams.specs.Cuts.{cut_at, start_at, part-cut_at}
+use Rattle.std.proofs.Common.{◌≡◌, ◌-◌, Some, take, drop, slice_index, length, sym, ap, ap₂, ◌∙◌, arith}
+use Rattle.parallel_streams.specs.Cuts.{start_at, part-cut_at}
 use Rattle.parallel_streams.specs.Ends.{ends_of}
 use Rattle.parallel_streams.proofs.places.Places.part.Goals as goal
 
