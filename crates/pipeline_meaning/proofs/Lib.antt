@@ -1,4 +1,5 @@
 pub mod NumberFronts
+pub mod NumberWalks
 pub mod Passages
 pub mod Quotients
 pub mod Separated

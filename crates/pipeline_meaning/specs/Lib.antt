@@ -1,6 +1,7 @@
 pub mod Adapting
 pub mod Functions
 pub mod NumberSteps
+pub mod NumberWalks
 pub mod Passages
 pub mod Prepared
 pub mod PreparedLaws

@@ -1,5 +1,5 @@
 -- What prepared steps over numbers give.
-use Rattle.std.specs.Prelude.{◌≡◌, ◌<◌, ℕ, ℤ, Bool, true, false, cond, List, [], ◌∷◌, None, Some, flat_map, length, refl}
+use Rattle.std.specs.Prelude.{◌≡◌, ◌<◌, ℕ, ℤ, Bool, true, false, cond, List, [], ◌∷◌, flat_map, length, refl}
 use Rattle.std.proofs.Math.ListN.{replicate}
 use Rattle.std.proofs.Common.{sym, true≢false}
 use Rattle.std.specs.List.{list_all}
@@ -12,8 +12,6 @@ use Rattle.pipeline_meaning.specs.Walks.{images_after}
 use Rattle.pipeline_meaning.specs.WalkLaws.{KeepsSound-walk}
 use Rattle.pipeline_meaning.specs.declared.number_steps.NumberStep.{NumberStep}
 use Rattle.pipeline_meaning.specs.declared.number_steps.NumberStep.TheVariants.{Pass, Map, Filter, Repeat}
-use Rattle.pipeline_meaning.specs.declared.number_steps.Way.{Way}
-use Rattle.pipeline_meaning.specs.declared.number_steps.Way.TheVariants.{Linear, Steps}
 use Rattle.pipeline_meaning.specs.declared.number_steps.Walked.{Walked}
 use Rattle.pipeline_meaning.specs.declared.number_steps.Walked.TheVariants.{Passed, Dropped, Copied}
 
@@ -26,12 +24,6 @@ number_step_images (Repeat n) x = replicate n x
 
 abbrev pub number_images : List NumberStep → ℤ → List ℤ
 number_images steps x = images_after number_step_images steps x
-
--- the steps of a way
-abbrev pub way_steps : Way → List NumberStep
-way_steps (Linear first None) = Pass first ∷ []
-way_steps (Linear first (Some second)) = Pass first ∷ Pass second ∷ []
-way_steps (Steps steps) = steps.items
 
 -- what is to come of a number that has walked
 abbrev pub walked_images : Walked → List ℤ

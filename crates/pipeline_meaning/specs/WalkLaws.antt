@@ -45,6 +45,14 @@ copies-all f i n x h =
     sym (flat_map-append f (replicate i x) (replicate (n - i) x)) ∙ ap (flat_map f) (replicate-append-replicate i (n - i) x)
     ∙ ap (λ k. flat_map f (replicate k x)) (let e : i + (n - i) ≡ n = omega arith in e)
 
+-- Where each item has one image the row is that of a map, else of a flat map.
+pub KeepsSound-images : {A : Type 0} (order : A → A → Ordering) (images : A → List A) (image : A → A) (b : Bool)
+    → (b ≡ true → (x : A) → images x ≡ image x ∷ []) → KeepsSound order order (row_of b) (size_of b) (flat_map images)
+KeepsSound-images {A} order images image true one = λ flags size items sound.
+    let P : List A → Type 0 = λ l. IsSound order (after flags map_row) size l in
+    subst P (sym (flat_map-same images (λ x. image x ∷ []) (one refl) items)) (KeepsSound-map order order image flags size items sound)
+KeepsSound-images order images image false one = KeepsSound-flat_map order order images
+
 module _ {S A : Type 0} (images : S → A → List A) where
   -- a step behind the others
   pub images-one-more : (steps : List S) (step : S) (x : A) → images_after images (steps ++ step ∷ []) x ≡ flat_map (images step) (images_after images steps x)
@@ -59,7 +67,7 @@ module _ {S A : Type 0} (images : S → A → List A) where
       flat_map-same (images_after images (steps ++ step ∷ [])) (λ y. flat_map (images step) (images_after images steps y)) (images-one-more steps step) l
       ∙ sym (flat_map-flat_map (images_after images steps) (images step) l)
 
-  -- Where all steps are maps, a number has one image. The row is that of a map there, else of a flat map.
+  -- Where all steps are maps, a number has one image.
   one-image : (is_map : S → Bool) (image : S → A → A) → ((step : S) → is_map step ≡ true → (x : A) → images step x ≡ image step x ∷ [])
       → (steps : List S) → list_all is_map steps ≡ true → (x : A) → images_after images steps x ≡ one_after_other image steps x ∷ []
   one-image is_map image one [] h x = refl
@@ -78,13 +86,8 @@ module _ {S A : Type 0} (images : S → A → List A) where
 
   pub KeepsSound-walk : (order : A → A → Ordering) (is_map : S → Bool) (image : S → A → A) → ((step : S) → is_map step ≡ true → (x : A) → images step x ≡ image step x ∷ [])
       → (steps : List S) → KeepsSound order order (row_of (list_all is_map steps)) (size_of (list_all is_map steps)) (flat_map (images_after images steps))
-  KeepsSound-walk order is_map image one steps = by (list_all is_map steps) (one-image is_map image one steps)
-    where
-      by : (b : Bool) → (b ≡ true → (x : A) → images_after images steps x ≡ one_after_other image steps x ∷ []) → KeepsSound order order (row_of b) (size_of b) (flat_map (images_after images steps))
-      by true one = λ flags size items sound.
-          let P : List A → Type 0 = λ l. IsSound order (after flags map_row) size l in
-          subst P (sym (flat_map-same (images_after images steps) (λ x. one_after_other image steps x ∷ []) (one refl) items)) (KeepsSound-map order order (one_after_other image steps) flags size items sound)
-      by false one = KeepsSound-flat_map order order (images_after images steps)
+  KeepsSound-walk order is_map image one steps =
+      KeepsSound-images order (images_after images steps) (one_after_other image steps) (list_all is_map steps) (one-image is_map image one steps)
 
   module _ {G : Type 0} (stage : G → List A → List A) where
     stages-one-more : (earlier : List G) (last : G) (l : List A) → one_after_other stage (earlier ++ last ∷ []) l ≡ stage last (one_after_other stage earlier l)

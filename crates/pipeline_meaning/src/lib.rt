@@ -7,6 +7,7 @@ mod functions;
 mod number_bases;
 mod number_steps;
 mod number_summaries;
+mod number_walk;
 mod passage;
 mod spelled;
 mod summarizes;
@@ -27,6 +28,8 @@ pub use number_summaries::{
     NumberInnerCollector, NumberSummaryCollector, NumberSummaryContainer, NumberSummaryResult,
     number_inner, number_summary,
 };
+pub use number_walk::{IsMultiple, NumberWalk, Remainder};
+pub use passage::Passage;
 pub use spelled::Spelled;
 pub use summarizes::{Both, Summarizes, grouped, write_result};
 pub use text_bases::{TextBaseCollector, TextBaseContainer, TextBaseResult, text_base};

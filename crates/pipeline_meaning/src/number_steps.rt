@@ -4,20 +4,20 @@ ghost use Rattle.std.specs.List.{HoldsAt, list_all};
 ghost use Rattle.std.specs.Ordering.{int_cmp};
 ghost use Rattle.std.proofs.Math.ListN.{replicate};
 ghost use Rattle.std.specs.Prelude.{⊤, true, false, cond, [], ◌∷◌, ◌++◌, ◌&&◌};
-ghost use Rattle.std.specs.Prelude.{option_to_list};
 ghost use Rattle.pipeline_meaning.specs.Functions.{number_image, number_holds};
-ghost use Rattle.pipeline_meaning.specs.NumberSteps.{number_images, number_step_images, walked_images, way_steps, IsFewer, is_map_step, only_maps, SameSteps, KeepsSound-number_steps};
+ghost use Rattle.pipeline_meaning.specs.NumberSteps.{number_images, number_step_images, walked_images, IsFewer, is_map_step, only_maps, SameSteps, KeepsSound-number_steps};
 ghost use Rattle.pipeline_meaning.specs.declared.number_steps.NumberStep.TheVariants.{Pass};
-ghost use Rattle.pipeline_meaning.specs.declared.number_steps.Way.TheVariants.{Linear};
+ghost use Rattle.pipeline_meaning.specs.NumberWalks.{walk_images};
+ghost use Rattle.pipeline_meaning.specs.Passages.{passage_images};
 ghost use Rattle.pipeline_meaning.specs.Rows.{row_of, size_of};
 ghost use Rattle.pipeline_meaning.specs.Stages.{number_stage, number_stages, is_number_barrier, is_number_map};
 ghost use Rattle.pipeline_meaning.specs.WalkLaws.{IsStep};
 
-use crate::passage::Passage;
-use crate::{NumberCheck, NumberMapping};
+use crate::number_walk::{IsMultiple, NumberWalk, Remainder};
+use crate::{NumberCheck, NumberMapping, Passage};
 use pipeline_language::{NumberFunction, NumberStage, NumberTest};
 use spliterator::NoMemory;
-use stages::{Mapping, Operation, Sink, Stage, Test};
+use stages::{Filter, Map, Mapping, Operation, Sink, Stage, Test, Then};
 use std::alloc::Global;
 
 /// One stage, prepared.
@@ -84,6 +84,24 @@ impl NumberStep {
         }
     }
 
+    // A passage and this step behind it, as a small stage.
+    fn behind(&self, first: Passage) -> Option<NumberWalk>
+        ensures { MatchOption result ⊤ (λ walk. (x : ℤ) → walk_images walk x ≡ flat_map (number_step_images self.now) (passage_images first x)) }
+    {
+        match *self {
+            NumberStep::Pass(second) => Some(NumberWalk::Passages(Then::new(first, second))),
+            NumberStep::Map(NumberMapping::Mod(divisor)) => {
+                let remainder = Map::new(Remainder { divisor });
+                Some(NumberWalk::Remainders(Then::new(first, remainder)))
+            }
+            NumberStep::Filter(NumberCheck::Divisible(divisor)) => {
+                let multiple = Filter::new(IsMultiple { divisor });
+                Some(NumberWalk::Multiples(Then::new(first, multiple)))
+            }
+            _ => None,
+        }
+    }
+
     // This step and the one behind it, if one can be both.
     fn joined(&self, next: &NumberStep) -> Option<NumberStep>
         ensures { MatchOption result ⊤ (λ both. ((x : ℤ) → number_step_images both x ≡ flat_map (number_step_images next.now) (number_step_images self.now x))
@@ -116,38 +134,10 @@ fn append(
     }
 }
 
-/// How a number walks. The commonest walks are one loop with no call and no list, which a compiler can hold in registers.
-#[derive(Debug, Drop)]
-enum Way {
-    Linear(Passage, Option<Passage>),
-    Steps(Vec<NumberStep>),
-}
-
-impl Way {
-    fn of(steps: Vec<NumberStep>) -> Way
-        ensures { way_steps result ≡ steps.items }
-    {
-        match Way::linear(steps.as_slice()) {
-            Some(way) => way,
-            None => Way::Steps(steps),
-        }
-    }
-
-    fn linear(steps: &[NumberStep]) -> Option<Way>
-        ensures { MatchOption result ⊤ (λ way. way_steps way ≡ steps.now) }
-    {
-        match steps {
-            [only] => Some(Way::Linear(only.passage()?, None)),
-            [first, second] => Some(Way::Linear(first.passage()?, Some(second.passage()?))),
-            _ => None,
-        }
-    }
-}
-
 /// Stages over numbers up to the first that looks at more than one item, as one stage: a number walks through them.
 #[derive(Debug, Drop)]
 pub struct NumberSteps {
-    way: Way,
+    steps: Vec<NumberStep>,
 }
 
 impl NumberSteps {
@@ -170,44 +160,29 @@ impl NumberSteps {
     }
 
     fn ending(steps: Vec<NumberStep>, last: NumberStep) -> Result<NumberSteps, NoMemory>
-        ensures { IfOk result (λ r. way_steps r.way ≡ steps.items ++ last ∷ []) }
+        ensures { IfOk result (λ r. r.steps.items ≡ steps.items ++ last ∷ []) }
     {
         let mut steps = steps;
         steps.push(last)?;
-        Ok(NumberSteps {
-            way: Way::of(steps),
-        })
+        Ok(NumberSteps { steps })
+    }
+
+    /// The walk as a small stage of its own type, where the steps are few.
+    pub fn walk(&self) -> Option<NumberWalk>
+        ensures { MatchOption result ⊤ (λ walk. (x : ℤ) → walk_images walk x ≡ ⟦<NumberSteps as Stage>⟧.expand self.now x) }
+    {
+        match self.steps.as_slice() {
+            [only] => Some(NumberWalk::of_passage(only.passage()?)),
+            [first, second] => second.behind(first.passage()?),
+            _ => None,
+        }
     }
 
     // Whether each number has one image.
     fn keeps_size(&self) -> bool
-        ensures { result ≡ only_maps (way_steps self.now.way) }
+        ensures { result ≡ only_maps self.now.steps.items }
     {
-        match &self.way {
-            Way::Linear(first, None) => first.keeps_all(),
-            Way::Linear(first, Some(second)) => first.keeps_all() && second.keeps_all(),
-            Way::Steps(steps) => steps.iter().all(|step| step.is_map()),
-        }
-    }
-}
-
-// Takes a number through one or two passages.
-#[inline(always)]
-fn pass(first: &Passage, second: &Option<Passage>, x: i64) -> Option<i64>
-    ensures { option_to_list result ≡ number_images (way_steps (Linear first.now second.now)) x }
-{
-    let number = first.image_of(x);
-    if !first.holds(number) {
-        return None;
-    }
-    let Some(second) = second else {
-        return Some(number);
-    };
-    let number = second.image_of(number);
-    if second.holds(number) {
-        Some(number)
-    } else {
-        None
+        self.steps.iter().all(|step| step.is_map())
     }
 }
 
@@ -288,28 +263,21 @@ impl Stage for NumberSteps {
 
     type Out = i64;
 
-    ghost expand = { λ s. number_images (way_steps s.way) };
+    ghost expand = { λ s. number_images s.steps.items };
 
-    ghost operation = { λ s. row_of (only_maps (way_steps s.way)) };
+    ghost operation = { λ s. row_of (only_maps s.steps.items) };
 
-    ghost size_after = { λ s. size_of (only_maps (way_steps s.way)) };
+    ghost size_after = { λ s. size_of (only_maps s.steps.items) };
 
-    ghost flag_law = { λ s. KeepsSound-number_steps int_cmp (way_steps s.way) };
+    ghost flag_law = { λ s. KeepsSound-number_steps int_cmp s.steps.items };
 
-    // The walk of a number that isn't copied makes no call, so that a loop over numbers can hold it whole. There are two ways and no more,
-    // and that is asked first: then a compiler asks it once, before the loop.
+    // The walk of a number that isn't copied makes no call, so that a loop over numbers can hold it whole.
     #[inline(always)]
     fn feed<K: Sink<i64>>(&self, x: i64, sink: &mut K) -> Result<(), NoMemory> {
-        match &self.way {
-            Way::Linear(first, second) => match pass(first, second, x) {
-                Some(number) => sink.take(number),
-                None => Ok(()),
-            },
-            Way::Steps(steps) => match walk(steps, x) {
-                Walked::Passed(number) => sink.take(number),
-                Walked::Dropped => Ok(()),
-                Walked::Copied(n, number, rest) => feed_copies(n, rest, number, sink),
-            },
+        match walk(self.steps.as_slice(), x) {
+            Walked::Passed(number) => sink.take(number),
+            Walked::Dropped => Ok(()),
+            Walked::Copied(n, number, rest) => feed_copies(n, rest, number, sink),
         }
     }
 

@@ -3,7 +3,7 @@ ghost use Rattle.spliterator.specs.Values.{IsI64};
 ghost use Rattle.stages.specs.Products.{wrapped_product};
 ghost use Rattle.stages.specs.Wrapping.{wrapped_sum};
 ghost use Rattle.std.specs.Int.{int_max, int_min};
-ghost use Rattle.std.specs.Prelude.{◌≡◌, ⊤, ℤ, pos, true, false, cond, [], ◌∷◌, MatchOption, flat_map, ◌&&◌};
+ghost use Rattle.std.specs.Prelude.{◌≡◌, IsTrue, ⊤, ℤ, pos, true, false, cond, [], ◌∷◌, MatchOption, flat_map, ◌&&◌};
 
 use pipeline_language::{NumberFunction, NumberTest};
 
@@ -104,13 +104,21 @@ impl Passage {
     pub fn holds(&self, x: i64) -> bool
         ensures { result ≡ passage_holds self.now x }
     {
-        self.least <= x && x <= self.most
+        let (least, most) = (self.least, self.most);
+        least <= x && x <= most
     }
 
     pub fn keeps_all(&self) -> bool
         ensures { result ≡ keeps_all self.now }
     {
         self.least == i64::MIN && self.most == i64::MAX
+    }
+
+    /// Whether each number stays as it is, and within the bounds.
+    pub fn is_all(&self) -> bool
+        ensures { IsTrue result → (x : ℤ) → passage_images self.now x ≡ x ∷ [] }
+    {
+        !self.changes && self.keeps_all()
     }
 
     /// This one and the other behind it as one, if that is one: this one's bounds aren't asked for what the other makes of a number.

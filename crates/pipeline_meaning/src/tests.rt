@@ -2,3 +2,4 @@
 mod functions;
 mod steps;
 mod summaries;
+mod walks;
