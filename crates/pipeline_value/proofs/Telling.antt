@@ -62,12 +62,16 @@ lengths-told body items front r h =
     let Q : List ℤ → Type 0 = λ l. Tells (number_body_told body l) r in
     subst Q (expanded front (λ t. text_length t ∷ []) items ∙ flat_map_single text_length (flat_map front items)) h
 
+pub source-told : (body : NumberBody) (before items : List ℤ) (r : Result (String Global) ValueError) → before ≡ items
+    → Tells (number_body_told body before) r → Tells (number_body_told body items) r
+source-told body before items r same h =
+    let Q : List ℤ → Type 0 = λ l. Tells (number_body_told body l) r in
+    subst Q same h
+
 alone : (l : List ℤ) → flat_map (λ n. n ∷ []) l ≡ l
 alone [] = refl
 alone (n ∷ l) = ap (λ m. n ∷ m) (alone l)
 
-pub source-told : (body : NumberBody) (before items : List ℤ) (r : Result (String Global) ValueError) → before ≡ items
-    → Tells (number_body_told body (flat_map (λ n. n ∷ []) before)) r → Tells (number_body_told body items) r
-source-told body before items r same h =
-    let Q : List ℤ → Type 0 = λ l. Tells (number_body_told body l) r in
-    subst Q (alone before ∙ same) h
+pub itself-told : (body : NumberBody) (items : List ℤ) (r : Result (String Global) ValueError)
+    → Tells (number_body_told body (flat_map (λ n. n ∷ []) items)) r → Tells (number_body_told body items) r
+itself-told body items r h = source-told body (flat_map (λ n. n ∷ []) items) items r (alone items) h

@@ -1,5 +1,6 @@
 pub mod ContentLaws
 pub mod FitLaws
+pub mod Folds
 pub mod KnownSizes
 pub mod NumberContents
 pub mod Ranges

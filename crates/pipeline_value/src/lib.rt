@@ -2,6 +2,7 @@
 #![tactic(auto)]
 
 mod collected;
+mod folds;
 mod gather;
 mod known_size;
 mod maps;

@@ -3,6 +3,7 @@
 ghost use Rattle.parallel_streams.specs.Runs.{IsLawfulRun};
 ghost use Rattle.pipeline_value.specs.Value.{Tells, number_told};
 
+use crate::folds::{Fold, fold_value};
 use crate::number_maps::{map_value, strict_map_value};
 use crate::number_parts::{groups_value, pair_value, parts_value};
 use crate::told::{ValueError, told};
@@ -10,7 +11,6 @@ use collectors::ToList;
 use parallel_streams::{Run, Stream};
 use pipeline_language::NumberTerminal;
 use pipeline_meaning::NumberCheck;
-use stages::{Max, Min, WrapAdd, WrapMul};
 use std::alloc::Global;
 use std::hash::RandomState;
 use std::thread::Threads;
@@ -36,10 +36,10 @@ where
     ensures { Tells (number_told terminal.now (X.value stream.now)) result }
 {
     match *terminal {
-        NumberTerminal::Sum => told(alloc, &stream.reduce(rt, alloc, run, 0, &WrapAdd::new())?),
-        NumberTerminal::Product => told(alloc, &stream.reduce(rt, alloc, run, 1, &WrapMul::new())?),
-        NumberTerminal::Max => told(alloc, &stream.reduce_optional(rt, alloc, run, &Max::new())?),
-        NumberTerminal::Min => told(alloc, &stream.reduce_optional(rt, alloc, run, &Min::new())?),
+        NumberTerminal::Sum => fold_value(rt, alloc, stream, Fold::Sum, run),
+        NumberTerminal::Product => fold_value(rt, alloc, stream, Fold::Product, run),
+        NumberTerminal::Max => fold_value(rt, alloc, stream, Fold::Max, run),
+        NumberTerminal::Min => fold_value(rt, alloc, stream, Fold::Min, run),
         NumberTerminal::Count => told(alloc, &stream.count(rt, alloc, run)?),
         NumberTerminal::FindFirst => told(alloc, &stream.find_first(rt, alloc, run)?),
         NumberTerminal::ToList => told(

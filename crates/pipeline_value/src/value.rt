@@ -1,18 +1,23 @@
 //! The value of a pipeline.
 
-ghost use Rattle.std.specs.Prelude.{pos, ◌+ℤ◌, ◌≤◌, ◌^◌};
+ghost use Rattle.std.specs.Prelude.{◌≡◌, pos, ◌+ℤ◌, ◌≤◌, ◌^◌, ℤ, IfOk, List, MatchOption, flat_map, ⊤};
 ghost use Rattle.parallel_streams.specs.Runs.{IsLawfulRun};
+ghost use Rattle.pipeline_meaning.specs.NumberWalks.{walk_images};
+ghost use Rattle.pipeline_meaning.specs.Stages.{number_stages};
 ghost use Rattle.sources.specs.Integers.{count_between, integers_between};
 ghost use Rattle.pipeline_value.specs.Ranges.{NumberBodyFits, NumberSourceFits, PipelineFits};
 ghost use Rattle.pipeline_value.specs.Value.{Tells, number_body_told, pipeline_told, source_numbers};
 
+use crate::folds::{Fold, walk_value};
 use crate::known_size::known_count;
 use crate::numbers::{list_value, number_value};
 use crate::texts::text_value;
 use crate::told::{ValueError, told};
 use parallel_streams::Run;
-use pipeline_language::{NumberBody, NumberSource, Pipeline};
+use pipeline_language::{NumberBody, NumberSource, NumberStage, Pipeline};
+use pipeline_meaning::{NumberSteps, NumberWalk};
 use sources::RangeSplit;
+use spliterator::{NoMemory, Spliterator};
 use stages::Nothing;
 use std::alloc::Global;
 use std::hash::RandomState;
@@ -84,6 +89,39 @@ fn source_value<R: Threads + Sync, H: Gate + Sync>(
     }
 }
 
+/// The text of the value of a body, over a range. Few steps without a barrier before a fold are walked as a small stage.
+fn integers_value<R: Threads + Sync, H: Gate + Sync>(
+    rt: &R,
+    alloc: Global,
+    hashes: RandomState,
+    range: RangeSplit,
+    body: &NumberBody,
+    run: &Run<'_, H>,
+) -> Result<String, ValueError>
+    requires settings { IsLawfulRun run.now.workers run.now.target }
+    requires body { NumberBodyFits body.now }
+    ensures { Tells (number_body_told body.now (⟦<RangeSplit as Spliterator>⟧.items range)) result }
+{
+    if let Some(fold) = Fold::of(&body.terminal)
+        && let Some(walk) = whole_walk(alloc, body.stages.as_slice())?
+    {
+        return walk_value(rt, alloc, range, walk, fold, run);
+    }
+    number_value(rt, alloc, hashes, range, Nothing::new(), body, run)
+}
+
+/// All stages as a small stage, where they are few steps and none is a barrier.
+fn whole_walk(alloc: Global, stages: &[NumberStage]) -> Result<Option<NumberWalk>, NoMemory>
+    ensures { IfOk result (λ walk. MatchOption walk ⊤ (λ walk. (l : List ℤ) → flat_map (walk_images walk) l ≡ number_stages stages.now l)) }
+{
+    let (steps, taken) = NumberSteps::front_of(alloc, stages)?;
+    if taken == stages.len() {
+        Ok(steps.walk())
+    } else {
+        Ok(None)
+    }
+}
+
 /// The text of the value of a body, over the integers from `start` up to, not including, `end`.
 fn range_value<R: Threads + Sync, H: Gate + Sync>(
     rt: &R,
@@ -100,7 +138,7 @@ fn range_value<R: Threads + Sync, H: Gate + Sync>(
     ensures { Tells (number_body_told body.now (integers_between start end)) result }
 {
     let range = RangeSplit::range(start, end).unwrap();
-    number_value(rt, alloc, hashes, range, Nothing::new(), body, run)
+    integers_value(rt, alloc, hashes, range, body, run)
 }
 
 /// The same up to and including `last`.
@@ -119,5 +157,5 @@ fn closed_value<R: Threads + Sync, H: Gate + Sync>(
     ensures { Tells (number_body_told body.now (integers_between start (last +ℤ pos 1))) result }
 {
     let range = RangeSplit::closed(start, last).unwrap();
-    number_value(rt, alloc, hashes, range, Nothing::new(), body, run)
+    integers_value(rt, alloc, hashes, range, body, run)
 }

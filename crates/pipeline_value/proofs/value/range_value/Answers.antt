@@ -9,4 +9,4 @@ returns g c =
     let start : to_z w64 (of_z w64 c.args.start) ≡ c.args.start = to_z-of_z w64 c.args.start c.ranges.start in
     let end : to_z w64 (of_z w64 c.args.end) ≡ c.args.end = to_z-of_z w64 c.args.end c.ranges.end in
     let made = rw c.unwrap-range.ensures at c.range.ensures.ok in
-    source-told c.args.body.now _ (integers_between c.args.start c.args.end) c.number_value.result (made ∙ ap₂ integers_between start end) c.number_value.ensures
+    source-told c.args.body.now _ (integers_between c.args.start c.args.end) c.integers_value.result (made ∙ ap₂ integers_between start end) c.integers_value.ensures

@@ -1,0 +1,11 @@
+-- The terminals that join all numbers into one.
+use Rattle.pipeline_language.specs.declared.pipeline.NumberTerminal.{NumberTerminal}
+use Rattle.pipeline_language.specs.declared.pipeline.NumberTerminal.TheVariants as terminals
+use Rattle.pipeline_value.specs.declared.folds.Fold.{Fold}
+use Rattle.pipeline_value.specs.declared.folds.Fold.TheVariants as folds
+
+abbrev pub fold_terminal : Fold → NumberTerminal
+fold_terminal folds.Sum = terminals.Sum
+fold_terminal folds.Product = terminals.Product
+fold_terminal folds.Max = terminals.Max
+fold_terminal folds.Min = terminals.Min

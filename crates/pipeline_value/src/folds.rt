@@ -1,0 +1,97 @@
+//! The terminals that join all numbers into one.
+
+ghost use Rattle.std.specs.Prelude.{◌≡◌, MatchOption, ⊤, flat_map};
+ghost use Rattle.parallel_streams.specs.Runs.{IsLawfulRun};
+ghost use Rattle.pipeline_meaning.specs.NumberWalks.{walk_images};
+ghost use Rattle.pipeline_value.specs.Folds.{fold_terminal};
+ghost use Rattle.pipeline_value.specs.Value.{Tells, number_told};
+
+use crate::told::{ValueError, told};
+use collectors::SummingLong;
+use parallel_streams::{Run, Stream, of};
+use pipeline_language::NumberTerminal;
+use pipeline_meaning::{Itself, NumberWalk};
+use sources::RangeSplit;
+use spliterator::Spliterator;
+use stages::{Max, Min, WrapMul};
+use std::alloc::Global;
+use std::thread::Threads;
+use stealing_pool::Gate;
+
+/// A terminal that joins all numbers into one.
+#[derive(Clone, Copy, Debug)]
+pub(crate) enum Fold {
+    Sum,
+    Product,
+    Max,
+    Min,
+}
+
+impl Fold {
+    /// The terminal as a fold, if it is one.
+    pub(crate) fn of(terminal: &NumberTerminal) -> Option<Fold>
+        ensures { MatchOption result ⊤ (λ fold. fold_terminal fold ≡ terminal.now) }
+    {
+        match terminal {
+            NumberTerminal::Sum => Some(Fold::Sum),
+            NumberTerminal::Product => Some(Fold::Product),
+            NumberTerminal::Max => Some(Fold::Max),
+            NumberTerminal::Min => Some(Fold::Min),
+            _ => None,
+        }
+    }
+}
+
+/// The text of a fold's value on a stream of numbers.
+pub(crate) fn fold_value<R, X, H>(
+    rt: &R,
+    alloc: Global,
+    stream: &X,
+    fold: Fold,
+    run: &Run<'_, H>,
+) -> Result<String, ValueError>
+where
+    R: Threads + Sync,
+    X: Stream<Item = i64> + Sync,
+    X::Progress: Send + Sync,
+    X::Part: Send,
+    H: Gate + Sync,
+    requires settings { IsLawfulRun run.now.workers run.now.target }
+    requires stream { X.ready stream.now }
+    ensures { Tells (number_told (fold_terminal fold) (X.value stream.now)) result }
+{
+    match fold {
+        // a sum needs no question whether a number came before
+        Fold::Sum => told(
+            alloc,
+            &stream.collect(rt, alloc, run, &SummingLong::new(Itself))?,
+        ),
+        Fold::Product => told(alloc, &stream.reduce(rt, alloc, run, 1, &WrapMul::new())?),
+        Fold::Max => told(alloc, &stream.reduce_optional(rt, alloc, run, &Max::new())?),
+        Fold::Min => told(alloc, &stream.reduce_optional(rt, alloc, run, &Min::new())?),
+    }
+}
+
+/// The text of a fold's value on a range behind a walk. Each small stage is a type of its own here, so that a leaf's loop asks nothing of the
+/// steps.
+pub(crate) fn walk_value<R: Threads + Sync, H: Gate + Sync>(
+    rt: &R,
+    alloc: Global,
+    range: RangeSplit,
+    walk: NumberWalk,
+    fold: Fold,
+    run: &Run<'_, H>,
+) -> Result<String, ValueError>
+    requires settings { IsLawfulRun run.now.workers run.now.target }
+    ensures { Tells (number_told (fold_terminal fold) (flat_map (walk_images walk) (⟦<RangeSplit as Spliterator>⟧.items range))) result }
+{
+    let range = of(range);
+    match walk {
+        NumberWalk::Unchanged => fold_value(rt, alloc, &range, fold, run),
+        NumberWalk::Images(stage) => fold_value(rt, alloc, &range.then(stage), fold, run),
+        NumberWalk::Passage(stage) => fold_value(rt, alloc, &range.then(stage), fold, run),
+        NumberWalk::Passages(stage) => fold_value(rt, alloc, &range.then(stage), fold, run),
+        NumberWalk::Remainders(stage) => fold_value(rt, alloc, &range.then(stage), fold, run),
+        NumberWalk::Multiples(stage) => fold_value(rt, alloc, &range.then(stage), fold, run),
+    }
+}
