@@ -2,6 +2,7 @@
 #![tactic(auto)]
 
 mod collected;
+mod distinct_items;
 mod gather;
 mod known_size;
 mod maps;
