@@ -19,6 +19,12 @@ module _ {T C : Type 0} (content : T → C) (eq : T → T → Bool) (same : C �
       choice true = refl
       choice false = map-append content kept (x ∷ [])
 
+  -- an item that is among those that are kept leaves them
+  pub there-contents : (kept : List T) (x : T) → list_any (eq x) kept ≡ true → map content kept ≡ insert_key same (map content kept) (content x)
+  there-contents kept x found =
+      let there : list_any (same (content x)) (map content kept) ≡ true = sym (among-contents x kept) ∙ found in
+      simp there
+
 -- what is kept of a list are its distinct members
 pub kept-members : {C : Type 0} (same : C → C → Bool) → DecidesEquality same → (l : List C) → fold (insert_key same) [] l ≡ distinct same l
 kept-members same decides l =

@@ -1,7 +1,7 @@
 -- Distinct items that are kept one after another.
-use Rattle.std.specs.Prelude.{◌≡◌, Bool, true, false, ◌||◌, List, [], ◌∷◌, ◌++◌, fold, refl}
+use Rattle.std.specs.Prelude.{◌≡◌, Bool, true, List, [], ◌∷◌, fold, refl}
 use Rattle.std.specs.List.{list_any}
-use Rattle.std.proofs.Common.{sym, ap, ◌∙◌, subst, true≢false}
+use Rattle.std.proofs.Common.{sym, ◌∙◌, subst, true≢false}
 use Rattle.std.proofs.lemmas.List.Folds.{list_any-append}
 use Rattle.std.proofs.lemmas.List.Sums.{fold_push}
 use Rattle.indexmap.specs.IndexSet.{insert_key}

@@ -79,7 +79,14 @@ fn texts<R: Threads + RandomSource + Abort + Alloc<A = Global> + Sync>(
     let words = TextStages::none(alloc)
         .and(TextStage::Words)?
         .and(TextStage::Distinct)?;
-    text_answer(rt, run, &["a b", "c b a", "d a"], &words, list, "[a, b, c, d]")?;
+    text_answer(
+        rt,
+        run,
+        &["a b", "c b a", "d a"],
+        &words,
+        list,
+        "[a, b, c, d]",
+    )?;
     let all = TextStages::none(alloc);
     let lengths = NumberStages::none(alloc).and(NumberStage::Distinct)?;
     let ends = NumberTerminal::ToList;

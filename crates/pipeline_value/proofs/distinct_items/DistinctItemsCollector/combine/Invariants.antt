@@ -7,4 +7,4 @@ abbrev pub invariant-loop-x : goal.invariant-loop-x
 invariant-loop-x g l =
     let contents = map g.T.Value.content in
     let merged = fold (insert_key g.T.Value.same) in
-    merged (contents l.left.keys) (contents l.x-iterator) ≡ merged (contents l.fn.left.keys) (contents l.fn.right.keys)
+    merged (contents l.left.kept.keys) (contents l.x-iterator) ≡ merged (contents l.fn.left.kept.keys) (contents l.fn.right.kept.keys)

@@ -4,5 +4,5 @@ use Rattle.pipeline_value.proofs.distinct_items.DistinctItemsCollector.finish.Go
 
 pub returns : goal.returns
 returns g c = λ l values made.
-    let items : c.in_ok-collect.field-0.items ≡ c.args.acc.keys = search rules in
+    let items : c.in_ok-collect.field-0.items ≡ c.args.acc.kept.keys = search rules in
     ap (map g.T.Value.content) items ∙ made ∙ kept-members g.T.Value.same g.met.T.Value.same_decides l
