@@ -1,3 +1,4 @@
+pub mod FirstOnes
 pub mod FoldsTold
 pub mod KnownSizes
 pub mod Parts

@@ -1,4 +1,5 @@
 pub mod ContentLaws
+pub mod DistinctLaws
 pub mod FitLaws
 pub mod Folds
 pub mod KnownSizes

@@ -3,15 +3,18 @@
 ghost use Rattle.std.specs.Prelude.{◌≡◌, List, IfOk, flat_map, map};
 ghost use Rattle.barriers.specs.Needs.{IsOutcome};
 ghost use Rattle.spliterator.specs.Clones.{ClonesAlike};
+ghost use Rattle.stages.specs.Distinct.{distinct};
 ghost use Rattle.parallel_streams.specs.Runs.{IsLawfulRun};
 
-use barriers::Barrier;
-use collectors::ToList;
+use crate::distinct_items::DistinctItems;
+use barriers::{Barrier, Whole};
+use collectors::{ToList, finish_container};
 use parallel_streams::Run;
 use split_tree::Plan;
 use spliterator::{NoMemory, OrderedValue, Spliterator};
 use stages::Stage;
 use std::alloc::Global;
+use std::hash::{Hash, RandomState};
 use std::thread::Threads;
 use stealing_pool::{Gate, run_leaves};
 
@@ -64,4 +67,44 @@ fn apply_to_front<T: OrderedValue, B: Barrier<T>>(
     ensures { (whole : List T.Content) → IsOutcome (B.Demand.needed barrier.now) (B.Demand.counted barrier.now) whole (map T.content front.items) → IfOk result (λ kept. map T.content kept.items ≡ B.value barrier.now whole) }
 {
     barrier.apply(front)
+}
+
+/// The distinct ones of a source's items behind a stage, each the first of its equals. Items are hashed by `hashes`, since whoever writes a
+/// file picks them.
+///
+/// Each leaf drops what repeats within it, so that the workers share the work, and no list of all items is made.
+pub(crate) fn gather_distinct<R, S, A, H>(
+    rt: &R,
+    alloc: Global,
+    hashes: RandomState,
+    source: S,
+    stage: &A,
+    run: &Run<'_, H>,
+) -> Result<Vec<A::Out>, NoMemory>
+where
+    R: Threads + Sync,
+    S: Spliterator + Drop + Send + Sync,
+    S::Item: Send,
+    A: Stage<In = S::Item> + Sync,
+    A::Out: Hash + Copy + Drop + Send + Sync,
+    H: Gate + Sync,
+    requires settings { IsLawfulRun run.now.workers run.now.target }
+    requires stage { A.ready stage.now }
+    ensures { IfOk result (λ kept. map A.Out.content kept.items ≡ distinct A.Out.same (flat_map (A.expand stage.now) (S.items source))) }
+{
+    let Ok(plan) = Plan::make(alloc, source, run.workers, run.target) else {
+        return Err(NoMemory);
+    };
+    let first_ones = DistinctItems::new(alloc, hashes);
+    let gathered = run_leaves(
+        rt,
+        alloc,
+        &plan,
+        stage,
+        &Whole,
+        &first_ones,
+        run.workers,
+        run.gate,
+    )?;
+    finish_container(&first_ones, gathered.acc)
 }

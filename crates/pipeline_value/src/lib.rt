@@ -2,6 +2,7 @@
 #![tactic(auto)]
 
 mod collected;
+mod distinct_items;
 mod folds;
 mod gather;
 mod known_size;

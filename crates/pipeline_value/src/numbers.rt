@@ -6,10 +6,10 @@ ghost use Rattle.pipeline_meaning.specs.Stages.{is_number_barrier, number_stage,
 ghost use Rattle.pipeline_value.specs.Ranges.{NumberStageFits};
 ghost use Rattle.pipeline_value.specs.Value.{Tells, number_told, number_body_told};
 
-use crate::gather::gather;
+use crate::gather::{gather, gather_distinct};
 use crate::number_end::number_end;
 use crate::told::ValueError;
-use barriers::{Distinct, DropWhile, Limit, Skip, TakeWhile};
+use barriers::{DropWhile, Limit, Skip, TakeWhile};
 use parallel_streams::{Run, Stream, of};
 use pipeline_language::{NumberBody, NumberStage, NumberTerminal};
 use pipeline_meaning::{NumberCheck, NumberSteps};
@@ -55,7 +55,7 @@ where
             run,
         );
     }
-    let items = through_barrier(rt, alloc, source, &stage, &stages[taken], run)?;
+    let items = through_barrier(rt, alloc, hashes, source, &stage, &stages[taken], run)?;
     list_value(
         rt,
         alloc,
@@ -86,15 +86,16 @@ pub(crate) fn list_value<R: Threads + Sync, H: Gate + Sync>(
     if taken == stages.len() {
         return number_end(rt, alloc, hashes, &of(source).then(steps), terminal, run);
     }
-    let kept = through_barrier(rt, alloc, source, &steps, &stages[taken], run)?;
+    let kept = through_barrier(rt, alloc, hashes, source, &steps, &stages[taken], run)?;
     drop(items);
     list_value(rt, alloc, hashes, kept, &stages[taken + 1..], terminal, run)
 }
 
-/// What a barrier leaves of a source's items behind a stage.
+/// What a barrier leaves of a source's items behind a stage. Distinct items are hashed by `hashes`.
 fn through_barrier<R, S, A, H>(
     rt: &R,
     alloc: Global,
+    hashes: RandomState,
     source: S,
     stage: &A,
     barrier: &NumberStage,
@@ -113,7 +114,7 @@ where
     ensures { IfOk result (λ kept. kept.items ≡ number_stage barrier.now (flat_map (A.expand stage.now) (S.items source))) }
 {
     match *barrier {
-        NumberStage::Distinct => gather(rt, alloc, source, stage, &Distinct, run),
+        NumberStage::Distinct => gather_distinct(rt, alloc, hashes, source, stage, run),
         NumberStage::Limit(most) => gather(rt, alloc, source, stage, &Limit::new(most), run),
         NumberStage::Skip(number) => gather(rt, alloc, source, stage, &Skip::new(number), run),
         NumberStage::TakeWhile(test) => {

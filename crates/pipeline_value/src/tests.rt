@@ -1,5 +1,6 @@
 //! Pipelines that are made by hand: rows with 1, 2, 7 and 64 workers, at target 1 and at the default.
 
+mod distinct;
 mod groups;
 mod known_sizes;
 mod made;

@@ -8,11 +8,11 @@ ghost use Rattle.pipeline_meaning.specs.Stages.{is_text_barrier, text_stage, tex
 ghost use Rattle.pipeline_value.specs.Ranges.{NumberBodyFits, TextEndFits, TextStageFits};
 ghost use Rattle.pipeline_value.specs.Value.{Tells, number_body_told, text_end_told};
 
-use crate::gather::gather;
+use crate::gather::{gather, gather_distinct};
 use crate::numbers::number_value;
 use crate::text_end::text_end;
 use crate::told::ValueError;
-use barriers::{Distinct, DropWhile, Limit, Skip, TakeWhile};
+use barriers::{DropWhile, Limit, Skip, TakeWhile};
 use parallel_streams::{Run, Stream, of};
 use pipeline_language::{NumberBody, TextEnd, TextStage};
 use pipeline_meaning::{TextCheck, TextLength, TextSteps};
@@ -44,7 +44,7 @@ pub(crate) fn text_value<'a, R: Threads + Sync, H: Gate + Sync>(
     if taken == stages.len() {
         return end_value(rt, alloc, hashes, source, steps, end, run);
     }
-    let kept = through_barrier(rt, alloc, source, &steps, &stages[taken], run)?;
+    let kept = through_barrier(rt, alloc, hashes, source, &steps, &stages[taken], run)?;
     drop(items);
     text_value(rt, alloc, hashes, kept, &stages[taken + 1..], end, run)
 }
@@ -98,17 +98,18 @@ where
     number_value(rt, alloc, hashes, source, lengths, body, run)
 }
 
-/// What a barrier leaves of a source's items behind a stage.
+/// What a barrier leaves of a source's items behind a stage. Distinct items are hashed by `hashes`.
 fn through_barrier<T, R, S, A, H>(
     rt: &R,
     alloc: Global,
+    hashes: RandomState,
     source: S,
     stage: &A,
     barrier: &TextStage<'_>,
     run: &Run<'_, H>,
 ) -> Result<Vec<T>, NoMemory>
 where
-    T: Text + OrderedValue + Hash + Clone + Drop + Send + Sync,
+    T: Text + OrderedValue + Hash + Clone + Copy + Drop + Send + Sync,
     R: Threads + Sync,
     S: Spliterator + Drop + Send + Sync,
     S::Item: Send,
@@ -123,7 +124,7 @@ where
     ensures { IfOk result (λ kept. map T.content kept.items ≡ text_stage barrier.now (flat_map (A.expand stage.now) (S.items source))) }
 {
     match *barrier {
-        TextStage::Distinct => gather(rt, alloc, source, stage, &Distinct, run),
+        TextStage::Distinct => gather_distinct(rt, alloc, hashes, source, stage, run),
         TextStage::Limit(most) => gather(rt, alloc, source, stage, &Limit::new(most), run),
         TextStage::Skip(number) => gather(rt, alloc, source, stage, &Skip::new(number), run),
         TextStage::TakeWhile(test) => {
