@@ -1,4 +1,5 @@
 pub mod BodyLemmas
+pub mod CutLemmas
 pub mod FileLemmas
 pub mod FormLemmas
 pub mod LineAnswers

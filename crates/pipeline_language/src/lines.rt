@@ -5,6 +5,7 @@ ghost use Rattle.std.specs.List.{slice_split};
 ghost use Rattle.pipeline_language.specs.Words.{lines_of, without_empty_last};
 ghost use Rattle.pipeline_language.specs.Words.{words_of};
 
+use memchr::memchr;
 use std::alloc::{AllocError, Global};
 
 /// The lines of a file: the pieces between its line ends, and the last one only where it isn't empty.
@@ -30,7 +31,15 @@ fn drop_empty_last(mut pieces: Vec<&[u8]>) -> Vec<&[u8]>
 fn pieces(alloc: Global, file: &[u8]) -> Result<Vec<&[u8]>, AllocError>
     ensures { IfOk result (λ v. map (λ piece. piece.now) v.items ≡ slice_split (λ b. b == 10) file.now) }
 {
-    file.split(|b| *b == b'\n').collect(alloc)
+    let mut pieces = Vec::new(alloc);
+    let mut rest = file;
+    while let Some(end) = memchr(b'\n', rest) {
+        let (piece, behind) = rest.split_at(end);
+        pieces.push(piece)?;
+        rest = &behind[1..];
+    }
+    pieces.push(rest)?;
+    Ok(pieces)
 }
 
 /// The words of a line: the pieces between its spaces.
