@@ -92,8 +92,3 @@ text_summary_text (all_texts.MappingLength inner) l = number_inner_text inner (m
 text_summary_text (all_texts.MappingItself inner) l = text_inner_text inner l
 text_summary_text (all_texts.Filtering test inner) l = text_inner_text inner (filter (text_holds test) l)
 text_summary_text (all_texts.GroupBy f inner) l = text_groups_text f (text_inner_text inner) l
-
--- the summary is a grouping
-abbrev pub IsTextGroups : TextSummary → Type 0
-IsTextGroups (all_texts.GroupBy f inner) = Unit {0}
-IsTextGroups _ = ⊥
