@@ -1,8 +1,8 @@
 -- Cutting a file into lines.
-use Rattle.std.proofs.Common.{◌≡◌, ◌==◌, ℕ, suc, ◌+◌, ◌-◌, ◌<◌, ◌≤◌, Bool, true, false, List, [], ◌∷◌, ◌++◌, length, map, take, drop, slice_index, get_or, All, le_refl, suc-le-suc, refl, subst, sym, ap, ◌∙◌, arith}
+use Rattle.std.proofs.Common.{◌≡◌, ◌==◌, ℕ, suc, ◌+◌, ◌-◌, ◌<◌, ◌≤◌, Bool, false, List, [], ◌∷◌, ◌++◌, length, take, drop, slice_index, get_or, All, le_refl, suc-le-suc, refl, subst, sym, ap, ◌∙◌, arith}
 use Rattle.std.specs.List.{slice_split}
 use Rattle.std.proofs.lemmas.Bool.{false_from_ne_true, eqb-true}
-use Rattle.std.proofs.lemmas.List.{take-append-drop, drop-drop, take_all, length-take, map-append, append_assoc, get_or-take, get_or-drop, length-drop, nil_from_length}
+use Rattle.std.proofs.lemmas.List.{take-append-drop, drop-drop, take_all, length-take, get_or-take, get_or-drop, length-drop}
 use Rattle.std.proofs.lemmas.List.Elements.{All-from_get_or}
 use Rattle.std.proofs.Math.Seq.{drop-cons}
 use Rattle.std.proofs.lemmas.List.Sums.{count_by-le-length}
@@ -23,37 +23,6 @@ clear_front bytes n within none =
     let below : i < n = omega (arith, length-take n bytes) in
     ap is_end (get_or-take n bytes i 0 below) ∙ false_from_ne_true _ (none i (omega arith) below))
 
--- no line end is left
-pub uncut : (bytes : List ℕ) → Nowhere (Passes (is_byte 10) bytes) 0 (length bytes) → slice_split (λ b. b == 10) bytes ≡ bytes ∷ []
-uncut bytes none = slice_split_none is_end bytes (subst (All (λ b. is_end b ≡ false)) (take_all (length bytes) bytes (le_refl _)) (clear_front bytes (length bytes) (le_refl _) none))
-
-suc-add : (n : ℕ) → suc n ≡ n + 1
-suc-add n = omega arith
-
--- the first line end
-pub cut_at : (bytes : List ℕ) (end : ℕ) → NoneBefore (Passes (is_byte 10) bytes) 0 (length bytes) end → Passes (is_byte 10) bytes end
-    → slice_split (λ b. b == 10) bytes ≡ take end bytes ∷ slice_split (λ b. b == 10) (drop (end + 1) bytes)
-cut_at bytes end first hit =
-    let parts : bytes ≡ take end bytes ++ slice_index bytes end ∷ drop (end + 1) bytes = sym (take-append-drop end bytes) ∙ ap (λ l. take end bytes ++ l) (drop-cons bytes end 0 first.high ∙ ap (λ n. slice_index bytes end ∷ drop n bytes) (suc-add end)) in
-    ap (slice_split is_end) parts ∙ slice_split_at is_end (take end bytes) (slice_index bytes end) (drop (end + 1) bytes) (clear_front bytes end (omega (arith, first.high)) first.before) hit
-
--- no byte is left
-pub no_lines : (bytes : List ℕ) → length bytes ≡ 0 → lines_of bytes ≡ []
-no_lines bytes none = ap lines_of (nil_from_length bytes none)
-
-one_line : (b : ℕ) (bs : List ℕ) → without_empty_last ((b ∷ bs) ∷ []) ≡ (b ∷ bs) ∷ []
-one_line b bs = refl
-
--- the last line, which nothing ends
-pub line_alone : (bytes : List ℕ) → 0 < length bytes → Nowhere (Passes (is_byte 10) bytes) 0 (length bytes) → lines_of bytes ≡ bytes ∷ []
-line_alone [] some none = absurd (omega arith)
-line_alone (b ∷ bs) some none = ap without_empty_last (uncut (b ∷ bs) none)
-
-cut_first : (line : List ℕ) (pieces : List (List ℕ)) → 0 < length pieces → without_empty_last (line ∷ pieces) ≡ line ∷ without_empty_last pieces
-cut_first line [] some = absurd (omega arith)
-cut_first [] (piece ∷ pieces) some = refl
-cut_first (b ∷ bs) (piece ∷ pieces) some = refl
-
 -- no line end
 abbrev pub no_end : List ℕ → Type 0
 no_end bytes = Nowhere (Passes (is_byte 10) bytes) 0 (length bytes)
@@ -61,6 +30,30 @@ no_end bytes = Nowhere (Passes (is_byte 10) bytes) 0 (length bytes)
 -- the first line end
 abbrev pub first_end : ℕ → List ℕ → Type 0
 first_end end bytes = NoneBefore (Passes (is_byte 10) bytes) 0 (length bytes) end × Passes (is_byte 10) bytes end
+
+-- where no line end is, one piece
+uncut : (bytes : List ℕ) → no_end bytes → slice_split (λ b. b == 10) bytes ≡ bytes ∷ []
+uncut bytes none = slice_split_none is_end bytes (subst (All (λ b. is_end b ≡ false)) (take_all (length bytes) bytes (le_refl _)) (clear_front bytes (length bytes) (le_refl _) none))
+
+suc-add : (n : ℕ) → suc n ≡ n + 1
+suc-add n = omega arith
+
+-- the piece in front of the first line end, and the others
+cut_at : (bytes : List ℕ) (end : ℕ) → NoneBefore (Passes (is_byte 10) bytes) 0 (length bytes) end → Passes (is_byte 10) bytes end
+    → slice_split (λ b. b == 10) bytes ≡ take end bytes ∷ slice_split (λ b. b == 10) (drop (end + 1) bytes)
+cut_at bytes end first hit =
+    let parts : bytes ≡ take end bytes ++ slice_index bytes end ∷ drop (end + 1) bytes = sym (take-append-drop end bytes) ∙ ap (λ l. take end bytes ++ l) (drop-cons bytes end 0 first.high ∙ ap (λ n. slice_index bytes end ∷ drop n bytes) (suc-add end)) in
+    ap (slice_split is_end) parts ∙ slice_split_at is_end (take end bytes) (slice_index bytes end) (drop (end + 1) bytes) (clear_front bytes end (omega (arith, first.high)) first.before) hit
+
+-- the last line, which nothing ends
+pub line_alone : (bytes : List ℕ) → 0 < length bytes → no_end bytes → lines_of bytes ≡ bytes ∷ []
+line_alone [] some none = absurd (omega arith)
+line_alone (b ∷ bs) some none = ap without_empty_last (uncut (b ∷ bs) none)
+
+cut_first : (line : List ℕ) (pieces : List (List ℕ)) → 0 < length pieces → without_empty_last (line ∷ pieces) ≡ line ∷ without_empty_last pieces
+cut_first line [] some = absurd (omega arith)
+cut_first [] (piece ∷ pieces) some = refl
+cut_first (b ∷ bs) (piece ∷ pieces) some = refl
 
 -- the first line, and what stands behind its end
 pub line_cut : (bytes line behind rest : List ℕ) (end : ℕ) → first_end end bytes → line ≡ take end bytes → behind ≡ drop end bytes → rest ≡ drop 1 behind → lines_of bytes ≡ line ∷ lines_of rest

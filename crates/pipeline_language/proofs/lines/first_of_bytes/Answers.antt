@@ -1,8 +1,7 @@
-use Rattle.std.proofs.Common.{◌≡◌, ◌∷◌, ◌∙◌, ap, sym, subst, arith, length, le_refl}
+use Rattle.std.proofs.Common.{◌∙◌, sym, arith, length, le_refl}
 use Rattle.std.proofs.lemmas.Bool.{eqb-false}
 use Rattle.std.proofs.lemmas.Slice.{between_to_end}
-use Rattle.pipeline_language.specs.Words.{lines_of}
-use Rattle.pipeline_language.proofs.LineLemmas.{no_lines, line_alone, line_cut}
+use Rattle.pipeline_language.proofs.LineLemmas.{line_alone, line_cut}
 use Rattle.pipeline_language.proofs.lines.first_of_bytes.Goals as goal
 
 pub returns-in-Some : goal.returns-in-Some

@@ -1,6 +1,5 @@
-use Rattle.std.proofs.Common.{◌≡◌, ◌∷◌, ◌+◌, ◌∙◌, ap, sym, subst, arith, length, le_refl, ℕ, List}
+use Rattle.std.proofs.Common.{◌∙◌, sym, subst, arith}
 use Rattle.std.proofs.lemmas.Bool.{eqb-false}
-use Rattle.pipeline_language.specs.Words.{lines_of}
 use Rattle.pipeline_language.proofs.LineLemmas.{first_end, no_end, line_alone, line_cut, cut_is_boundary}
 use Rattle.pipeline_language.proofs.lines.first_of_text.Goals as goal
 
