@@ -1,5 +1,4 @@
 pub mod BodyLemmas
-pub mod CutLemmas
 pub mod FileLemmas
 pub mod FormLemmas
 pub mod LineAnswers

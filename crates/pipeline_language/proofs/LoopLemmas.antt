@@ -1,7 +1,7 @@
 -- The loops over the lines of a file: what was read, and what is left.
-use Rattle.std.proofs.Common.{◌≡◌, ℕ, zero, suc, ◌+◌, ◌-◌, ◌<◌, ◌≤◌, Bool, true, false, List, [], ◌∷◌, ◌++◌, length, drop, map, Result, Ok, Err, refl, sym, ap, ◌∙◌, arith, cond}
+use Rattle.std.proofs.Common.{◌≡◌, ℕ, zero, suc, ◌+◌, ◌-◌, ◌<◌, Bool, true, false, List, [], ◌∷◌, ◌++◌, length, drop, map, Result, Ok, Err, refl, sym, ap, ◌∙◌, arith, cond}
 use Rattle.std.specs.Str.{is_utf8}
-use Rattle.std.proofs.lemmas.List.{append-nil, append_assoc, drop-map, drop_all, map-append}
+use Rattle.std.proofs.lemmas.List.{append-nil, append_assoc, map-append}
 use Rattle.pipeline_language.specs.declared.fault.FileError.TheVariants.{BadText, MissingTerminal}
 use Rattle.pipeline_language.specs.declared.fault.FileFault.{FileFault}
 use Rattle.pipeline_language.specs.declared.fault.ReadError.{ReadError}
@@ -19,17 +19,13 @@ use Rattle.pipeline_language.specs.Syntax.{Stage, MapBy, Length, Terminal, BodyL
 use Rattle.pipeline_language.specs.FileReading.{Reads, Texts, with_texts, texts_from, first_text, with_stages, body_from, first_of}
 use Rattle.pipeline_language.proofs.BodyLemmas.{fault_first, stage_first, terminal_first, with_last}
 
--- the lines behind the first of those that are left
-drop_one : {A : Type 0} (k : ℕ) (xs : List A) → drop 1 (drop k xs) ≡ drop (suc k) xs
-drop_one zero [] = refl
-drop_one zero (x ∷ xs) = refl
-drop_one (suc k) [] = refl
-drop_one (suc k) (x ∷ xs) = drop_one k xs
+nothing_before : (r : Result Body FileFault) → with_stages [] r ≡ r
+nothing_before (Ok body) = refl
+nothing_before (Err fault) = refl
 
-pub behind_first : {A : Type 0} (f : A → List ℕ) (k : ℕ) (xs : List A) → drop 1 (map f (drop k xs)) ≡ map f (drop (k + 1) xs)
-behind_first f k xs =
-    let next : suc k ≡ k + 1 = omega arith in
-    drop-map f 1 (drop k xs) ∙ ap (map f) (drop_one k xs) ∙ ap (λ m. map f (drop m xs)) next
+-- before the first line
+pub no_stages : (coming : Coming) (n m : ℕ) (lines : List (List ℕ)) → m ≡ n → body_from coming n lines ≡ with_stages [] (body_from coming m lines)
+no_stages coming n m lines same = ap (λ k. body_from coming k lines) (sym same) ∙ sym (nothing_before (body_from coming m lines))
 
 -- behind stages that were read
 pub told_behind : {L X : Type 0} (line_content : L → BodyLine) (content : X → Body) (stages : List Stage) (coming : Coming) (n : ℕ) (lines : List (List ℕ)) (whole : Result Body FileFault) (e : ReadError) → whole ≡ with_stages stages (body_from coming n lines) → Reads line_content (Err e) (first_of coming n lines) → Reads content (Err e) whole
@@ -45,9 +41,9 @@ goes_behind : (stages : List Stage) (coming : Coming) (n : ℕ) (lines : List (L
 goes_behind stages coming n lines whole stage is first =
     is ∙ ap (with_stages stages) (stage_first coming n lines stage first) ∙ with_last stages stage (body_from (after_stage coming stage) (n + 1) (drop 1 lines))
 
--- what comes to the line at a place, where the body's first line is at another
-abbrev pub comes : Version → Kind → ℕ → ℕ → Coming
-comes version kind first at = record { version = version; kind = kind; stages = at - first }
+-- what comes to a line with so many stages before it
+abbrev pub comes : Version → Kind → ℕ → Coming
+comes version kind before = record { version = version; kind = kind; stages = before }
 
 function_keeps : (f : NumberFunction) → value_kind NumberKind (number_function f) ≡ NumberKind
 function_keeps (functions.Add n) = refl
@@ -78,39 +74,49 @@ text_keeps (text_stages.Skip n) = refl
 text_keeps (text_stages.TakeWhile p) = refl
 text_keeps (text_stages.DropWhile p) = refl
 
-next_comes : (version : Version) (kind next : Kind) (first at : ℕ) (stage : Stage) → first ≤ at → kind_after kind stage ≡ next → after_stage (comes version kind first at) stage ≡ comes version next first (at + 1)
-next_comes version kind next first at stage order keeps =
-    let number : (at - first) + 1 ≡ (at + 1) - first = omega (arith, order) in
-    ap (λ k. let c : Coming = record { version = version; kind = k; stages = (at - first) + 1 } in c) keeps ∙ ap (λ m. let c : Coming = record { version = version; kind = next; stages = m } in c) number
+next_comes : (version : Version) (kind next : Kind) (before : ℕ) (stage : Stage) → kind_after kind stage ≡ next → after_stage (comes version kind before) stage ≡ comes version next (before + 1)
+next_comes version kind next before stage keeps = ap (λ k. comes version k (before + 1)) keeps
 
 -- one stage more, and the lines behind it
-stage_more : {S : Type 0} (version : Version) (content : S → Stage) (kind : Kind) (keeps : (s : S) → kind_after kind (content s) ≡ kind) (items : List S) (stage : S) (first at n : ℕ) (lines : List (List ℕ)) (whole : Result Body FileFault) → first ≤ at → whole ≡ with_stages (map content items) (body_from (comes version kind first at) n lines) → first_of (comes version kind first at) n lines ≡ Ok (StageLine (content stage)) → whole ≡ with_stages (map content (items ++ stage ∷ [])) (body_from (comes version kind first (at + 1)) (n + 1) (drop 1 lines))
-stage_more version content kind keeps items stage first at n lines whole order is found =
-    goes_behind (map content items) (comes version kind first at) n lines whole (content stage) is found
-    ∙ ap (λ ss. with_stages ss (body_from (after_stage (comes version kind first at) (content stage)) (n + 1) (drop 1 lines))) (sym (map-append content items (stage ∷ [])))
-    ∙ ap (λ c. with_stages (map content (items ++ stage ∷ [])) (body_from c (n + 1) (drop 1 lines))) (next_comes version kind kind first at (content stage) order (keeps stage))
+stage_more : {S : Type 0} (version : Version) (content : S → Stage) (kind : Kind) (keeps : (s : S) → kind_after kind (content s) ≡ kind) (items pushed : List S) (stage : S) (before n next_before next_n : ℕ) (lines left : List (List ℕ)) (whole : Result Body FileFault)
+    → next_before ≡ before + 1 → next_n ≡ n + 1 → pushed ≡ items ++ stage ∷ [] → left ≡ drop 1 lines
+    → whole ≡ with_stages (map content items) (body_from (comes version kind before) n lines) → first_of (comes version kind before) n lines ≡ Ok (StageLine (content stage))
+    → whole ≡ with_stages (map content pushed) (body_from (comes version kind next_before) next_n left)
+stage_more version content kind keeps items pushed stage before n next_before next_n lines left whole places number pushes rest is found =
+    goes_behind (map content items) (comes version kind before) n lines whole (content stage) is found
+    ∙ ap (λ ss. with_stages ss (body_from (after_stage (comes version kind before) (content stage)) (n + 1) (drop 1 lines))) (sym (map-append content items (stage ∷ [])) ∙ ap (map content) (sym pushes))
+    ∙ ap (λ c. with_stages (map content pushed) (body_from c (n + 1) (drop 1 lines))) (next_comes version kind kind before (content stage) (keeps stage) ∙ ap (comes version kind) (sym places))
+    ∙ ap (λ m. with_stages (map content pushed) (body_from (comes version kind next_before) m (drop 1 lines))) (sym number)
+    ∙ ap (λ ls. with_stages (map content pushed) (body_from (comes version kind next_before) next_n ls)) (sym rest)
 
-pub number_more : (version : Version) (items : List NumberStage) (stage : NumberStage) (first at n : ℕ) (lines : List (List ℕ)) (whole : Result Body FileFault) → first ≤ at → whole ≡ with_stages (map number_stage items) (body_from (comes version NumberKind first at) n lines) → first_of (comes version NumberKind first at) n lines ≡ Ok (StageLine (number_stage stage)) → whole ≡ with_stages (map number_stage (items ++ stage ∷ [])) (body_from (comes version NumberKind first (at + 1)) (n + 1) (drop 1 lines))
+pub number_more : (version : Version) (items pushed : List NumberStage) (stage : NumberStage) (before n next_before next_n : ℕ) (lines left : List (List ℕ)) (whole : Result Body FileFault)
+    → next_before ≡ before + 1 → next_n ≡ n + 1 → pushed ≡ items ++ stage ∷ [] → left ≡ drop 1 lines
+    → whole ≡ with_stages (map number_stage items) (body_from (comes version NumberKind before) n lines) → first_of (comes version NumberKind before) n lines ≡ Ok (StageLine (number_stage stage))
+    → whole ≡ with_stages (map number_stage pushed) (body_from (comes version NumberKind next_before) next_n left)
 number_more version = stage_more version number_stage NumberKind number_keeps
 
-pub text_more : (version : Version) (items : List TextStage) (stage : TextStage) (first at n : ℕ) (lines : List (List ℕ)) (whole : Result Body FileFault) → first ≤ at → whole ≡ with_stages (map text_stage items) (body_from (comes version TextKind first at) n lines) → first_of (comes version TextKind first at) n lines ≡ Ok (StageLine (text_stage stage)) → whole ≡ with_stages (map text_stage (items ++ stage ∷ [])) (body_from (comes version TextKind first (at + 1)) (n + 1) (drop 1 lines))
+pub text_more : (version : Version) (items pushed : List TextStage) (stage : TextStage) (before n next_before next_n : ℕ) (lines left : List (List ℕ)) (whole : Result Body FileFault)
+    → next_before ≡ before + 1 → next_n ≡ n + 1 → pushed ≡ items ++ stage ∷ [] → left ≡ drop 1 lines
+    → whole ≡ with_stages (map text_stage items) (body_from (comes version TextKind before) n lines) → first_of (comes version TextKind before) n lines ≡ Ok (StageLine (text_stage stage))
+    → whole ≡ with_stages (map text_stage pushed) (body_from (comes version TextKind next_before) next_n left)
 text_more version = stage_more version text_stage TextKind text_keeps
 
 -- where `map length` leads to numbers
-lengths_more : (version : Version) (stages : List Stage) (first at n : ℕ) (lines : List (List ℕ)) (whole : Result Body FileFault) → first ≤ at → whole ≡ with_stages stages (body_from (comes version TextKind first at) n lines) → first_of (comes version TextKind first at) n lines ≡ Ok (StageLine (MapBy Length)) → whole ≡ with_stages (stages ++ MapBy Length ∷ []) (body_from (comes version NumberKind first (at + 1)) (n + 1) (drop 1 lines))
-lengths_more version stages first at n lines whole order is found =
-    goes_behind stages (comes version TextKind first at) n lines whole (MapBy Length) is found
-    ∙ ap (λ c. with_stages (stages ++ MapBy Length ∷ []) (body_from c (n + 1) (drop 1 lines))) (next_comes version TextKind NumberKind first at (MapBy Length) order refl)
+lengths_more : (version : Version) (stages : List Stage) (before n : ℕ) (lines left : List (List ℕ)) (whole : Result Body FileFault) → left ≡ drop 1 lines → whole ≡ with_stages stages (body_from (comes version TextKind before) n lines) → first_of (comes version TextKind before) n lines ≡ Ok (StageLine (MapBy Length)) → whole ≡ with_stages (stages ++ MapBy Length ∷ []) (body_from (comes version NumberKind (before + 1)) (n + 1) left)
+lengths_more version stages before n lines left whole rest is found =
+    goes_behind stages (comes version TextKind before) n lines whole (MapBy Length) is found
+    ∙ ap (λ c. with_stages (stages ++ MapBy Length ∷ []) (body_from c (n + 1) (drop 1 lines))) (next_comes version TextKind NumberKind before (MapBy Length) refl)
+    ∙ ap (λ ls. with_stages (stages ++ MapBy Length ∷ []) (body_from (comes version NumberKind (before + 1)) (n + 1) ls)) (sym rest)
 
-pub lengths_read : (version : Version) (stages : List Stage) (first at n : ℕ) (lines : List (List ℕ)) (whole : Result Body FileFault) (body : NumberBody) → first ≤ at → whole ≡ with_stages stages (body_from (comes version TextKind first at) n lines) → first_of (comes version TextKind first at) n lines ≡ Ok (StageLine (MapBy Length)) → body_from (comes version NumberKind first (at + 1)) (n + 1) (drop 1 lines) ≡ Ok (number_body body) → whole ≡ Ok (stages ++ (MapBy Length ∷ (number_body body).0), (number_body body).1)
-lengths_read version stages first at n lines whole body order is found read =
-    lengths_more version stages first at n lines whole order is found ∙ ap (with_stages (stages ++ MapBy Length ∷ [])) read
+pub lengths_read : (version : Version) (stages : List Stage) (before n : ℕ) (lines left : List (List ℕ)) (whole : Result Body FileFault) (body : NumberBody) → left ≡ drop 1 lines → whole ≡ with_stages stages (body_from (comes version TextKind before) n lines) → first_of (comes version TextKind before) n lines ≡ Ok (StageLine (MapBy Length)) → body_from (comes version NumberKind (before + 1)) (n + 1) left ≡ Ok (number_body body) → whole ≡ Ok (stages ++ (MapBy Length ∷ (number_body body).0), (number_body body).1)
+lengths_read version stages before n lines left whole body rest is found read =
+    lengths_more version stages before n lines left whole rest is found ∙ ap (with_stages (stages ++ MapBy Length ∷ [])) read
     ∙ ap (λ ss. let b : Body = (ss, (number_body body).1) in let r : Result Body FileFault = Ok b in r) (append_assoc stages (MapBy Length ∷ []) (number_body body).0)
 
-pub lengths_told : {X : Type 0} (version : Version) (content : X → Body) (stages : List Stage) (first at n : ℕ) (lines : List (List ℕ)) (whole : Result Body FileFault) (e : ReadError) → first ≤ at → whole ≡ with_stages stages (body_from (comes version TextKind first at) n lines) → first_of (comes version TextKind first at) n lines ≡ Ok (StageLine (MapBy Length)) → Reads number_body (Err e) (body_from (comes version NumberKind first (at + 1)) (n + 1) (drop 1 lines)) → Reads content (Err e) whole
-lengths_told version content stages first at n lines whole NoMemory order is found told = tt
-lengths_told version content stages first at n lines whole (Fault fault) order is found told =
-    lengths_more version stages first at n lines whole order is found ∙ ap (with_stages (stages ++ MapBy Length ∷ [])) told
+pub lengths_told : {X : Type 0} (version : Version) (content : X → Body) (stages : List Stage) (before n : ℕ) (lines left : List (List ℕ)) (whole : Result Body FileFault) (e : ReadError) → left ≡ drop 1 lines → whole ≡ with_stages stages (body_from (comes version TextKind before) n lines) → first_of (comes version TextKind before) n lines ≡ Ok (StageLine (MapBy Length)) → Reads number_body (Err e) (body_from (comes version NumberKind (before + 1)) (n + 1) left) → Reads content (Err e) whole
+lengths_told version content stages before n lines left whole NoMemory rest is found told = tt
+lengths_told version content stages before n lines left whole (Fault fault) rest is found told =
+    lengths_more version stages before n lines left whole rest is found ∙ ap (with_stages (stages ++ MapBy Length ∷ [])) told
 
 -- texts in front of others
 texts_joined : (texts : List (List ℕ)) (text : List ℕ) (r : Result Texts FileFault) → with_texts texts (with_texts (text ∷ []) r) ≡ with_texts (texts ++ text ∷ []) r
@@ -178,36 +184,16 @@ texts_end texts count index n lines whole same is =
     let number : count - index ≡ zero = omega (arith, same) in
     is ∙ ap (λ m. with_texts texts (texts_from m n lines)) number ∙ ap (λ ts. let t : Texts = (ts, lines) in let found : Result Texts FileFault = Ok t in found) (append-nil texts)
 
-pub texts_missing : (texts : List (List ℕ)) (count index n : ℕ) (lines : List (List ℕ)) (whole : Result Texts FileFault) → index < count → lines ≡ [] → whole ≡ with_texts texts (texts_from (count - index) n lines) → whole ≡ Err (record { line = n; kind = MissingTerminal })
-texts_missing texts count index n lines whole less none is =
-    let number : count - index ≡ suc (count - (index + 1)) = omega (arith, less) in
-    is ∙ ap (λ m. with_texts texts (texts_from m n lines)) number ∙ ap (λ ls. with_texts texts (texts_from (suc (count - (index + 1))) n ls)) none
-
 -- the same with nothing behind the stages
 pub text_ends : (stages : List Stage) (coming : Coming) (n : ℕ) (lines : List (List ℕ)) (whole : Result Body FileFault) (terminal : Terminal) → whole ≡ with_stages stages (body_from coming n lines) → first_of coming n lines ≡ Ok (TerminalLine terminal) → whole ≡ Ok (stages ++ [], terminal)
 text_ends stages coming n lines whole terminal is first =
     ends_behind stages coming n lines whole terminal is first ∙ ap (λ ss. let b : Body = (ss, terminal) in let found : Result Body FileFault = Ok b in found) (sym (append-nil stages))
 
--- the lines behind a line, and their number
-pub rest_is : {A : Type 0} (f : A → List ℕ) (coming : Coming) (at : ℕ) (xs : List A) → body_from coming (3 + (at + 1)) (map f (drop (at + 1) xs)) ≡ body_from coming ((at + 3) + 1) (drop 1 (map f (drop at xs)))
-rest_is f coming at xs =
-    let number : 3 + (at + 1) ≡ (at + 3) + 1 = omega arith in
-    ap (λ n. body_from coming n (map f (drop (at + 1) xs))) number ∙ ap (body_from coming ((at + 3) + 1)) (sym (behind_first f at xs))
-
--- at the end of the lines, where texts are missing
-pub texts_short : {A : Type 0} (f : A → List ℕ) (texts : List (List ℕ)) (count index : ℕ) (xs : List A) (whole : Result Texts FileFault) → index < count → index ≡ length xs → whole ≡ with_texts texts (texts_from (count - index) (index + 3) (map f (drop index xs))) → whole ≡ Err (record { line = length xs + 3; kind = MissingTerminal })
-texts_short f texts count index xs whole less same is =
-    texts_missing texts count index (index + 3) (map f (drop index xs)) whole less (ap (map f) (drop_all index xs (omega (arith, same)))) is
-    ∙ ap (λ m. let r : Result Texts FileFault = Err (record { line = m + 3; kind = MissingTerminal }) in r) same
-
 -- one text more, and the lines behind it
-pub texts_more : {A B : Type 0} (f : A → List ℕ) (g : B → List ℕ) (items pushed : List A) (text : A) (count index : ℕ) (lines : List B) (whole : Result Texts FileFault) → index < count → pushed ≡ items ++ text ∷ [] → whole ≡ with_texts (map f items) (texts_from (count - index) (index + 3) (map g (drop index lines))) → first_text (index + 3) (map g (drop index lines)) ≡ Ok (f text) → whole ≡ with_texts (map f pushed) (texts_from (count - (index + 1)) ((index + 1) + 3) (map g (drop (index + 1) lines)))
-texts_more f g items pushed text count index lines whole less push is found =
+pub texts_more : {A : Type 0} (f : A → List ℕ) (items pushed : List A) (text : A) (count index : ℕ) (lines left : List (List ℕ)) (whole : Result Texts FileFault) → index < count → pushed ≡ items ++ text ∷ [] → left ≡ drop 1 lines → whole ≡ with_texts (map f items) (texts_from (count - index) (index + 3) lines) → first_text (index + 3) lines ≡ Ok (f text) → whole ≡ with_texts (map f pushed) (texts_from (count - (index + 1)) ((index + 1) + 3) left)
+texts_more f items pushed text count index lines left whole less push rest is found =
     let number : (index + 3) + 1 ≡ (index + 1) + 3 = omega arith in
-    text_goes (map f items) count index (index + 3) (map g (drop index lines)) whole (f text) less is found
-    ∙ ap (λ ts. with_texts ts (texts_from (count - (index + 1)) ((index + 3) + 1) (drop 1 (map g (drop index lines))))) (sym (map-append f items (text ∷ [])) ∙ ap (map f) (sym push))
-    ∙ ap (λ n. with_texts (map f pushed) (texts_from (count - (index + 1)) n (drop 1 (map g (drop index lines))))) number
-    ∙ ap (λ ls. with_texts (map f pushed) (texts_from (count - (index + 1)) ((index + 1) + 3) ls)) (behind_first g index lines)
-
-pub strictly : (index count : ℕ) → index ≤ count → (index ≡ count → ⊥) → index < count
-strictly index count most other = omega (arith, most, other)
+    text_goes (map f items) count index (index + 3) lines whole (f text) less is found
+    ∙ ap (λ ts. with_texts ts (texts_from (count - (index + 1)) ((index + 3) + 1) (drop 1 lines))) (sym (map-append f items (text ∷ [])) ∙ ap (map f) (sym push))
+    ∙ ap (λ n. with_texts (map f pushed) (texts_from (count - (index + 1)) n (drop 1 lines))) number
+    ∙ ap (λ ls. with_texts (map f pushed) (texts_from (count - (index + 1)) ((index + 1) + 3) ls)) (sym rest)

@@ -5,6 +5,7 @@ pub mod Form
 pub mod Kinds
 pub mod Language
 pub mod LineContent
+pub mod Pieces
 pub mod Reading
 pub mod Steps
 pub mod Syntax

@@ -1,25 +1,24 @@
 //! Reads a pipeline file, line by line.
 
-ghost use Rattle.std.specs.Prelude.{◌≡◌, ◌⊎◌, ℕ, ◌<◌, ◌≤◌, ◌+◌, ◌-◌, ◌^◌, List, IfErr, IfOk, MatchResult, map, drop, length, Ok, Err, true, false};
-ghost use Rattle.std.specs.Str.{is_utf8};
+ghost use Rattle.std.specs.Prelude.{◌≡◌, ◌⊎◌, ℕ, ◌<◌, ◌≤◌, ◌+◌, ◌-◌, ◌^◌, List, IfErr, IfOk, OnOk, map, drop, length, Ok, Err, true, false};
 ghost use Rattle.pipeline_language.specs.declared.fault.FileFault.{FileFault};
 ghost use Rattle.pipeline_language.specs.Content.{number_body, number_origin, program_of, text_body};
 ghost use Rattle.pipeline_language.specs.FileReading.{IfFault, LineGets, LineReads, Reads, after_end, body_from, file_of, first_of, first_text, no_more, program_from, texts_from, version_of};
 ghost use Rattle.pipeline_language.specs.Kinds.{number_line_content, text_line_content, source_content};
 ghost use Rattle.pipeline_language.specs.Language.{HasFault, Means};
+ghost use Rattle.pipeline_language.specs.Pieces.{piece_bytes};
 ghost use Rattle.pipeline_language.specs.Reading.{line_of};
 ghost use Rattle.pipeline_language.specs.Syntax.{NumberKind, Program, TextKind, bodies, origins};
 ghost use Rattle.pipeline_language.specs.SyntaxReading.{body_of, origin_words};
 
 use crate::fault::{FileError, FileFault, LineError, ReadError};
 use crate::kinds::{NumberLine, TextLine, number_line, text_line};
-use crate::lines::{lines, words};
+use crate::lines::{Lines, Piece, words};
 use crate::pipeline::{NumberBody, NumberSource, Pipeline, TextBody, TextEnd};
 use crate::syntax::read_body;
 use crate::version::Version;
 use crate::words::Words;
 use std::alloc::Global;
-use std::str;
 
 /// The most bytes of a file.
 pub const MOST_BYTES: usize = 1_048_576;
@@ -56,8 +55,7 @@ fn read_bytes(alloc: Global, file: &[u8]) -> Result<Pipeline<'_>, ReadError>
     if file.len() > MOST_BYTES {
         return Err(LineError::Fault(FileError::TooLarge).at(0));
     }
-    let lines = lines(alloc, file)?;
-    read_lines(alloc, lines.as_slice())
+    read_lines(alloc, Lines::new(file))
 }
 
 /// Where items come from: numbers of their own, or so many lines.
@@ -69,24 +67,25 @@ pub(crate) enum Source {
 
 /// The lines of a file: its version, a source line with its texts, and a body.
 #[tactic(auto, unfolding(crate::specs::FileReading::program_from))]
-fn read_lines<'a>(alloc: Global, lines: &[&'a [u8]]) -> Result<Pipeline<'a>, ReadError>
-    ensures { Reads program_of result (program_from (map (λ line. line.now) lines.now)) }
+fn read_lines<'a>(alloc: Global, mut lines: Lines<'a>) -> Result<Pipeline<'a>, ReadError>
+    requires { length lines < 2 ^ 32 }
+    ensures { Reads program_of result (program_from lines.entry) }
 {
-    let [version, lines @ ..] = lines else {
+    let Some(version) = lines.next() else {
         return Err(LineError::Fault(FileError::BadVersion).at(1));
     };
     let version = read_version(version).map_err(|e| LineError::Fault(e).at(1))?;
-    let [line, lines @ ..] = lines else {
+    let Some(line) = lines.next() else {
         return Err(LineError::Fault(FileError::MissingTerminal).at(2));
     };
     match read_source(alloc, line).map_err(|e| e.at(2))? {
         Source::Numbers(source) => {
-            let body = read_number_body(alloc, version, lines, 0, 0)?;
+            let body = read_number_body(alloc, version, &mut lines, 0, 3)?;
             Ok(Pipeline::Numbers(source, body))
         }
         Source::Lines(count) => {
-            let texts = read_texts(alloc, lines, count)?;
-            let body = read_text_body(alloc, version, lines, texts.len())?;
+            let texts = read_texts(alloc, &mut lines, count)?;
+            let body = read_text_body(alloc, version, &mut lines, texts.len() as u64 + 3)?;
             Ok(Pipeline::Texts(texts, body))
         }
     }
@@ -94,10 +93,10 @@ fn read_lines<'a>(alloc: Global, lines: &[&'a [u8]]) -> Result<Pipeline<'a>, Rea
 
 /// The first line.
 #[tactic(auto, unfolding(crate::specs::FileReading::version_of))]
-fn read_version(line: &[u8]) -> Result<Version, FileError>
-    ensures { result ≡ version_of line.now }
+fn read_version(line: Piece<'_>) -> Result<Version, FileError>
+    ensures { result ≡ version_of (piece_bytes line.entry) }
 {
-    match text_of(line)? {
+    match line.text()? {
         "pipeline 1" => Ok(Version::One),
         "pipeline 2" => Ok(Version::Two),
         _ => Err(FileError::BadVersion),
@@ -106,10 +105,10 @@ fn read_version(line: &[u8]) -> Result<Version, FileError>
 
 /// A source line.
 #[tactic(auto, unfolding(crate::specs::Reading::line_of, crate::specs::Reading::whole))]
-fn read_source(alloc: Global, line: &[u8]) -> Result<Source, LineError>
-    ensures { LineReads source_content result (line_of origins origin_words line.now) }
+fn read_source(alloc: Global, line: Piece<'_>) -> Result<Source, LineError>
+    ensures { LineReads source_content result (line_of origins origin_words (piece_bytes line.entry)) }
 {
-    let all = words(alloc, text_of(line)?)?;
+    let all = words(alloc, line.text()?)?;
     let mut words = Words::new(all.as_slice());
     let source = read_source_words(alloc, &mut words)?;
     words.end()?;
@@ -141,53 +140,56 @@ fn read_source_words(alloc: Global, words: &mut Words<'_, '_>) -> Result<Source,
     }
 }
 
-/// The first `count` of the lines behind the source line, which is the second of the file.
-fn read_texts<'a>(alloc: Global, lines: &[&'a [u8]], count: u64) -> Result<Vec<&'a str>, ReadError>
-    ensures texts { Reads (λ texts. (map (λ text. text.now) texts.items, map (λ line. line.now) (drop (length texts.items) lines.now))) result (texts_from count 3 (map (λ line. line.now) lines.now)) }
-    ensures within { IfOk result (λ texts. length texts.items ≤ length lines.now) }
+/// The next `count` lines, which stand behind the source line, the second of the file.
+fn read_texts<'a>(
+    alloc: Global,
+    lines: &mut Lines<'a>,
+    count: u64,
+) -> Result<Vec<&'a str>, ReadError>
+    requires { length lines.old < 2 ^ 32 }
+    ensures texts { Reads (λ texts. (map (λ text. text.now) texts.items, lines.new)) result (texts_from count 3 lines.old) }
+    ensures taken { IfOk result (λ texts. length texts.items + length lines.new ≡ length lines.old) }
     ensures number { IfOk result (λ texts. length texts.items ≡ count) }
 {
     let mut texts = Vec::new(alloc);
-    for index in 0..lines.len() {
-        if index as u64 == count {
-            return Ok(texts);
-        }
-        texts.push(first_text(&lines[index..], index as u64 + 3)?)?;
+    for index in 0..count {
+        texts.push(first_text(lines, index + 3)?)?;
     }
-    if lines.len() as u64 == count {
-        Ok(texts)
-    } else {
-        Err(LineError::Fault(FileError::MissingTerminal).at(lines.len() as u64 + 3))
-    }
+    Ok(texts)
 }
 
-/// The first of the lines, as a text; it has the number.
+/// The next line, as a text; it has the number.
 #[tactic(auto, unfolding(crate::specs::FileReading::first_text))]
-fn first_text<'a>(lines: &[&'a [u8]], number: u64) -> Result<&'a str, ReadError>
-    ensures { Reads (λ text. text.now) result (first_text number (map (λ line. line.now) lines.now)) }
+fn first_text<'a>(lines: &mut Lines<'a>, number: u64) -> Result<&'a str, ReadError>
+    ensures text { Reads (λ text. text.now) result (first_text number lines.old) }
+    ensures rest { OnOk result (lines.new ≡ drop 1 lines.old) }
+    ensures taken { OnOk result (length lines.old ≡ length lines.new + 1) }
 {
-    match lines {
-        [line, ..] => text_of(line).map_err(|e| LineError::Fault(e).at(number)),
-        [] => Err(LineError::Fault(FileError::MissingTerminal).at(number)),
+    match lines.next() {
+        Some(line) => line.text().map_err(|e| LineError::Fault(e).at(number)),
+        None => Err(LineError::Fault(FileError::MissingTerminal).at(number)),
     }
 }
 
-/// The lines of a body over texts, of which the first is the line at `first`, and nothing after them.
+/// The lines of a body over texts, of which the first has the number, and nothing after them.
 fn read_text_body<'a>(
     alloc: Global,
     version: Version,
-    lines: &[&'a [u8]],
-    first: usize,
+    lines: &mut Lines<'a>,
+    number: u64,
 ) -> Result<TextBody<'a>, ReadError>
-    requires { first ≤ length lines.now }
-    ensures { Reads text_body result (body_from (record { version = version; kind = TextKind; stages = 0 }) (3 + first) (map (λ line. line.now) (drop first lines.now))) }
+    requires { number + length lines.old < 2 ^ 63 }
+    ensures { Reads text_body result (body_from (record { version = version; kind = TextKind; stages = 0 }) number lines.old) }
 {
     let mut stages = Vec::new(alloc);
-    for at in first..lines.len() {
-        match read_text_first(alloc, version, &lines[at..], at - first, at as u64 + 3)? {
+    'lines: loop {
+        let before = stages.len();
+        let at = number + before as u64;
+        match read_text_first(alloc, version, lines, before, at)? {
             TextLine::Stage(stage) => stages.push(stage)?,
             TextLine::Lengths => {
-                let end = TextEnd::Lengths(read_number_body(alloc, version, lines, first, at + 1)?);
+                let body = read_number_body(alloc, version, lines, before + 1, at + 1)?;
+                let end = TextEnd::Lengths(body);
                 return Ok(TextBody { stages, end });
             }
             TextLine::Terminal(terminal) => {
@@ -196,49 +198,50 @@ fn read_text_body<'a>(
             }
         }
     }
-    Err(LineError::Fault(FileError::MissingTerminal).at(lines.len() as u64 + 3))
 }
 
-/// The lines of a body over numbers, from the line at `from` on, where the body's first line is at `first`.
+/// The same over numbers, with so many stages before the first line.
 fn read_number_body(
     alloc: Global,
     version: Version,
-    lines: &[&[u8]],
-    first: usize,
-    from: usize,
+    lines: &mut Lines<'_>,
+    before: usize,
+    number: u64,
 ) -> Result<NumberBody, ReadError>
-    requires order { first ≤ from }
-    requires within { from ≤ length lines.now }
-    ensures { Reads number_body result (body_from (record { version = version; kind = NumberKind; stages = from - first }) (3 + from) (map (λ line. line.now) (drop from lines.now))) }
+    requires stages { before + length lines.old < 2 ^ 63 }
+    requires lines { number + length lines.old < 2 ^ 63 }
+    ensures { Reads number_body result (body_from (record { version = version; kind = NumberKind; stages = before }) number lines.old) }
 {
     let mut stages = Vec::new(alloc);
-    for at in from..lines.len() {
-        match read_number_first(alloc, version, &lines[at..], at - first, at as u64 + 3)? {
+    'lines: loop {
+        let read = stages.len();
+        match read_number_first(alloc, version, lines, before + read, number + read as u64)? {
             NumberLine::Stage(stage) => stages.push(stage)?,
             NumberLine::Terminal(terminal) => return Ok(NumberBody { stages, terminal }),
         }
     }
-    Err(LineError::Fault(FileError::MissingTerminal).at(lines.len() as u64 + 3))
 }
 
-/// The first of the lines, over texts, with so many stages before it. Nothing follows where it is the terminal.
+/// The next line, over texts, with so many stages before it. Nothing follows where it is the terminal.
 #[tactic(auto, unfolding(crate::specs::FileReading::first_of))]
 fn read_text_first<'a>(
     alloc: Global,
     version: Version,
-    lines: &[&'a [u8]],
+    lines: &mut Lines<'a>,
     before: usize,
     number: u64,
 ) -> Result<TextLine<'a>, ReadError>
     requires { number < 2 ^ 64 - 1 }
-    ensures { Reads text_line_content result (first_of (record { version = version; kind = TextKind; stages = before }) number (map (λ line. line.now) lines.now)) }
+    ensures line { Reads text_line_content result (first_of (record { version = version; kind = TextKind; stages = before }) number lines.old) }
+    ensures rest { OnOk result (lines.new ≡ drop 1 lines.old) }
+    ensures taken { OnOk result (length lines.old ≡ length lines.new + 1) }
 {
-    let [line, rest @ ..] = lines else {
+    let Some(line) = lines.next() else {
         return Err(LineError::Fault(FileError::MissingTerminal).at(number));
     };
     let body = read_text_line(alloc, version, line, before).map_err(|e| e.at(number))?;
     if let TextLine::Terminal(_) = body {
-        no_more(rest, number + 1)?;
+        no_more(lines, number + 1)?;
     }
     Ok(body)
 }
@@ -248,19 +251,21 @@ fn read_text_first<'a>(
 fn read_number_first(
     alloc: Global,
     version: Version,
-    lines: &[&[u8]],
+    lines: &mut Lines<'_>,
     before: usize,
     number: u64,
 ) -> Result<NumberLine, ReadError>
     requires { number < 2 ^ 64 - 1 }
-    ensures { Reads number_line_content result (first_of (record { version = version; kind = NumberKind; stages = before }) number (map (λ line. line.now) lines.now)) }
+    ensures line { Reads number_line_content result (first_of (record { version = version; kind = NumberKind; stages = before }) number lines.old) }
+    ensures rest { OnOk result (lines.new ≡ drop 1 lines.old) }
+    ensures taken { OnOk result (length lines.old ≡ length lines.new + 1) }
 {
-    let [line, rest @ ..] = lines else {
+    let Some(line) = lines.next() else {
         return Err(LineError::Fault(FileError::MissingTerminal).at(number));
     };
     let body = read_number_line(alloc, version, line, before).map_err(|e| e.at(number))?;
     if let NumberLine::Terminal(_) = body {
-        no_more(rest, number + 1)?;
+        no_more(lines, number + 1)?;
     }
     Ok(body)
 }
@@ -270,12 +275,12 @@ fn read_number_first(
 fn read_text_line<'a>(
     alloc: Global,
     version: Version,
-    line: &'a [u8],
+    line: Piece<'a>,
     before: usize,
 ) -> Result<TextLine<'a>, LineError>
-    ensures { LineReads text_line_content result (line_of (bodies (record { version = version; kind = TextKind; stages = before })) (body_of version) line.now) }
+    ensures { LineReads text_line_content result (line_of (bodies (record { version = version; kind = TextKind; stages = before })) (body_of version) (piece_bytes line.entry)) }
 {
-    let all = words(alloc, text_of(line)?)?;
+    let all = words(alloc, line.text()?)?;
     let mut words = Words::new(all.as_slice());
     let body = read_body(version, &mut words)?;
     words.end()?;
@@ -291,12 +296,12 @@ fn read_text_line<'a>(
 fn read_number_line(
     alloc: Global,
     version: Version,
-    line: &[u8],
+    line: Piece<'_>,
     before: usize,
 ) -> Result<NumberLine, LineError>
-    ensures { LineReads number_line_content result (line_of (bodies (record { version = version; kind = NumberKind; stages = before })) (body_of version) line.now) }
+    ensures { LineReads number_line_content result (line_of (bodies (record { version = version; kind = NumberKind; stages = before })) (body_of version) (piece_bytes line.entry)) }
 {
-    let all = words(alloc, text_of(line)?)?;
+    let all = words(alloc, line.text()?)?;
     let mut words = Words::new(all.as_slice());
     let body = read_body(version, &mut words)?;
     words.end()?;
@@ -310,32 +315,23 @@ fn read_number_line(
 
 /// No line follows the terminal line; the first that does would have the number.
 #[tactic(auto, unfolding(crate::specs::FileReading::no_more))]
-fn no_more(lines: &[&[u8]], number: u64) -> Result<(), ReadError>
-    ensures { Reads (λ x. x) result (no_more number (map (λ line. line.now) lines.now)) }
+fn no_more(lines: &mut Lines<'_>, number: u64) -> Result<(), ReadError>
+    ensures told { Reads (λ x. x) result (no_more number lines.old) }
+    ensures rest { OnOk result (lines.new ≡ lines.old) }
 {
-    match lines {
-        [] => Ok(()),
-        [line, ..] => Err(LineError::Fault(after_end(line)).at(number)),
+    match lines.next() {
+        None => Ok(()),
+        Some(line) => Err(LineError::Fault(after_end(line)).at(number)),
     }
 }
 
 /// The fault of a line that follows the terminal line.
 #[tactic(auto, unfolding(crate::specs::FileReading::after_end))]
-fn after_end(line: &[u8]) -> FileError
-    ensures { result ≡ after_end line.now }
+fn after_end(line: Piece<'_>) -> FileError
+    ensures { result ≡ after_end (piece_bytes line.entry) }
 {
-    match text_of(line) {
+    match line.text() {
         Ok(_) => FileError::AfterTerminal,
         Err(e) => e,
-    }
-}
-
-/// A line as text.
-fn text_of(line: &[u8]) -> Result<&str, FileError>
-    ensures { MatchResult result (λ text. (text.now ≡ line.now) × (is_utf8 line.now ≡ true)) (λ e. (e ≡ FileError.BadText) × (is_utf8 line.now ≡ false)) }
-{
-    match str::from_utf8(line) {
-        Ok(text) => Ok(text),
-        Err(_) => Err(FileError::BadText),
     }
 }

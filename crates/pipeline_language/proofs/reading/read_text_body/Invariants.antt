@@ -1,9 +1,15 @@
-use Rattle.std.proofs.Common.{◌≡◌, ◌+◌, ◌≤◌, map, drop}
+use Rattle.std.proofs.Common.{◌≡◌, ◌+◌, map, length}
 use Rattle.pipeline_language.specs.Content.{text_stage}
 use Rattle.pipeline_language.specs.FileReading.{body_from, with_stages}
 use Rattle.pipeline_language.specs.Syntax.{TextKind}
 use Rattle.pipeline_language.proofs.LoopLemmas.{comes}
 use Rattle.pipeline_language.proofs.reading.read_text_body.Given as goal
 
-abbrev pub invariant-loop-at : goal.invariant-loop-at
-invariant-loop-at l = (l.fn.first ≤ l.at) × (body_from (record { version = l.fn.version; kind = TextKind; stages = 0 }) (3 + l.fn.first) (map (λ line. line.now) (drop l.fn.first l.fn.lines)) ≡ with_stages (map text_stage l.stages.items) (body_from (comes l.fn.version TextKind l.fn.first l.at) (l.at + 3) (map (λ line. line.now) (drop l.at l.fn.lines))))
+abbrev pub invariant-lines : goal.invariant-lines
+invariant-lines l = record {
+  taken : length l.stages.items + length l.lines ≡ length l.initial.lines;
+  read : body_from (comes l.fn.version TextKind 0) l.fn.number l.initial.lines ≡ with_stages (map text_stage l.stages.items) (body_from (comes l.fn.version TextKind (length l.stages.items)) (l.fn.number + length l.stages.items) l.lines);
+}
+
+abbrev pub decreases-lines : goal.decreases-lines
+decreases-lines l = length l.lines
