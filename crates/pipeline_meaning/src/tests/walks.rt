@@ -69,7 +69,13 @@ fn products_and_sums_wrap(rt: HostRuntime) -> Result<(), Fail> {
         &[i64::MAX, i64::MIN, -1],
         &[i64::MAX - 2, i64::MIN, -3],
     )?;
-    check(&rt, &[more, thrice], "images", &[i64::MAX, 0], &[i64::MIN, 3])?;
+    check(
+        &rt,
+        &[more, thrice],
+        "images",
+        &[i64::MAX, 0],
+        &[i64::MIN, 3],
+    )?;
     Ok(())
 }
 
@@ -79,7 +85,13 @@ fn bounds_drop_numbers(rt: HostRuntime) -> Result<(), Fail> {
     let more = NumberStage::Map(NumberFunction::Add(1));
     let some = NumberStage::Filter(NumberTest::Greater(3));
     let few = NumberStage::Filter(NumberTest::Less(10));
-    check(&rt, &[some], "passage", &[3, 4, i64::MIN, i64::MAX], &[4, i64::MAX])?;
+    check(
+        &rt,
+        &[some],
+        "passage",
+        &[3, 4, i64::MIN, i64::MAX],
+        &[4, i64::MAX],
+    )?;
     check(&rt, &[thrice, some], "passage", &[1, 2, i64::MIN], &[6])?;
     check(
         &rt,
@@ -108,8 +120,20 @@ fn multiples_are_kept(rt: HostRuntime) -> Result<(), Fail> {
     let sevens = NumberStage::Filter(NumberTest::Divisible(7));
     let even = NumberStage::Filter(NumberTest::Divisible(2));
     let more = NumberStage::Map(NumberFunction::Add(1));
-    check(&rt, &[sevens], "multiples", &[-14, 13, 0, i64::MIN], &[-14, 0])?;
-    check(&rt, &[even], "multiples", &[i64::MIN, i64::MAX], &[i64::MIN])?;
+    check(
+        &rt,
+        &[sevens],
+        "multiples",
+        &[-14, 13, 0, i64::MIN],
+        &[-14, 0],
+    )?;
+    check(
+        &rt,
+        &[even],
+        "multiples",
+        &[i64::MIN, i64::MAX],
+        &[i64::MIN],
+    )?;
     check(&rt, &[more, sevens], "multiples", &[6, 7], &[7])?;
     Ok(())
 }
@@ -118,7 +142,11 @@ fn multiples_are_kept(rt: HostRuntime) -> Result<(), Fail> {
 fn other_steps_are_no_small_stage(rt: HostRuntime) -> Result<(), Fail> {
     let thrice = NumberStage::Map(NumberFunction::Mul(3));
     let rest = NumberStage::Map(NumberFunction::Mod(3));
-    for stages in [[rest, thrice], [rest, rest], [thrice, NumberStage::Repeat(2)]] {
+    for stages in [
+        [rest, thrice],
+        [rest, rest],
+        [thrice, NumberStage::Repeat(2)],
+    ] {
         let (steps, _) = NumberSteps::front_of(rt.alloc(), stages.as_slice())?;
         assert!(rt; steps.walk().is_none());
     }
@@ -133,7 +161,9 @@ fn a_passage_keeps_the_size_without_bounds(rt: HostRuntime) -> Result<(), Fail> 
     let Some(few) = Passage::of_test(NumberTest::Less(10)) else {
         return Err(Fail::from("no passage"));
     };
-    assert!(rt; (thrice.operation(), Stage::size_after(&thrice, Some(5))) == (Operation::Map, Some(5)));
+    assert!(rt;
+        (thrice.operation(), Stage::size_after(&thrice, Some(5))) == (Operation::Map, Some(5))
+    );
     assert!(rt; (few.operation(), Stage::size_after(&few, Some(5))) == (Operation::FlatMap, None));
     assert_eq!(rt; Mapping::image(&few, &12)?, 12);
     Ok(())
