@@ -1,5 +1,5 @@
 -- The size that stages leave known.
-use Rattle.std.specs.Prelude.{◌≡◌, ◌≤◌, ◌<◌, ◌+◌, ◌^◌, ◌&&◌, ℕ, ℤ, pos, Bool, true, false, List, [], ◌∷◌, ◌++◌, length, take, refl}
+use Rattle.std.specs.Prelude.{◌≡◌, ◌≤◌, ◌<◌, ◌+◌, ◌^◌, ◌&&◌, ℕ, ℤ, pos, Bool, true, List, [], ◌∷◌, ◌++◌, length, take, refl}
 use Rattle.std.proofs.Common.{w64, to_z, of_z, ap, ap₂, ◌∙◌, sym, subst, get_or}
 use Rattle.std.specs.Int.{cast_signed, int_wrap}
 use Rattle.std.specs.List.{list_all}

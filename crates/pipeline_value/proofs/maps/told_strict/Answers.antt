@@ -1,5 +1,5 @@
 -- The text of the map, or of the key that is the first to come again.
-use Rattle.std.specs.Prelude.{◌≡◌, List, Ok, Err, map}
+use Rattle.std.specs.Prelude.{Ok, Err, map}
 use Rattle.std.proofs.Common.{sym, ap, subst, ◌∙◌}
 use Rattle.pipeline_meaning.specs.SummaryLaws.{contents_tell}
 use Rattle.pipeline_value.specs.Value.{Tells, Told}
