@@ -1,6 +1,6 @@
 -- What is told of stages that were cut at a barrier.
-use Rattle.std.proofs.Common.{◌≡◌, ◌<◌, ◌+◌, ◌-◌, ℕ, ℤ, List, [], ◌∷◌, ◌++◌, length, take, drop, map, flat_map, ap, refl, sym, subst, ◌∙◌}
-use Rattle.std.proofs.lemmas.List.Concat.{flat_map-append, flat_map_single}
+use Rattle.std.proofs.Common.{◌≡◌, ◌<◌, ◌+◌, ◌-◌, ℕ, ℤ, List, [], ◌∷◌, length, take, drop, map, flat_map, ap, refl, sym, subst, ◌∙◌}
+use Rattle.std.proofs.lemmas.List.Concat.{flat_map_single}
 use Rattle.std.specs.Global.{Global}
 use Rattle.std.specs.List.{slice_index_or}
 use Rattle.std.specs.Prelude.{String, Result}
@@ -11,14 +11,10 @@ use Rattle.pipeline_language.specs.declared.pipeline.TextEnd.{TextEnd}
 use Rattle.pipeline_language.specs.declared.pipeline.TextStage.{TextStage}
 use Rattle.pipeline_meaning.specs.Functions.{text_length}
 use Rattle.pipeline_meaning.specs.Stages.{number_stage, number_stages, text_stage, text_stages}
+use Rattle.pipeline_meaning.specs.WalkLaws.{flat_map-flat_map, flat_map-one}
 use Rattle.pipeline_value.specs.declared.told.ValueError.{ValueError}
 use Rattle.pipeline_value.specs.Value.{Tells, number_body_told, number_told, text_end_told}
 use Rattle.pipeline_value.proofs.Stages.{numbers-cut, numbers-whole, texts-cut}
-
--- one expansion after the other
-expanded : {X Y Z : Type 0} (front : X → List Y) (steps : Y → List Z) (items : List X) → flat_map (λ x. flat_map steps (front x)) items ≡ flat_map steps (flat_map front items)
-expanded front steps [] = refl
-expanded front steps (x ∷ items) = ap (λ l. flat_map steps (front x) ++ l) (expanded front steps items) ∙ sym (flat_map-append steps (front x) (flat_map front items))
 
 pub list-told : (terminal : NumberTerminal) (stages : List NumberStage) (at : ℕ) (d : NumberStage) (items before kept : List ℤ) (through : List ℤ → List ℤ) (r : Result (String Global) ValueError)
     → at < length stages → before ≡ items → ((l : List ℤ) → through l ≡ number_stages (take at stages) l) → kept ≡ number_stage (slice_index_or stages at d) (through before)
@@ -35,7 +31,7 @@ pub front-told : {X : Type 0} (terminal : NumberTerminal) (stages : List NumberS
     → Tells (number_told terminal (flat_map (λ x. flat_map steps (front x)) items)) r → Tells (number_told terminal (number_stages stages (flat_map front items))) r
 front-told terminal stages at items front steps r all means h =
     let Q : List ℤ → Type 0 = λ l. Tells (number_told terminal l) r in
-    subst Q (expanded front steps items ∙ means (flat_map front items) ∙ numbers-whole stages at (flat_map front items) all) h
+    subst Q (sym (flat_map-flat_map front steps items) ∙ means (flat_map front items) ∙ numbers-whole stages at (flat_map front items) all) h
 
 pub cut-told : {X : Type 0} (terminal : NumberTerminal) (stages : List NumberStage) (at : ℕ) (d : NumberStage) (items : List X) (front : X → List ℤ) (steps : ℤ → List ℤ) (kept : List ℤ) (r : Result (String Global) ValueError)
     → at < length stages → ((l : List ℤ) → flat_map steps l ≡ number_stages (take at stages) l)
@@ -44,7 +40,7 @@ pub cut-told : {X : Type 0} (terminal : NumberTerminal) (stages : List NumberSta
     → Tells (number_told terminal (number_stages stages (flat_map front items))) r
 cut-told terminal stages at d items front steps kept r within means is h =
     list-told terminal stages at d (flat_map front items) (flat_map front items) kept (flat_map steps) r within refl means
-    (is ∙ ap (number_stage (slice_index_or stages at d)) (expanded front steps items)) h
+    (is ∙ ap (number_stage (slice_index_or stages at d)) (sym (flat_map-flat_map front steps items))) h
 
 pub texts-told : (end : TextEnd) (stages : List TextStage) (at : ℕ) (d : TextStage) (items before kept : List (List ℕ)) (through : List (List ℕ) → List (List ℕ)) (r : Result (String Global) ValueError)
     → at < length stages → before ≡ items → ((l : List (List ℕ)) → through l ≡ text_stages (take at stages) l) → kept ≡ text_stage (slice_index_or stages at d) (through before)
@@ -60,7 +56,7 @@ pub lengths-told : {X : Type 0} (body : NumberBody) (items : List X) (front : X 
     → Tells (number_body_told body (flat_map (λ x. flat_map (λ t. text_length t ∷ []) (front x)) items)) r → Tells (number_body_told body (map text_length (flat_map front items))) r
 lengths-told body items front r h =
     let Q : List ℤ → Type 0 = λ l. Tells (number_body_told body l) r in
-    subst Q (expanded front (λ t. text_length t ∷ []) items ∙ flat_map_single text_length (flat_map front items)) h
+    subst Q (sym (flat_map-flat_map front (λ t. text_length t ∷ []) items) ∙ flat_map_single text_length (flat_map front items)) h
 
 pub source-told : (body : NumberBody) (before items : List ℤ) (r : Result (String Global) ValueError) → before ≡ items
     → Tells (number_body_told body before) r → Tells (number_body_told body items) r
@@ -68,10 +64,6 @@ source-told body before items r same h =
     let Q : List ℤ → Type 0 = λ l. Tells (number_body_told body l) r in
     subst Q same h
 
-alone : (l : List ℤ) → flat_map (λ n. n ∷ []) l ≡ l
-alone [] = refl
-alone (n ∷ l) = ap (λ m. n ∷ m) (alone l)
-
 pub itself-told : (body : NumberBody) (items : List ℤ) (r : Result (String Global) ValueError)
     → Tells (number_body_told body (flat_map (λ n. n ∷ []) items)) r → Tells (number_body_told body items) r
-itself-told body items r h = source-told body (flat_map (λ n. n ∷ []) items) items r (alone items) h
+itself-told body items r h = source-told body (flat_map (λ n. n ∷ []) items) items r (flat_map-one items) h
