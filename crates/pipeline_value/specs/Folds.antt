@@ -1,4 +1,4 @@
--- The terminals that join all numbers into one.
+-- The terminals that join all numbers into one, or count them.
 use Rattle.pipeline_language.specs.declared.pipeline.NumberTerminal.{NumberTerminal}
 use Rattle.pipeline_language.specs.declared.pipeline.NumberTerminal.TheVariants as terminals
 use Rattle.pipeline_value.specs.declared.folds.Fold.{Fold}
@@ -9,3 +9,4 @@ fold_terminal folds.Sum = terminals.Sum
 fold_terminal folds.Product = terminals.Product
 fold_terminal folds.Max = terminals.Max
 fold_terminal folds.Min = terminals.Min
+fold_terminal folds.Count = terminals.Count

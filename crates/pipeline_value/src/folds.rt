@@ -1,4 +1,4 @@
-//! The terminals that join all numbers into one.
+//! The terminals that join all numbers into one, or count them.
 
 ghost use Rattle.std.specs.Prelude.{◌≡◌, MatchOption, ⊤, flat_map};
 ghost use Rattle.parallel_streams.specs.Runs.{IsLawfulRun};
@@ -18,13 +18,14 @@ use std::alloc::Global;
 use std::thread::Threads;
 use stealing_pool::Gate;
 
-/// A terminal that joins all numbers into one.
+/// A terminal that joins all numbers into one, or counts them.
 #[derive(Clone, Copy, Debug)]
 pub(crate) enum Fold {
     Sum,
     Product,
     Max,
     Min,
+    Count,
 }
 
 impl Fold {
@@ -37,6 +38,7 @@ impl Fold {
             NumberTerminal::Product => Some(Fold::Product),
             NumberTerminal::Max => Some(Fold::Max),
             NumberTerminal::Min => Some(Fold::Min),
+            NumberTerminal::Count => Some(Fold::Count),
             _ => None,
         }
     }
@@ -69,6 +71,7 @@ where
         Fold::Product => told(alloc, &stream.reduce(rt, alloc, run, 1, &WrapMul::new())?),
         Fold::Max => told(alloc, &stream.reduce_optional(rt, alloc, run, &Max::new())?),
         Fold::Min => told(alloc, &stream.reduce_optional(rt, alloc, run, &Min::new())?),
+        Fold::Count => told(alloc, &stream.count(rt, alloc, run)?),
     }
 }
 

@@ -40,7 +40,7 @@ where
         NumberTerminal::Product => fold_value(rt, alloc, stream, Fold::Product, run),
         NumberTerminal::Max => fold_value(rt, alloc, stream, Fold::Max, run),
         NumberTerminal::Min => fold_value(rt, alloc, stream, Fold::Min, run),
-        NumberTerminal::Count => told(alloc, &stream.count(rt, alloc, run)?),
+        NumberTerminal::Count => fold_value(rt, alloc, stream, Fold::Count, run),
         NumberTerminal::FindFirst => told(alloc, &stream.find_first(rt, alloc, run)?),
         NumberTerminal::ToList => told(
             alloc,
