@@ -28,7 +28,7 @@ pub use number_summaries::{
     NumberInnerCollector, NumberSummaryCollector, NumberSummaryContainer, NumberSummaryResult,
     number_inner, number_summary,
 };
-pub use number_walk::{IsMultiple, NumberWalk, Remainder};
+pub use number_walk::{AtLeast, AtMost, IsMultiple, NumberWalk, Remainder};
 pub use passage::Passage;
 pub use spelled::Spelled;
 pub use summarizes::{Both, Summarizes, grouped, write_result};

@@ -1,8 +1,10 @@
 //! Small stages over numbers, and what a walk through few steps comes to: one of them, by type.
 ghost use Rattle.std.specs.Int.{int_rem_euclid};
 ghost use Rattle.std.specs.Ordering.{int_cmp, int_eq};
-ghost use Rattle.std.specs.Prelude.{pos};
-ghost use Rattle.pipeline_meaning.specs.Passages.{keeps_all, passage_image, passage_images, image-kept};
+ghost use Rattle.stages.specs.FlagLaws.{KeepsSound-flat_map};
+ghost use Rattle.stages.specs.declared.flags.Operation.TheVariants.{FlatMap as flat_map_row};
+ghost use Rattle.std.specs.Prelude.{◌≡◌, None, pos, true};
+ghost use Rattle.pipeline_meaning.specs.Passages.{is_no_least, is_no_most, keeps_all, passage_image, passage_images, image-kept};
 ghost use Rattle.pipeline_meaning.specs.PreparedLaws.{passage_image-value, remainder-value};
 ghost use Rattle.pipeline_meaning.specs.Rows.{row_of, size_of};
 ghost use Rattle.pipeline_meaning.specs.WalkLaws.{KeepsSound-images};
@@ -44,6 +46,84 @@ impl Stage for Passage {
 
     fn size_after(&self, size: Option<u64>) -> Option<u64> {
         if self.keeps_all() { size } else { None }
+    }
+}
+
+/// A passage with a least number and no most.
+#[derive(Clone, Copy, Debug)]
+pub struct AtLeast {
+    passage: Passage,
+    ghost unbounded: { is_no_most passage.most ≡ true },
+}
+
+impl Stage for AtLeast {
+    type In = i64;
+
+    type Out = i64;
+
+    ghost expand = { λ s. passage_images s.passage };
+
+    ghost operation = { λ _. flat_map_row };
+
+    ghost size_after = { λ _ _. None };
+
+    ghost flag_law = { λ s. KeepsSound-flat_map int_cmp int_cmp (passage_images s.passage) };
+
+    #[inline(always)]
+    fn feed<K: Sink<i64>>(&self, x: i64, sink: &mut K) -> Result<(), NoMemory> {
+        let number = self.passage.image_of(x);
+        if self.passage.holds_from(number) {
+            sink.take(number)
+        } else {
+            Ok(())
+        }
+    }
+
+    fn operation(&self) -> Operation {
+        Operation::FlatMap
+    }
+
+    fn size_after(&self, _size: Option<u64>) -> Option<u64> {
+        None
+    }
+}
+
+/// A passage with a most and no least number.
+#[derive(Clone, Copy, Debug)]
+pub struct AtMost {
+    passage: Passage,
+    ghost unbounded: { is_no_least passage.least ≡ true },
+}
+
+impl Stage for AtMost {
+    type In = i64;
+
+    type Out = i64;
+
+    ghost expand = { λ s. passage_images s.passage };
+
+    ghost operation = { λ _. flat_map_row };
+
+    ghost size_after = { λ _ _. None };
+
+    ghost flag_law = { λ s. KeepsSound-flat_map int_cmp int_cmp (passage_images s.passage) };
+
+    #[inline(always)]
+    fn feed<K: Sink<i64>>(&self, x: i64, sink: &mut K) -> Result<(), NoMemory> {
+        let number = self.passage.image_of(x);
+        if self.passage.holds_to(number) {
+            sink.take(number)
+        } else {
+            Ok(())
+        }
+    }
+
+    fn operation(&self) -> Operation {
+        Operation::FlatMap
+    }
+
+    fn size_after(&self, _size: Option<u64>) -> Option<u64> {
+        None
     }
 }
 
@@ -100,6 +180,9 @@ pub enum NumberWalk {
     Unchanged,
     /// A passage with no bounds.
     Images(Map<i64, Passage>),
+    AtLeast(AtLeast),
+    AtMost(AtMost),
+    /// A passage with both bounds.
     Passage(Passage),
     Passages(Then<Passage, Passage>),
     Remainders(Then<Passage, Map<i64, Remainder>>),
@@ -118,6 +201,10 @@ impl NumberWalk {
             NumberWalk::Unchanged
         } else if passage.keeps_all() {
             NumberWalk::Images(Map::new(passage))
+        } else if passage.has_no_most() {
+            NumberWalk::AtLeast(AtLeast { passage })
+        } else if passage.has_no_least() {
+            NumberWalk::AtMost(AtMost { passage })
         } else {
             NumberWalk::Passage(passage)
         }

@@ -28,7 +28,7 @@ pub struct Passage {
 
 impl Passage {
     ghost use Rattle.pipeline_meaning.specs.Functions.{number_image, number_holds};
-    ghost use Rattle.pipeline_meaning.specs.Passages.{passage_image, passage_holds, passage_images, keeps_all};
+    ghost use Rattle.pipeline_meaning.specs.Passages.{passage_image, passage_holds, passage_images, keeps_all, is_no_least, is_no_most};
 
     /// Each number as it is.
     pub fn all() -> Passage
@@ -106,6 +106,35 @@ impl Passage {
     {
         let (least, most) = (self.least, self.most);
         least <= x && x <= most
+    }
+
+    // The same where there is no most, or no least: then one bound is asked for.
+    #[inline(always)]
+    pub(crate) fn holds_from(&self, x: i64) -> bool
+        requires { is_no_most self.now.most ≡ true }
+        ensures { result ≡ passage_holds self.now x }
+    {
+        self.least <= x
+    }
+
+    #[inline(always)]
+    pub(crate) fn holds_to(&self, x: i64) -> bool
+        requires { is_no_least self.now.least ≡ true }
+        ensures { result ≡ passage_holds self.now x }
+    {
+        x <= self.most
+    }
+
+    pub(crate) fn has_no_most(&self) -> bool
+        ensures { result ≡ is_no_most self.now.most }
+    {
+        self.most == i64::MAX
+    }
+
+    pub(crate) fn has_no_least(&self) -> bool
+        ensures { result ≡ is_no_least self.now.least }
+    {
+        self.least == i64::MIN
     }
 
     pub fn keeps_all(&self) -> bool

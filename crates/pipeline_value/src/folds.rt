@@ -92,6 +92,8 @@ pub(crate) fn walk_value<R: Threads + Sync, H: Gate + Sync>(
     match walk {
         NumberWalk::Unchanged => fold_value(rt, alloc, &range, fold, run),
         NumberWalk::Images(stage) => fold_value(rt, alloc, &range.then(stage), fold, run),
+        NumberWalk::AtLeast(stage) => fold_value(rt, alloc, &range.then(stage), fold, run),
+        NumberWalk::AtMost(stage) => fold_value(rt, alloc, &range.then(stage), fold, run),
         NumberWalk::Passage(stage) => fold_value(rt, alloc, &range.then(stage), fold, run),
         NumberWalk::Passages(stage) => fold_value(rt, alloc, &range.then(stage), fold, run),
         NumberWalk::Remainders(stage) => fold_value(rt, alloc, &range.then(stage), fold, run),

@@ -31,6 +31,8 @@ fn walked(
     Ok(match walk {
         NumberWalk::Unchanged => ("unchanged", fed(alloc, &Nothing::new(), items)?),
         NumberWalk::Images(stage) => ("images", fed(alloc, stage, items)?),
+        NumberWalk::AtLeast(stage) => ("at least", fed(alloc, stage, items)?),
+        NumberWalk::AtMost(stage) => ("at most", fed(alloc, stage, items)?),
         NumberWalk::Passage(stage) => ("passage", fed(alloc, stage, items)?),
         NumberWalk::Passages(stage) => ("passages", fed(alloc, stage, items)?),
         NumberWalk::Remainders(stage) => ("remainders", fed(alloc, stage, items)?),
@@ -88,11 +90,20 @@ fn bounds_drop_numbers(rt: HostRuntime) -> Result<(), Fail> {
     check(
         &rt,
         &[some],
-        "passage",
+        "at least",
         &[3, 4, i64::MIN, i64::MAX],
         &[4, i64::MAX],
     )?;
-    check(&rt, &[thrice, some], "passage", &[1, 2, i64::MIN], &[6])?;
+    check(&rt, &[thrice, some], "at least", &[1, 2, i64::MIN], &[6])?;
+    check(
+        &rt,
+        &[few],
+        "at most",
+        &[9, 10, i64::MIN, i64::MAX],
+        &[9, i64::MIN],
+    )?;
+    check(&rt, &[thrice, few], "at most", &[3, 4, i64::MAX], &[9])?;
+    check(&rt, &[some, few], "passage", &[3, 4, 9, 10], &[4, 9])?;
     check(
         &rt,
         &[thrice, few, more, some],
