@@ -1,11 +1,13 @@
 -- What a set keeps of items, by their contents.
-use Rattle.std.proofs.Common.{◌≡◌, Bool, true, false, cond, ◌||◌, List, [], ◌∷◌, ◌++◌, map, fold, ap, ap₂, ◌∙◌, sym, refl}
-use Rattle.std.specs.List.{list_any}
+use Rattle.std.proofs.Common.{◌≡◌, Bool, true, false, cond, ◌||◌, List, [], ◌∷◌, ◌++◌, map, fold, ap, ap₂, ◌∙◌, sym, refl, subst, append-nil, append_assoc}
+use Rattle.std.specs.List.{list_any, AllByRecursion, IsDistinct}
 use Rattle.std.proofs.lemmas.List.{map-append, map-id}
+use Rattle.std.proofs.lemmas.List.Sums.{fold-append}
 use Rattle.indexmap.specs.IndexSet.{insert_key}
 use Rattle.spliterator.specs.Values.{DecidesEquality}
-use Rattle.stages.specs.Distinct.{distinct}
+use Rattle.stages.specs.Distinct.{distinct, AllApart}
 use Rattle.barriers.proofs.Kept.{kept-distinct}
+use Rattle.pipeline_value.proofs.Strict.{apart-before}
 
 module _ {T C : Type 0} (content : T → C) (eq : T → T → Bool) (same : C → C → Bool) (alike : (x y : T) → eq x y ≡ same (content x) (content y)) where
   among-contents : (x : T) (xs : List T) → list_any (eq x) xs ≡ list_any (same (content x)) (map content xs)
@@ -24,6 +26,31 @@ module _ {T C : Type 0} (content : T → C) (eq : T → T → Bool) (same : C �
   there-contents kept x found =
       let there : list_any (same (content x)) (map content kept) ≡ true = sym (among-contents x kept) ∙ found in
       simp there
+
+  none-equal : (x : T) (xs : List T) → AllByRecursion (λ y. eq x y ≡ false) xs → list_any (same (content x)) (map content xs) ≡ false
+  none-equal x [] apart = refl
+  none-equal x (y ∷ ys) apart = ap₂ (λ b c. b || c) (sym (alike x y) ∙ apart.0) (none-equal x ys apart.1)
+
+  apart-contents : (ks : List T) → IsDistinct eq ks → AllApart same (map content ks)
+  unfolding IsDistinct
+  apart-contents [] unique = tt
+  apart-contents (k ∷ ks) unique = (none-equal k ks unique.0, apart-contents ks unique.1)
+
+  -- items of which no two are equal are kept, each of them
+  pub unique-contents : DecidesEquality same → (ks : List T) → IsDistinct eq ks → fold (insert_key same) [] (map content ks) ≡ map content ks
+  unique-contents decides ks unique = kept-apart [] (map content ks) (apart-contents ks unique)
+    where
+      kept-apart : (earlier later : List C) → AllApart same (earlier ++ later) → fold (insert_key same) earlier later ≡ earlier ++ later
+      kept-apart earlier [] apart = sym (append-nil earlier)
+      kept-apart earlier (k ∷ later) apart =
+          let new = apart-before same decides earlier k later apart in
+          let regrouped = append_assoc earlier (k ∷ []) later in
+          simp new (kept-apart (earlier ++ k ∷ []) later (subst (AllApart same) (sym regrouped) apart) ∙ regrouped)
+
+-- what two lists leave, one behind the other
+pub fold-joined : {T C A : Type 0} (f : A → C → A) (content : T → C) (a : A) (xs ys : List T)
+    → fold f a (map content (xs ++ ys)) ≡ fold f (fold f a (map content xs)) (map content ys)
+fold-joined f content a xs ys = ap (fold f a) (map-append content xs ys) ∙ fold-append f a (map content xs) (map content ys)
 
 -- what is kept of a list are its distinct members
 pub kept-members : {C : Type 0} (same : C → C → Bool) → DecidesEquality same → (l : List C) → fold (insert_key same) [] l ≡ distinct same l

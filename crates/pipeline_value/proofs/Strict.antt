@@ -12,7 +12,7 @@ use Rattle.pipeline_value.specs.Value.{first_repeat, repeat_or, strict_told}
 
 module _ {K : Type 0} (same : K → K → Bool) (decides : DecidesEquality same) where
   -- a member of a list whose members are apart is none of those before it
-  apart-before : (earlier : List K) (k : K) (later : List K) → AllApart same (earlier ++ k ∷ later) → list_any (same k) earlier ≡ false
+  pub apart-before : (earlier : List K) (k : K) (later : List K) → AllApart same (earlier ++ k ∷ later) → list_any (same k) earlier ≡ false
   apart-before [] k later apart = refl
   apart-before (j ∷ js) k later apart =
       let none : (list_any (same j) js || list_any (same j) (k ∷ later)) ≡ false = sym (list_any-append (same j) js (k ∷ later)) ∙ apart.0 in

@@ -1,7 +1,7 @@
 -- Distinct items that are kept one after another.
 use Rattle.std.specs.Prelude.{◌≡◌, Bool, true, List, [], ◌∷◌, fold, refl}
 use Rattle.std.specs.List.{list_any}
-use Rattle.std.proofs.Common.{sym, ◌∙◌, subst, true≢false}
+use Rattle.std.proofs.Common.{sym, ap, ◌∙◌, subst, true≢false}
 use Rattle.std.proofs.lemmas.List.Folds.{list_any-append}
 use Rattle.std.proofs.lemmas.List.Sums.{fold_push}
 use Rattle.indexmap.specs.IndexSet.{insert_key}
@@ -43,11 +43,16 @@ module _ {K : Type 0} (same : K → K → Bool) (decides : DecidesEquality same)
       let rest : among k js ≡ true = simp h at there in
       all-kept k (insert_key same ks j) js rest)
 
-  kept-push : (k : K) (ks js : List K) → kept_of ks (insert_key same js k) ≡ insert_key same (kept_of ks js) k
+  pub kept-push : (k : K) (ks js : List K) → kept_of ks (insert_key same js k) ≡ insert_key same (kept_of ks js) k
   kept-push k ks js =
       either (among k js)
       (λ h. let there = all-kept k ks js h in simp (h, there))
       (λ h. simp h (fold_push (insert_key same) ks js k))
+
+  -- what was kept of a list, put in, leaves what the list itself leaves
+  pub kept-again : (ks is js : List K) → kept_of ks (kept_of is js) ≡ kept_of (kept_of ks is) js
+  kept-again ks is [] = refl
+  kept-again ks is (j ∷ js) = kept-again ks (insert_key same is j) js ∙ ap (λ t. kept_of t js) (kept-push j ks is)
 
   pub distinct_laws : (is_value : K → Type 0) → CollectorLaws is_value [] (insert_key same) (fold (insert_key same))
   distinct_laws is_value = record {

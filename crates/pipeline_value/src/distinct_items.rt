@@ -1,6 +1,6 @@
 //! The distinct items of a list, leaf by leaf.
 
-ghost use Rattle.std.specs.Prelude.{◌≡◌, List, [], true, OnOk, fold, map};
+ghost use Rattle.std.specs.Prelude.{◌≡◌, ◌++◌, List, [], true, IfOk, OnOk, fold, map};
 ghost use Rattle.std.specs.List.{list_any};
 ghost use Rattle.indexmap.specs.IndexSet.{insert_key};
 ghost use Rattle.stages.specs.Distinct.{distinct};
@@ -13,8 +13,8 @@ use std::alloc::Global;
 use std::hash::{Hash, RandomState};
 use std::marker::PhantomData;
 
-/// Of equal items the first, in the order of the items. A leaf keeps its own first ones alone, so there is never a list of all items, and
-/// of two leaves the second gives what the first lacks.
+/// Of equal items the first, in the order of the items. A leaf keeps its own first ones alone, so that the workers share the work. What two
+/// leaves kept is put one behind the other, and what repeats across leaves goes at the end, in one pass.
 #[derive(Drop)]
 pub(crate) struct DistinctItems<T> {
     alloc: Global,
@@ -29,6 +29,28 @@ impl<T> DistinctItems<T> {
             hashes,
             items: PhantomData,
         }
+    }
+}
+
+impl<T: Value + Hash + Drop> DistinctItems<T> {
+    fn first_ones(&self) -> FirstOnes<T>
+        ensures { result.kept.keys ≡ [] }
+    {
+        FirstOnes {
+            kept: IndexSet::with_hasher(self.alloc, self.hashes),
+            next: 0,
+        }
+    }
+
+    /// The first ones of what the leaves kept.
+    fn distinct_among(&self, items: Vec<T>) -> Result<Vec<T>, NoMemory>
+        ensures { IfOk result (λ v. map T.content v.items ≡ fold (insert_key T.same) [] (map T.content items.items)) }
+    {
+        let mut all = self.first_ones();
+        for x in items {
+            all.keep(x)?;
+        }
+        Ok(all.kept.into_iter().collect(self.alloc)?)
     }
 }
 
@@ -66,16 +88,34 @@ impl<T: Value + Hash + Drop> FirstOnes<T> {
     }
 }
 
+/// What leaves kept, in the order of the items. The items of one leaf differ; those of two may not.
+#[derive(Drop)]
+pub(crate) struct KeptByLeaves<T: Eq + Hash> {
+    // What all leaves but the last kept.
+    earlier: Vec<T>,
+    last: FirstOnes<T>,
+}
+
+impl<T: Value + Hash + Copy + Drop> KeptByLeaves<T> {
+    /// Puts what the last leaf kept behind the rest.
+    fn close_leaf(&mut self) -> Result<(), NoMemory>
+        ensures { OnOk result (self.new.earlier.items ≡ self.old.earlier.items ++ self.old.last.kept.keys) }
+    {
+        self.earlier.extend_from_slice(self.last.kept.as_slice())?;
+        Ok(())
+    }
+}
+
 impl<T: Value + Hash + Copy + Drop> Collector for DistinctItems<T> {
     type Item = T;
 
-    type Acc = FirstOnes<T>;
+    type Acc = KeptByLeaves<T>;
 
     type Out = Vec<T>;
 
     ghost Content = { List T.Content };
 
-    ghost content = { λ _ acc. map T.content acc.kept.keys };
+    ghost content = { λ _ acc. fold (insert_key T.same) (fold (insert_key T.same) [] (map T.content acc.earlier.items)) (map T.content acc.last.kept.keys) };
 
     ghost empty = { λ _. [] };
 
@@ -87,25 +127,33 @@ impl<T: Value + Hash + Copy + Drop> Collector for DistinctItems<T> {
 
     ghost laws = { λ _. distinct_laws T.same T.same_decides T.is_value };
 
-    fn supply(&self) -> Result<FirstOnes<T>, NoMemory> {
-        Ok(FirstOnes {
-            kept: IndexSet::with_hasher(self.alloc, self.hashes),
-            next: 0,
+    fn supply(&self) -> Result<KeptByLeaves<T>, NoMemory> {
+        Ok(KeptByLeaves {
+            earlier: Vec::new(self.alloc),
+            last: self.first_ones(),
         })
     }
 
-    fn accumulate(&self, acc: &mut FirstOnes<T>, x: &T) -> Result<(), NoMemory> {
-        acc.keep(*x)
+    fn accumulate(&self, acc: &mut KeptByLeaves<T>, x: &T) -> Result<(), NoMemory> {
+        acc.last.keep(*x)
     }
 
-    fn combine(&self, left: &mut FirstOnes<T>, right: FirstOnes<T>) -> Result<(), NoMemory> {
-        for x in right.kept {
-            left.keep(x)?;
-        }
+    fn combine(
+        &self,
+        left: &mut KeptByLeaves<T>,
+        mut right: KeptByLeaves<T>,
+    ) -> Result<(), NoMemory> {
+        left.close_leaf()?;
+        left.earlier.append(&mut right.earlier)?;
+        left.last = right.last;
         Ok(())
     }
 
-    fn finish(&self, acc: FirstOnes<T>) -> Result<Vec<T>, NoMemory> {
-        Ok(acc.kept.into_iter().collect(self.alloc)?)
+    fn finish(&self, mut acc: KeptByLeaves<T>) -> Result<Vec<T>, NoMemory> {
+        if acc.earlier.is_empty() {
+            return Ok(acc.last.kept.into_iter().collect(self.alloc)?);
+        }
+        acc.close_leaf()?;
+        self.distinct_among(acc.earlier)
     }
 }
