@@ -13,8 +13,8 @@ use std::alloc::Global;
 use std::hash::{Hash, RandomState};
 use std::marker::PhantomData;
 
-/// Of equal items the first, in the order of the items. A leaf keeps its own first ones alone, so that the workers share the work. What two
-/// leaves kept is put one behind the other, and what repeats across leaves goes at the end, in one pass.
+/// Of equal items the first, in the order of the items. A leaf keeps its own first ones alone, so that the workers share the work. What the
+/// leaves kept is put one behind the other, so that no combination hashes an item again; one pass at the end drops what repeats across leaves.
 #[derive(Drop)]
 pub(crate) struct DistinctItems<T> {
     alloc: Global,
@@ -33,6 +33,7 @@ impl<T> DistinctItems<T> {
 }
 
 impl<T: Value + Hash + Drop> DistinctItems<T> {
+    /// An empty set, hashed as the caller asks.
     fn first_ones(&self) -> FirstOnes<T>
         ensures { result.kept.keys ≡ [] }
     {

@@ -72,7 +72,7 @@ fn apply_to_front<T: OrderedValue, B: Barrier<T>>(
 /// The distinct ones of a source's items behind a stage, each the first of its equals. Items are hashed by `hashes`, since whoever writes a
 /// file picks them.
 ///
-/// Each leaf drops what repeats within it, so that the workers share the work, and no list of all items is made.
+/// Each leaf drops what repeats within it, so that the workers share the work; the pass at the end sees only what the leaves kept.
 pub(crate) fn gather_distinct<R, S, A, H>(
     rt: &R,
     alloc: Global,
