@@ -1,4 +1,4 @@
-use Rattle.std.proofs.Common.{◌≡◌, ◌<◌, ◌+◌, ◌∙◌, ap, sym, map, length, arith, ℕ, List, [], ◌∷◌, Vec, Global, Bor}
+use Rattle.std.proofs.Common.{◌≡◌, ◌+◌, ap, map, length, arith, ℕ, List, [], ◌∷◌, Vec, Global, Bor}
 use Rattle.std.proofs.lemmas.List.{length-append}
 use Rattle.std.proofs.lemmas.Result.{err_from_is_err_and}
 use Rattle.pipeline_language.proofs.LoopLemmas.{text_stops, texts_end, texts_more}
