@@ -144,7 +144,7 @@ impl Passage {
     }
 
     /// Whether each number stays as it is, and within the bounds.
-    pub fn is_all(&self) -> bool
+    pub(crate) fn is_all(&self) -> bool
         ensures { IsTrue result → (x : ℤ) → passage_images self.now x ≡ x ∷ [] }
     {
         !self.changes && self.keeps_all()
