@@ -4,6 +4,9 @@ ghost use Rattle.collectors.specs.Laws.{CollectorLaws};
 
 use spliterator::{NoMemory, Value};
 
+/// The most entries of a light container.
+pub(crate) const LIGHT_ENTRIES: usize = 64;
+
 /// A mutable reduction: containers that take items in, are combined from left to right, and are finished to a result.
 ///
 /// Contracts see a container by its content, a plain value. The content of a container that the collector made is the left fold of
@@ -54,6 +57,11 @@ pub trait Collector {
     fn finish(&self, acc: Self::Acc) -> Result<Self::Out, NoMemory>
         requires { ready self.now }
         ensures { (l : List Self.Item.Content) → All Self.Item.is_value l → content self.now acc ≡ fold (add self.now) (empty self.now) l → IfOk result (gives self.now l) };
+
+    /// Whether a combination takes the container in about as fast as some items, and sooner than a thread starts. No result depends on it.
+    fn is_light(&self, _acc: &Self::Acc) -> bool {
+        false
+    }
 
     ghost laws: { (c : Self) → CollectorLaws Self.Item.is_value (empty c) (add c) (merge c) };
 }

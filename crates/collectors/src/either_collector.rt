@@ -69,4 +69,12 @@ impl<A: Collector, B: Collector<Item = A::Item>> Collector for Either<A, B> {
             (Right(side), Left(_)) => Ok(Right(side.finish(side.supply()?)?)),
         }
     }
+
+    fn is_light(&self, acc: &Either<A::Acc, B::Acc>) -> bool {
+        match (self, acc) {
+            (Left(side), Left(acc)) => side.is_light(acc),
+            (Right(side), Right(acc)) => side.is_light(acc),
+            _ => true,
+        }
+    }
 }

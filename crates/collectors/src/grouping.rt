@@ -4,6 +4,7 @@ ghost use Rattle.collectors.specs.Grouping.{group_add, group_merge, contents, Is
 ghost use Rattle.collectors.specs.GroupingLaws.{grouping_laws};
 
 use crate::Collector;
+use crate::collector::LIGHT_ENTRIES;
 use indexmap::IndexMap;
 use spliterator::NoMemory;
 use stages::Mapping;
@@ -121,5 +122,9 @@ where
             results.insert(key, result)?;
         }
         Ok(results)
+    }
+
+    fn is_light(&self, acc: &IndexMap<K::Out, D::Acc, S>) -> bool {
+        acc.len() <= LIGHT_ENTRIES && acc.iter().all(|(_, kept)| self.downstream.is_light(kept))
     }
 }

@@ -82,6 +82,10 @@ impl<T: Value + Clone, O: Operator<T>> Collector for Reducing<T, O> {
     fn finish(&self, acc: Option<T>) -> Result<Option<T>, NoMemory> {
         Ok(acc)
     }
+
+    fn is_light(&self, _acc: &Option<T>) -> bool {
+        true
+    }
 }
 
 /// The first item, or none: what Java's `Stream.findFirst` answers.
@@ -140,5 +144,9 @@ impl<T: Value + Clone> Collector for First<T> {
 
     fn finish(&self, acc: Option<T>) -> Result<Option<T>, NoMemory> {
         Ok(acc)
+    }
+
+    fn is_light(&self, _acc: &Option<T>) -> bool {
+        true
     }
 }

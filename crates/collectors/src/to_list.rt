@@ -4,6 +4,7 @@ ghost use Rattle.spliterator.specs.Clones.{ClonesAlike, TestsClonesAlike};
 ghost use Rattle.collectors.specs.NestedLaws.{push, list_laws};
 
 use crate::Collector;
+use crate::collector::LIGHT_ENTRIES;
 use spliterator::{NoMemory, Value};
 use std::alloc::Global;
 use std::marker::PhantomData;
@@ -64,5 +65,9 @@ impl<T: Value + Clone> Collector for ToList<T> {
 
     fn finish(&self, acc: Vec<T>) -> Result<Vec<T>, NoMemory> {
         Ok(acc)
+    }
+
+    fn is_light(&self, acc: &Vec<T>) -> bool {
+        acc.len() <= LIGHT_ENTRIES
     }
 }

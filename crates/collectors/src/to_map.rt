@@ -6,6 +6,7 @@ ghost use Rattle.collectors.specs.MapLaws.{map_add, map_laws};
 ghost use Rattle.collectors.specs.Reductions.{reduced};
 
 use crate::Collector;
+use crate::collector::LIGHT_ENTRIES;
 use indexmap::IndexMap;
 use spliterator::{NoMemory, Value};
 use stages::{Mapping, Operator};
@@ -130,5 +131,9 @@ where
 
     fn finish(&self, acc: IndexMap<K::Out, U, S>) -> Result<IndexMap<K::Out, U, S>, NoMemory> {
         Ok(acc)
+    }
+
+    fn is_light(&self, acc: &IndexMap<K::Out, U, S>) -> bool {
+        acc.len() <= LIGHT_ENTRIES
     }
 }

@@ -5,6 +5,7 @@ ghost use Rattle.collectors.specs.StrictMaps.{strict_put, strict_add, strict_mer
 ghost use Rattle.collectors.specs.StrictMapLaws.{strict_map_laws};
 
 use crate::Collector;
+use crate::collector::LIGHT_ENTRIES;
 use indexmap::IndexMap;
 use spliterator::{NoMemory, Value};
 use stages::Mapping;
@@ -158,5 +159,9 @@ where
             Some(key) => Ok(Err(DuplicateKey { key })),
             None => Ok(Ok(entries)),
         }
+    }
+
+    fn is_light(&self, acc: &StrictEntries<K::Out, V::Out, S>) -> bool {
+        acc.entries.len() <= LIGHT_ENTRIES
     }
 }

@@ -100,6 +100,10 @@ impl<X: Stream, D: Demand<X::Item>, C: Collector<Item = X::Item>> LeafJob
     fn combine(&self, left: &mut C::Acc, right: C::Acc) -> Result<(), NoMemory> {
         combine_containers(self.collector, left, right)
     }
+
+    fn is_light(&self, kept: &C::Acc) -> bool {
+        self.collector.is_light(kept)
+    }
 }
 
 // Promises that the lists of the last run's leaves are the stream's items, end to end, and that the entries so far are all.

@@ -59,6 +59,10 @@ impl<T: Value, P: Test<T>> Collector for Meets<'_, T, P> {
     fn finish(&self, acc: bool) -> Result<bool, NoMemory> {
         Ok(acc)
     }
+
+    fn is_light(&self, _acc: &bool) -> bool {
+        true
+    }
 }
 
 /// The test that holds where another does not.

@@ -86,6 +86,10 @@ where
     fn finish(&self, acc: D::Acc) -> Result<D::Out, NoMemory> {
         self.downstream.finish(acc)
     }
+
+    fn is_light(&self, acc: &D::Acc) -> bool {
+        self.downstream.is_light(acc)
+    }
 }
 
 impl<D: Summarizes, F: Mapping<D::Item, Out = D::Item>, P: Test<D::Item>> Summarizes

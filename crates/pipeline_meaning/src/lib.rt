@@ -9,6 +9,7 @@ mod number_steps;
 mod number_summaries;
 mod number_walk;
 mod passage;
+mod seeded_hashes;
 mod spelled;
 mod summarizes;
 mod text_bases;
@@ -30,6 +31,7 @@ pub use number_summaries::{
 };
 pub use number_walk::{AtLeast, AtMost, IsMultiple, NumberWalk, Remainder};
 pub use passage::Passage;
+pub use seeded_hashes::SeededHashes;
 pub use spelled::Spelled;
 pub use summarizes::{Both, Summarizes, grouped, write_result};
 pub use text_bases::{TextBaseCollector, TextBaseContainer, TextBaseResult, text_base};

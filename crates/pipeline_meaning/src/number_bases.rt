@@ -97,6 +97,10 @@ impl Collector for NumberBaseCollector {
         let made = self.chosen.finish(acc.held)?;
         Ok(NumberBaseResult { made })
     }
+
+    fn is_light(&self, acc: &NumberBaseContainer) -> bool {
+        self.chosen.is_light(&acc.held)
+    }
 }
 
 impl Summarizes for NumberBaseCollector {

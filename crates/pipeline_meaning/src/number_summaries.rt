@@ -14,6 +14,7 @@ ghost use Rattle.pipeline_meaning.specs.contracts.number_bases.NumberBaseCollect
 ghost use Rattle.pipeline_meaning.specs.contracts.number_bases.NumberBaseCollectorSummarizes.TheImpl.Laws as tells;
 
 use crate::number_bases::{NumberBaseCollector, number_base};
+use crate::seeded_hashes::SeededHashes;
 use crate::summarizes::grouped;
 use crate::{Adapted, Adapting, NumberCheck, NumberMapping, Summarizes, Written};
 use collectors::{Collector, GroupingBy};
@@ -21,7 +22,6 @@ use either::{Either, Left, Right};
 use pipeline_language::{NumberInner, NumberSummary};
 use spliterator::NoMemory;
 use std::alloc::Global;
-use std::hash::RandomState;
 
 /// What is made of numbers inside another collector.
 pub type NumberInnerCollector = Adapted<NumberMapping, NumberCheck, NumberBaseCollector>;
@@ -29,7 +29,7 @@ pub type NumberInnerCollector = Adapted<NumberMapping, NumberCheck, NumberBaseCo
 // What is made of some of the numbers, as is chosen at run time.
 type NumberSummaryChoice = Either<
     Adapted<NumberMapping, NumberCheck, NumberInnerCollector>,
-    GroupingBy<NumberMapping, NumberInnerCollector, RandomState>,
+    GroupingBy<NumberMapping, NumberInnerCollector, SeededHashes>,
 >;
 
 /// What is made of some of the numbers.
@@ -102,6 +102,10 @@ impl Collector for NumberSummaryCollector {
         let made = self.chosen.finish(acc.held)?;
         Ok(NumberSummaryResult { made })
     }
+
+    fn is_light(&self, acc: &NumberSummaryContainer) -> bool {
+        self.chosen.is_light(&acc.held)
+    }
 }
 
 impl Summarizes for NumberSummaryCollector {
@@ -131,7 +135,7 @@ pub fn number_inner(alloc: Global, inner: NumberInner) -> NumberInnerCollector
 /// The collector of numbers. Groups are hashed by `hashes`, since whoever writes a file picks the keys.
 pub fn number_summary(
     alloc: Global,
-    hashes: RandomState,
+    hashes: SeededHashes,
     summary: NumberSummary,
 ) -> NumberSummaryCollector
     ensures ready { ⟦<NumberSummaryCollector as Collector>⟧.ready result }

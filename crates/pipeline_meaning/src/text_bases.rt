@@ -93,6 +93,10 @@ impl<'a> Collector for TextBaseCollector<'a> {
         let made = self.chosen.finish(acc.held)?;
         Ok(TextBaseResult { made })
     }
+
+    fn is_light(&self, acc: &TextBaseContainer<'a>) -> bool {
+        self.chosen.is_light(&acc.held)
+    }
 }
 
 impl<'a> Summarizes for TextBaseCollector<'a> {

@@ -100,6 +100,10 @@ impl<'a> Collector for TextInnerCollector<'a> {
         let made = self.chosen.finish(acc.held)?;
         Ok(TextInnerResult { made })
     }
+
+    fn is_light(&self, acc: &TextInnerContainer<'a>) -> bool {
+        self.chosen.is_light(&acc.held)
+    }
 }
 
 impl<'a> Summarizes for TextInnerCollector<'a> {

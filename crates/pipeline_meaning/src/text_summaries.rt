@@ -13,6 +13,7 @@ ghost use Rattle.pipeline_meaning.specs.SummaryLaws.{either_tells, groups_tell};
 ghost use Rattle.pipeline_meaning.specs.contracts.text_inners.TextInnerCollectorCollector.TheImpl.Laws as inner;
 ghost use Rattle.pipeline_meaning.specs.contracts.text_inners.TextInnerCollectorSummarizes.TheImpl.Laws as told;
 
+use crate::seeded_hashes::SeededHashes;
 use crate::summarizes::grouped;
 use crate::text_inners::{TextInnerCollector, text_inner, text_lengths};
 use crate::{Adapted, Adapting, Itself, Summarizes, TextCheck, TextLength, Written};
@@ -21,13 +22,12 @@ use either::{Either, Left, Right};
 use pipeline_language::{TextFunction, TextInner, TextSummary};
 use spliterator::NoMemory;
 use std::alloc::Global;
-use std::hash::RandomState;
 
 // The groups of texts by their lengths.
-type TextsByLength<'a> = GroupingBy<TextLength, TextInnerCollector<'a>, RandomState>;
+type TextsByLength<'a> = GroupingBy<TextLength, TextInnerCollector<'a>, SeededHashes>;
 
 // The groups of equal texts.
-type TextsByThemselves<'a> = GroupingBy<Itself, TextInnerCollector<'a>, RandomState>;
+type TextsByThemselves<'a> = GroupingBy<Itself, TextInnerCollector<'a>, SeededHashes>;
 
 // Groups of texts.
 type TextGroups<'a> = Either<TextsByLength<'a>, TextsByThemselves<'a>>;
@@ -108,6 +108,10 @@ impl<'a> Collector for TextSummaryCollector<'a> {
         let made = self.chosen.finish(acc.held)?;
         Ok(TextSummaryResult { made })
     }
+
+    fn is_light(&self, acc: &TextSummaryContainer<'a>) -> bool {
+        self.chosen.is_light(&acc.held)
+    }
 }
 
 impl<'a> Summarizes for TextSummaryCollector<'a> {
@@ -119,7 +123,7 @@ impl<'a> Summarizes for TextSummaryCollector<'a> {
 // The collector of groups of texts by their lengths.
 fn texts_by_length<'a>(
     alloc: Global,
-    hashes: RandomState,
+    hashes: SeededHashes,
     inner: TextInner<'a>,
 ) -> TextsByLength<'a>
     ensures ready { ⟦<TextsByLength<'a> as Collector>⟧.ready result }
@@ -131,7 +135,7 @@ fn texts_by_length<'a>(
 // The collector of groups of equal texts.
 fn texts_by_themselves<'a>(
     alloc: Global,
-    hashes: RandomState,
+    hashes: SeededHashes,
     inner: TextInner<'a>,
 ) -> TextsByThemselves<'a>
     ensures ready { ⟦<TextsByThemselves<'a> as Collector>⟧.ready result }
@@ -143,7 +147,7 @@ fn texts_by_themselves<'a>(
 // The collector of groups of texts.
 fn text_groups<'a>(
     alloc: Global,
-    hashes: RandomState,
+    hashes: SeededHashes,
     key: TextFunction,
     inner: TextInner<'a>,
 ) -> TextGroups<'a>
@@ -159,7 +163,7 @@ fn text_groups<'a>(
 /// The collector of texts. Groups are hashed by `hashes`, since whoever writes a file picks the keys.
 pub fn text_summary<'a>(
     alloc: Global,
-    hashes: RandomState,
+    hashes: SeededHashes,
     summary: TextSummary<'a>,
 ) -> TextSummaryCollector<'a>
     ensures ready { ⟦<TextSummaryCollector<'a> as Collector>⟧.ready result }

@@ -8,9 +8,10 @@ ghost use Rattle.pipeline_value.specs.DistinctLaws.{distinct_laws};
 
 use collectors::Collector;
 use indexmap::IndexSet;
+use pipeline_meaning::SeededHashes;
 use spliterator::{NoMemory, Value};
 use std::alloc::Global;
-use std::hash::{Hash, RandomState};
+use std::hash::Hash;
 use std::marker::PhantomData;
 
 /// Of equal items the first, in the order of the items. A leaf keeps its own first ones alone, so that the workers share the work. What the
@@ -18,12 +19,12 @@ use std::marker::PhantomData;
 #[derive(Drop)]
 pub(crate) struct DistinctItems<T> {
     alloc: Global,
-    hashes: RandomState,
+    hashes: SeededHashes,
     items: PhantomData<T>,
 }
 
 impl<T> DistinctItems<T> {
-    pub(crate) fn new(alloc: Global, hashes: RandomState) -> DistinctItems<T> {
+    pub(crate) fn new(alloc: Global, hashes: SeededHashes) -> DistinctItems<T> {
         DistinctItems {
             alloc,
             hashes,
@@ -58,7 +59,7 @@ impl<T: Value + Hash + Drop> DistinctItems<T> {
 /// The items that were kept so far, each the first of its equals.
 #[derive(Drop)]
 pub(crate) struct FirstOnes<T: Eq + Hash> {
-    kept: IndexSet<T, RandomState>,
+    kept: IndexSet<T, SeededHashes>,
     // Behind the place where the last item stands.
     next: usize,
 }

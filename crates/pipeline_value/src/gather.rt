@@ -10,11 +10,12 @@ use crate::distinct_items::DistinctItems;
 use barriers::{Barrier, Whole};
 use collectors::{ToList, finish_container};
 use parallel_streams::Run;
+use pipeline_meaning::SeededHashes;
 use split_tree::Plan;
 use spliterator::{NoMemory, OrderedValue, Spliterator};
 use stages::Stage;
 use std::alloc::Global;
-use std::hash::{Hash, RandomState};
+use std::hash::Hash;
 use std::thread::Threads;
 use stealing_pool::{Gate, run_leaves};
 
@@ -76,7 +77,7 @@ fn apply_to_front<T: OrderedValue, B: Barrier<T>>(
 pub(crate) fn gather_distinct<R, S, A, H>(
     rt: &R,
     alloc: Global,
-    hashes: RandomState,
+    hashes: SeededHashes,
     source: S,
     stage: &A,
     run: &Run<'_, H>,

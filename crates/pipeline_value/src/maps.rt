@@ -12,11 +12,11 @@ use crate::told::{ValueError, text_of, told};
 use collectors::{Collector, DuplicateKey, ToMapStrict};
 use indexmap::IndexMap;
 use parallel_streams::{Run, Stream};
-use pipeline_meaning::Spelled;
+use pipeline_meaning::{SeededHashes, Spelled};
 use spliterator::Value;
 use stages::{Mapping, Operator};
 use std::alloc::Global;
-use std::hash::{Hash, RandomState};
+use std::hash::Hash;
 use std::thread::Threads;
 use stealing_pool::Gate;
 
@@ -24,7 +24,7 @@ use stealing_pool::Gate;
 pub(crate) fn merged_value<R, X, U, K, V, M, H>(
     rt: &R,
     alloc: Global,
-    hashes: RandomState,
+    hashes: SeededHashes,
     stream: &X,
     key: K,
     value: V,
@@ -59,7 +59,7 @@ where
 pub(crate) fn strict_value<R, X, K, V, H>(
     rt: &R,
     alloc: Global,
-    hashes: RandomState,
+    hashes: SeededHashes,
     stream: &X,
     key: K,
     value: V,
@@ -90,13 +90,13 @@ where
 /// The text of what a strict map's collector made.
 fn told_strict<T: Value, K: Mapping<T>, V: Mapping<T>>(
     alloc: Global,
-    _strict: &ToMapStrict<T, K, V, RandomState>,
-    made: &Result<IndexMap<K::Out, V::Out, RandomState>, DuplicateKey<K::Out>>,
+    _strict: &ToMapStrict<T, K, V, SeededHashes>,
+    made: &Result<IndexMap<K::Out, V::Out, SeededHashes>, DuplicateKey<K::Out>>,
 ) -> Result<String, ValueError>
 where
     K::Out: Spelled + Hash + Drop,
     V::Out: Spelled + Drop,
-    ensures { (l : List T.Content) → ⟦<ToMapStrict<T, K, V, RandomState> as Collector>⟧.gives _strict.now l made.now → Tells (strict_told K.Out.spelling V.Out.spelling K.Out.same (K.image _strict.now.key) (V.image _strict.now.value) l) result }
+    ensures { (l : List T.Content) → ⟦<ToMapStrict<T, K, V, SeededHashes> as Collector>⟧.gives _strict.now l made.now → Tells (strict_told K.Out.spelling V.Out.spelling K.Out.same (K.image _strict.now.key) (V.image _strict.now.value) l) result }
 {
     match made {
         Ok(entries) => told(alloc, entries),

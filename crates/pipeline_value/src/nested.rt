@@ -6,11 +6,11 @@ ghost use Rattle.pipeline_meaning.specs.Summaries.{merged_text, parts_text};
 ghost use Rattle.pipeline_meaning.specs.Texts.{pair_text};
 
 use collectors::{Collector, PartitioningBy, Teeing, ToMap};
-use pipeline_meaning::{Both, Spelled, Summarizes, Written};
+use pipeline_meaning::{Both, SeededHashes, Spelled, Summarizes, Written};
 use spliterator::Value;
 use stages::{Mapping, Operator, Test};
 use std::alloc::Global;
-use std::hash::{Hash, RandomState};
+use std::hash::Hash;
 
 /// The results of the items that fail a test, and of those that pass.
 pub(crate) fn parted<D: Summarizes, P: Test<D::Item>>(
@@ -50,18 +50,18 @@ pub(crate) fn merged<
     M: Operator<U>,
 >(
     alloc: Global,
-    hashes: RandomState,
+    hashes: SeededHashes,
     key: K,
     value: V,
     merge: M,
-) -> ToMap<T, U, K, V, M, RandomState>
+) -> ToMap<T, U, K, V, M, SeededHashes>
 where
     K::Out: Spelled + Hash + Drop,
     requires { IsAssociative U.is_value (M.join merge) }
     ensures key { result.key ≡ key }
     ensures value { result.value ≡ value }
     ensures merge { result.merge ≡ merge }
-    ensures summary { (l : List T.Content) → ⟦<ToMap<T, U, K, V, M, RandomState> as Summarizes>⟧.summary result l ≡ merged_text K.Out.spelling U.spelling K.Out.same (K.image key) (V.image value) (M.join merge) l }
+    ensures summary { (l : List T.Content) → ⟦<ToMap<T, U, K, V, M, SeededHashes> as Summarizes>⟧.summary result l ≡ merged_text K.Out.spelling U.spelling K.Out.same (K.image key) (V.image value) (M.join merge) l }
 {
     ToMap::with_hasher(alloc, key, value, merge, hashes)
 }

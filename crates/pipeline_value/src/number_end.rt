@@ -10,9 +10,8 @@ use crate::told::{ValueError, told};
 use collectors::ToList;
 use parallel_streams::{Run, Stream};
 use pipeline_language::NumberTerminal;
-use pipeline_meaning::NumberCheck;
+use pipeline_meaning::{NumberCheck, SeededHashes};
 use std::alloc::Global;
-use std::hash::RandomState;
 use std::thread::Threads;
 use stealing_pool::Gate;
 
@@ -20,7 +19,7 @@ use stealing_pool::Gate;
 pub(crate) fn number_end<R, X, H>(
     rt: &R,
     alloc: Global,
-    hashes: RandomState,
+    hashes: SeededHashes,
     stream: &X,
     terminal: &NumberTerminal,
     run: &Run<'_, H>,

@@ -11,13 +11,13 @@ use crate::nested::{paired, parted};
 use collectors::{Collector, GroupingBy, PartitioningBy, Teeing};
 use pipeline_language::{NumberFunction, NumberSummary, NumberTest};
 use pipeline_meaning::{
-    Both, NumberCheck, NumberMapping, NumberSummaryCollector, Summarizes, grouped, number_summary,
+    Both, NumberCheck, NumberMapping, NumberSummaryCollector, SeededHashes, Summarizes, grouped,
+    number_summary,
 };
 use std::alloc::Global;
-use std::hash::RandomState;
 
 /// The collector of groups of numbers.
-pub(crate) type NumberGroups = GroupingBy<NumberMapping, NumberSummaryCollector, RandomState>;
+pub(crate) type NumberGroups = GroupingBy<NumberMapping, NumberSummaryCollector, SeededHashes>;
 
 /// The collector of the numbers that fail a test and of those that pass.
 pub(crate) type NumberParts = PartitioningBy<NumberCheck, NumberSummaryCollector>;
@@ -28,7 +28,7 @@ pub(crate) type NumberPair = Teeing<NumberSummaryCollector, NumberSummaryCollect
 /// The groups of numbers by their images.
 pub(crate) fn number_groups(
     alloc: Global,
-    hashes: RandomState,
+    hashes: SeededHashes,
     function: NumberFunction,
     summary: NumberSummary,
 ) -> NumberGroups
@@ -46,7 +46,7 @@ pub(crate) fn number_groups(
 /// The results of the numbers that fail a test, and of those that pass.
 pub(crate) fn number_parts(
     alloc: Global,
-    hashes: RandomState,
+    hashes: SeededHashes,
     test: NumberTest,
     summary: NumberSummary,
 ) -> NumberParts
@@ -62,7 +62,7 @@ pub(crate) fn number_parts(
 /// Two results of the same numbers.
 pub(crate) fn number_pair(
     alloc: Global,
-    hashes: RandomState,
+    hashes: SeededHashes,
     one: NumberSummary,
     other: NumberSummary,
 ) -> NumberPair

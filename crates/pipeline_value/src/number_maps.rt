@@ -8,9 +8,8 @@ use crate::maps::{merged_value, strict_value};
 use crate::told::ValueError;
 use parallel_streams::{Run, Stream};
 use pipeline_language::{NumberFunction, NumberMerge};
-use pipeline_meaning::{NumberMapping, NumberMerging};
+use pipeline_meaning::{NumberMapping, NumberMerging, SeededHashes};
 use std::alloc::Global;
-use std::hash::RandomState;
 use std::thread::Threads;
 use stealing_pool::Gate;
 
@@ -18,7 +17,7 @@ use stealing_pool::Gate;
 pub(crate) fn map_value<R, X, H>(
     rt: &R,
     alloc: Global,
-    hashes: RandomState,
+    hashes: SeededHashes,
     stream: &X,
     key: NumberFunction,
     value: NumberFunction,
@@ -45,7 +44,7 @@ where
 pub(crate) fn strict_map_value<R, X, H>(
     rt: &R,
     alloc: Global,
-    hashes: RandomState,
+    hashes: SeededHashes,
     stream: &X,
     key: NumberFunction,
     value: NumberFunction,

@@ -9,8 +9,8 @@ use crate::number_groups::{number_groups, number_pair, number_parts};
 use crate::told::ValueError;
 use parallel_streams::{Run, Stream};
 use pipeline_language::{NumberFunction, NumberSummary, NumberTest};
+use pipeline_meaning::SeededHashes;
 use std::alloc::Global;
-use std::hash::RandomState;
 use std::thread::Threads;
 use stealing_pool::Gate;
 
@@ -18,7 +18,7 @@ use stealing_pool::Gate;
 pub(crate) fn groups_value<R, X, H>(
     rt: &R,
     alloc: Global,
-    hashes: RandomState,
+    hashes: SeededHashes,
     stream: &X,
     function: NumberFunction,
     summary: NumberSummary,
@@ -42,7 +42,7 @@ where
 pub(crate) fn parts_value<R, X, H>(
     rt: &R,
     alloc: Global,
-    hashes: RandomState,
+    hashes: SeededHashes,
     stream: &X,
     test: NumberTest,
     summary: NumberSummary,
@@ -66,7 +66,7 @@ where
 pub(crate) fn pair_value<R, X, H>(
     rt: &R,
     alloc: Global,
-    hashes: RandomState,
+    hashes: SeededHashes,
     stream: &X,
     one: NumberSummary,
     other: NumberSummary,

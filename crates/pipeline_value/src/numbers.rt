@@ -12,12 +12,11 @@ use crate::told::ValueError;
 use barriers::{DropWhile, Limit, Skip, TakeWhile};
 use parallel_streams::{Run, Stream, of};
 use pipeline_language::{NumberBody, NumberStage, NumberTerminal};
-use pipeline_meaning::{NumberCheck, NumberSteps};
+use pipeline_meaning::{NumberCheck, NumberSteps, SeededHashes};
 use sources::SliceSplit;
 use spliterator::{NoMemory, Spliterator};
 use stages::{Stage, Then};
 use std::alloc::Global;
-use std::hash::RandomState;
 use std::thread::Threads;
 use stealing_pool::Gate;
 
@@ -25,7 +24,7 @@ use stealing_pool::Gate;
 pub(crate) fn number_value<R, S, A, H>(
     rt: &R,
     alloc: Global,
-    hashes: RandomState,
+    hashes: SeededHashes,
     source: S,
     front: A,
     body: &NumberBody,
@@ -71,7 +70,7 @@ where
 pub(crate) fn list_value<R: Threads + Sync, H: Gate + Sync>(
     rt: &R,
     alloc: Global,
-    hashes: RandomState,
+    hashes: SeededHashes,
     items: Vec<i64>,
     stages: &[NumberStage],
     terminal: &NumberTerminal,
@@ -95,7 +94,7 @@ pub(crate) fn list_value<R: Threads + Sync, H: Gate + Sync>(
 fn through_barrier<R, S, A, H>(
     rt: &R,
     alloc: Global,
-    hashes: RandomState,
+    hashes: SeededHashes,
     source: S,
     stage: &A,
     barrier: &NumberStage,

@@ -9,9 +9,8 @@ use crate::told::{ValueError, told};
 use collectors::{Joining, ToList};
 use parallel_streams::{Run, Stream};
 use pipeline_language::TextTerminal;
-use pipeline_meaning::TextCheck;
+use pipeline_meaning::{SeededHashes, TextCheck};
 use std::alloc::Global;
-use std::hash::RandomState;
 use std::thread::Threads;
 use stealing_pool::Gate;
 
@@ -19,7 +18,7 @@ use stealing_pool::Gate;
 pub(crate) fn text_end<'s, 'a, R: Threads + Sync, H: Gate + Sync>(
     rt: &R,
     alloc: Global,
-    hashes: RandomState,
+    hashes: SeededHashes,
     stream: &Texts<'s, 'a>,
     terminal: &TextTerminal<'a>,
     run: &Run<'_, H>,

@@ -10,16 +10,16 @@ use crate::nested::{paired, parted};
 use collectors::{Collector, GroupingBy, PartitioningBy, Teeing};
 use pipeline_language::{TextSummary, TextTest};
 use pipeline_meaning::{
-    Both, Itself, Summarizes, TextCheck, TextLength, TextSummaryCollector, grouped, text_summary,
+    Both, Itself, SeededHashes, Summarizes, TextCheck, TextLength, TextSummaryCollector, grouped,
+    text_summary,
 };
 use std::alloc::Global;
-use std::hash::RandomState;
 
 /// The collector of groups of texts by their lengths.
-pub(crate) type LengthGroups<'a> = GroupingBy<TextLength, TextSummaryCollector<'a>, RandomState>;
+pub(crate) type LengthGroups<'a> = GroupingBy<TextLength, TextSummaryCollector<'a>, SeededHashes>;
 
 /// The collector of groups of equal texts.
-pub(crate) type TextGroups<'a> = GroupingBy<Itself, TextSummaryCollector<'a>, RandomState>;
+pub(crate) type TextGroups<'a> = GroupingBy<Itself, TextSummaryCollector<'a>, SeededHashes>;
 
 /// The collector of the texts that fail a test and of those that pass.
 pub(crate) type TextParts<'a> = PartitioningBy<TextCheck<'a>, TextSummaryCollector<'a>>;
@@ -30,7 +30,7 @@ pub(crate) type TextPair<'a> = Teeing<TextSummaryCollector<'a>, TextSummaryColle
 /// The groups of texts by their lengths.
 pub(crate) fn length_groups<'a>(
     alloc: Global,
-    hashes: RandomState,
+    hashes: SeededHashes,
     summary: TextSummary<'a>,
 ) -> LengthGroups<'a>
     ensures ready { ⟦<LengthGroups<'a> as Collector>⟧.ready result }
@@ -47,7 +47,7 @@ pub(crate) fn length_groups<'a>(
 /// The groups of equal texts.
 pub(crate) fn text_groups<'a>(
     alloc: Global,
-    hashes: RandomState,
+    hashes: SeededHashes,
     summary: TextSummary<'a>,
 ) -> TextGroups<'a>
     ensures ready { ⟦<TextGroups<'a> as Collector>⟧.ready result }
@@ -59,7 +59,7 @@ pub(crate) fn text_groups<'a>(
 /// The results of the texts that fail a test, and of those that pass.
 pub(crate) fn text_parts<'a>(
     alloc: Global,
-    hashes: RandomState,
+    hashes: SeededHashes,
     test: TextTest<'a>,
     summary: TextSummary<'a>,
 ) -> TextParts<'a>
@@ -72,7 +72,7 @@ pub(crate) fn text_parts<'a>(
 /// Two results of the same texts.
 pub(crate) fn text_pair<'a>(
     alloc: Global,
-    hashes: RandomState,
+    hashes: SeededHashes,
     one: TextSummary<'a>,
     other: TextSummary<'a>,
 ) -> TextPair<'a>

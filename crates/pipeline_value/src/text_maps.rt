@@ -11,11 +11,11 @@ use crate::text_parts::Texts;
 use crate::told::ValueError;
 use parallel_streams::{Run, Stream};
 use pipeline_language::{TextFunction, TextValue};
-use pipeline_meaning::{Itself, NumberMerging, Spelled, TextLength, TextMerging};
+use pipeline_meaning::{Itself, NumberMerging, SeededHashes, Spelled, TextLength, TextMerging};
 use spliterator::{OrderedValue, Text};
 use stages::Mapping;
 use std::alloc::Global;
-use std::hash::{Hash, RandomState};
+use std::hash::Hash;
 use std::thread::Threads;
 use stealing_pool::Gate;
 
@@ -23,7 +23,7 @@ use stealing_pool::Gate;
 pub(crate) fn map_value<'s, 'a, R: Threads + Sync, H: Gate + Sync>(
     rt: &R,
     alloc: Global,
-    hashes: RandomState,
+    hashes: SeededHashes,
     stream: &Texts<'s, 'a>,
     key: TextFunction,
     value: TextValue,
@@ -43,7 +43,7 @@ pub(crate) fn map_value<'s, 'a, R: Threads + Sync, H: Gate + Sync>(
 pub(crate) fn strict_map_value<'s, 'a, R: Threads + Sync, H: Gate + Sync>(
     rt: &R,
     alloc: Global,
-    hashes: RandomState,
+    hashes: SeededHashes,
     stream: &Texts<'s, 'a>,
     key: TextFunction,
     value: TextFunction,
@@ -63,7 +63,7 @@ pub(crate) fn strict_map_value<'s, 'a, R: Threads + Sync, H: Gate + Sync>(
 fn text_map<T, R, X, K, H>(
     rt: &R,
     alloc: Global,
-    hashes: RandomState,
+    hashes: SeededHashes,
     stream: &X,
     key: K,
     value: TextValue,
@@ -100,7 +100,7 @@ where
 fn text_strict_map<T, R, X, K, H>(
     rt: &R,
     alloc: Global,
-    hashes: RandomState,
+    hashes: SeededHashes,
     stream: &X,
     key: K,
     value: TextFunction,

@@ -10,10 +10,9 @@ use crate::text_groups::{length_groups, text_groups, text_pair, text_parts};
 use crate::told::ValueError;
 use parallel_streams::{Run, Source, Staged, Stream};
 use pipeline_language::{TextFunction, TextSummary, TextTest};
-use pipeline_meaning::TextSteps;
+use pipeline_meaning::{SeededHashes, TextSteps};
 use sources::SliceSplit;
 use std::alloc::Global;
-use std::hash::RandomState;
 use std::thread::Threads;
 use stealing_pool::Gate;
 
@@ -24,7 +23,7 @@ pub(crate) type Texts<'s, 'a> = Staged<Source<SliceSplit<'s, &'a str>>, TextStep
 fn length_groups_value<'s, 'a, R: Threads + Sync, H: Gate + Sync>(
     rt: &R,
     alloc: Global,
-    hashes: RandomState,
+    hashes: SeededHashes,
     stream: &Texts<'s, 'a>,
     summary: TextSummary<'a>,
     run: &Run<'_, H>,
@@ -41,7 +40,7 @@ fn length_groups_value<'s, 'a, R: Threads + Sync, H: Gate + Sync>(
 fn text_groups_value<'s, 'a, R: Threads + Sync, H: Gate + Sync>(
     rt: &R,
     alloc: Global,
-    hashes: RandomState,
+    hashes: SeededHashes,
     stream: &Texts<'s, 'a>,
     summary: TextSummary<'a>,
     run: &Run<'_, H>,
@@ -58,7 +57,7 @@ fn text_groups_value<'s, 'a, R: Threads + Sync, H: Gate + Sync>(
 pub(crate) fn groups_value<'s, 'a, R: Threads + Sync, H: Gate + Sync>(
     rt: &R,
     alloc: Global,
-    hashes: RandomState,
+    hashes: SeededHashes,
     stream: &Texts<'s, 'a>,
     key: TextFunction,
     summary: TextSummary<'a>,
@@ -78,7 +77,7 @@ pub(crate) fn groups_value<'s, 'a, R: Threads + Sync, H: Gate + Sync>(
 pub(crate) fn parts_value<'s, 'a, R: Threads + Sync, H: Gate + Sync>(
     rt: &R,
     alloc: Global,
-    hashes: RandomState,
+    hashes: SeededHashes,
     stream: &Texts<'s, 'a>,
     test: TextTest<'a>,
     summary: TextSummary<'a>,
@@ -96,7 +95,7 @@ pub(crate) fn parts_value<'s, 'a, R: Threads + Sync, H: Gate + Sync>(
 pub(crate) fn pair_value<'s, 'a, R: Threads + Sync, H: Gate + Sync>(
     rt: &R,
     alloc: Global,
-    hashes: RandomState,
+    hashes: SeededHashes,
     stream: &Texts<'s, 'a>,
     one: TextSummary<'a>,
     other: TextSummary<'a>,

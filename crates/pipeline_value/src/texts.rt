@@ -15,12 +15,12 @@ use crate::told::ValueError;
 use barriers::{DropWhile, Limit, Skip, TakeWhile};
 use parallel_streams::{Run, Stream, of};
 use pipeline_language::{NumberBody, TextEnd, TextStage};
-use pipeline_meaning::{TextCheck, TextLength, TextSteps};
+use pipeline_meaning::{SeededHashes, TextCheck, TextLength, TextSteps};
 use sources::SliceSplit;
 use spliterator::{NoMemory, OrderedValue, Spliterator, Text};
 use stages::{Map, Stage, Then};
 use std::alloc::Global;
-use std::hash::{Hash, RandomState};
+use std::hash::Hash;
 use std::thread::Threads;
 use stealing_pool::Gate;
 
@@ -28,7 +28,7 @@ use stealing_pool::Gate;
 pub(crate) fn text_value<'a, R: Threads + Sync, H: Gate + Sync>(
     rt: &R,
     alloc: Global,
-    hashes: RandomState,
+    hashes: SeededHashes,
     items: Vec<&'a str>,
     stages: &[TextStage<'a>],
     end: &TextEnd<'a>,
@@ -53,7 +53,7 @@ pub(crate) fn text_value<'a, R: Threads + Sync, H: Gate + Sync>(
 fn end_value<'s, 'a, R: Threads + Sync, H: Gate + Sync>(
     rt: &R,
     alloc: Global,
-    hashes: RandomState,
+    hashes: SeededHashes,
     source: SliceSplit<'s, &'a str>,
     steps: TextSteps<'a>,
     end: &TextEnd<'a>,
@@ -76,7 +76,7 @@ fn end_value<'s, 'a, R: Threads + Sync, H: Gate + Sync>(
 fn lengths_value<T, R, S, A, H>(
     rt: &R,
     alloc: Global,
-    hashes: RandomState,
+    hashes: SeededHashes,
     source: S,
     stage: A,
     body: &NumberBody,
@@ -102,7 +102,7 @@ where
 fn through_barrier<T, R, S, A, H>(
     rt: &R,
     alloc: Global,
-    hashes: RandomState,
+    hashes: SeededHashes,
     source: S,
     stage: &A,
     barrier: &TextStage<'_>,

@@ -15,12 +15,11 @@ use crate::texts::text_value;
 use crate::told::{ValueError, told};
 use parallel_streams::Run;
 use pipeline_language::{NumberBody, NumberSource, NumberStage, Pipeline};
-use pipeline_meaning::{NumberSteps, NumberWalk};
+use pipeline_meaning::{NumberSteps, NumberWalk, SeededHashes};
 use sources::RangeSplit;
 use spliterator::{NoMemory, Spliterator};
 use stages::Nothing;
 use std::alloc::Global;
-use std::hash::RandomState;
 use std::thread::Threads;
 use stealing_pool::Gate;
 
@@ -29,7 +28,7 @@ use stealing_pool::Gate;
 pub fn pipeline_value<R: Threads + Sync, H: Gate + Sync>(
     rt: &R,
     alloc: Global,
-    hashes: RandomState,
+    hashes: SeededHashes,
     pipeline: Pipeline<'_>,
     run: &Run<'_, H>,
 ) -> Result<String, ValueError>
@@ -60,7 +59,7 @@ pub fn pipeline_value<R: Threads + Sync, H: Gate + Sync>(
 fn source_value<R: Threads + Sync, H: Gate + Sync>(
     rt: &R,
     alloc: Global,
-    hashes: RandomState,
+    hashes: SeededHashes,
     source: NumberSource,
     body: &NumberBody,
     run: &Run<'_, H>,
@@ -93,7 +92,7 @@ fn source_value<R: Threads + Sync, H: Gate + Sync>(
 fn integers_value<R: Threads + Sync, H: Gate + Sync>(
     rt: &R,
     alloc: Global,
-    hashes: RandomState,
+    hashes: SeededHashes,
     range: RangeSplit,
     body: &NumberBody,
     run: &Run<'_, H>,
@@ -126,7 +125,7 @@ fn whole_walk(alloc: Global, stages: &[NumberStage]) -> Result<Option<NumberWalk
 fn range_value<R: Threads + Sync, H: Gate + Sync>(
     rt: &R,
     alloc: Global,
-    hashes: RandomState,
+    hashes: SeededHashes,
     start: i64,
     end: i64,
     body: &NumberBody,
@@ -145,7 +144,7 @@ fn range_value<R: Threads + Sync, H: Gate + Sync>(
 fn closed_value<R: Threads + Sync, H: Gate + Sync>(
     rt: &R,
     alloc: Global,
-    hashes: RandomState,
+    hashes: SeededHashes,
     start: i64,
     last: i64,
     body: &NumberBody,

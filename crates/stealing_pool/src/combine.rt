@@ -111,7 +111,15 @@ where
     Ok((before?, after?))
 }
 
-/// Combines what is kept of the first leaves up the tree, with at most as many threads as there are workers.
+/// The most leaves whose combining starts no thread.
+const FEW_LEAVES: usize = 256;
+
+/// Whether what is kept of the leaves is combined sooner than threads start.
+fn is_light_row<J: LeafJob>(job: &J, row: &[J::Kept]) -> bool {
+    row.len() <= FEW_LEAVES && row.iter().all(|kept| job.is_light(kept))
+}
+
+/// Combines what is kept of the first leaves up the tree: in this thread where it is light, else with at most as many threads as there are workers.
 pub fn combine_row<R: Threads + Sync, J: LeafJob + Sync>(
     rt: &R,
     job: &J,
@@ -127,5 +135,10 @@ where
     requires row { IsRow (J.work job.now) row.items }
     ensures { IfOk result (StandsForRun (J.work job.now)) }
 {
-    combine_part(rt, job, tree, workers.ilog2(), row)
+    let levels = if is_light_row(job, row.as_slice()) {
+        0
+    } else {
+        workers.ilog2()
+    };
+    combine_part(rt, job, tree, levels, row)
 }

@@ -66,4 +66,9 @@ pub trait LeafJob {
     fn combine(&self, left: &mut Self::Kept, right: Self::Kept) -> Result<(), NoMemory>
         requires { ready self.now }
         ensures { OnOk result (Combines (work self.now) left.old right left.new) };
+
+    /// Whether a combination takes in what is kept sooner than a thread starts. No result depends on it.
+    fn is_light(&self, _kept: &Self::Kept) -> bool {
+        false
+    }
 }

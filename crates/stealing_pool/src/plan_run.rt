@@ -64,6 +64,10 @@ impl<S: Spliterator, G: Stage<In = S::Item>, D: Demand<G::Out>, C: Collector<Ite
     fn combine(&self, left: &mut C::Acc, right: C::Acc) -> Result<(), NoMemory> {
         combine_containers(self.collector, left, right)
     }
+
+    fn is_light(&self, kept: &C::Acc) -> bool {
+        self.collector.is_light(kept)
+    }
 }
 
 /// Runs the leaves of a plan through a stage into a collector's containers, on at most as many workers as there are leaves, and

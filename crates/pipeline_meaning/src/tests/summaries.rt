@@ -1,7 +1,7 @@
 //! The texts of values, and of what the language's collectors make.
 use crate::{
-    Both, NumberCheck, NumberMapping, NumberMerging, Summarizes, Written, number_summary,
-    text_inner, text_lengths, text_summary, write_result,
+    Both, NumberCheck, NumberMapping, NumberMerging, SeededHashes, Summarizes, Written,
+    number_summary, text_inner, text_lengths, text_summary, write_result,
 };
 use collectors::{
     Collector, GroupingBy, Joining, PartitioningBy, Teeing, ToMap, ToMapStrict, collect,
@@ -12,7 +12,6 @@ use pipeline_language::{
 };
 use spliterator::NoMemory;
 use std::alloc::Global;
-use std::hash::RandomState;
 use std::test::Fail;
 
 /// The text of what a collector makes of the items.
@@ -33,7 +32,7 @@ where
 
 fn numbers(
     alloc: Global,
-    hashes: RandomState,
+    hashes: SeededHashes,
     summary: NumberSummary,
     items: &[i64],
 ) -> Result<String, NoMemory> {
@@ -47,7 +46,7 @@ fn base(base: NumberBase) -> NumberSummary {
 #[test]
 fn bases_of_numbers(rt: HostRuntime) -> Result<(), Fail> {
     let alloc = rt.alloc();
-    let hashes = RandomState::new(&rt)?;
+    let hashes = SeededHashes::of(&[7; 16]);
     let items = [2, 5, 3];
     assert_eq!(rt;
         numbers(alloc, hashes, base(NumberBase::Count), &items)?.as_str(),
@@ -87,7 +86,7 @@ fn bases_of_numbers(rt: HostRuntime) -> Result<(), Fail> {
 #[test]
 fn nested_groups(rt: HostRuntime) -> Result<(), Fail> {
     let alloc = rt.alloc();
-    let hashes = RandomState::new(&rt)?;
+    let hashes = SeededHashes::of(&[7; 16]);
     let counts = NumberSummary::GroupBy(
         NumberFunction::Mod(3),
         NumberInner::Base(NumberBase::Count),
@@ -111,7 +110,7 @@ fn nested_groups(rt: HostRuntime) -> Result<(), Fail> {
 #[test]
 fn partitions_pairs_and_maps(rt: HostRuntime) -> Result<(), Fail> {
     let alloc = rt.alloc();
-    let hashes = RandomState::new(&rt)?;
+    let hashes = SeededHashes::of(&[7; 16]);
     let tens = NumberSummary::Mapping(
         NumberFunction::Mul(10),
         NumberInner::Base(NumberBase::ToList),
@@ -143,7 +142,7 @@ fn partitions_pairs_and_maps(rt: HostRuntime) -> Result<(), Fail> {
 #[test]
 fn a_strict_map(rt: HostRuntime) -> Result<(), Fail> {
     let alloc = rt.alloc();
-    let hashes = RandomState::new(&rt)?;
+    let hashes = SeededHashes::of(&[7; 16]);
     let key = NumberMapping::of(NumberFunction::Itself);
     let value = NumberMapping::of(NumberFunction::Negate);
     let strict = ToMapStrict::<i64, _, _, _>::with_hasher(alloc, key, value, hashes);
@@ -159,7 +158,7 @@ fn a_strict_map(rt: HostRuntime) -> Result<(), Fail> {
 #[test]
 fn summaries_of_texts(rt: HostRuntime) -> Result<(), Fail> {
     let alloc = rt.alloc();
-    let hashes = RandomState::new(&rt)?;
+    let hashes = SeededHashes::of(&[7; 16]);
     let items = ["a", "", "bb"];
     let joined = text_inner(alloc, TextInner::Base(TextBase::Joining("+")));
     assert_eq!(rt; text_of(alloc, &joined, &items)?.as_str(), "a++bb");

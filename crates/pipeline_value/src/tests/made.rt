@@ -11,9 +11,9 @@ use pipeline_language::{
     NumberBody, NumberSource, NumberStage, NumberTerminal, Pipeline, TextBody, TextEnd, TextStage,
     TextTerminal,
 };
+use pipeline_meaning::SeededHashes;
 use spliterator::NoMemory;
 use std::alloc::Global;
-use std::hash::RandomState;
 use std::process::Abort;
 use std::random::RandomSource;
 use std::sync::atomic::{AtomicU64, Ordering};
@@ -120,9 +120,11 @@ impl<'a> TextStages<'a> {
     }
 }
 
-/// A hasher under random keys.
-fn hashes<R: RandomSource>(rt: &R) -> Result<RandomState, Fail> {
-    Ok(RandomState::new(rt)?)
+/// Hashes of a random seed.
+fn hashes<R: RandomSource>(rt: &R) -> Result<SeededHashes, Fail> {
+    let mut seed = [0; 16];
+    rt.fill_bytes(&mut seed)?;
+    Ok(SeededHashes::of(&seed))
 }
 
 /// Runs a pipeline of numbers at a setting, and asserts what it answers.

@@ -175,11 +175,7 @@ fn one_worker_meets_no_other(rt: HostRuntime) -> Result<(), Fail> {
 fn two_children_are_combined_at_once(rt: HostRuntime) -> Result<(), Fail> {
     let alloc = rt.alloc();
     let plan = plan_of(alloc, 4, 2, 1)?;
-    let lists = MeetingLists {
-        alloc,
-        entered: AtomicU64::new(0),
-        missed: AtomicU64::new(0),
-    };
+    let lists = MeetingLists::new(alloc, false);
     let run = run_leaves(
         &rt,
         alloc,
@@ -195,16 +191,33 @@ fn two_children_are_combined_at_once(rt: HostRuntime) -> Result<(), Fail> {
     Ok(())
 }
 
-// One worker combines alone, so the first call of `combine` waits in vain.
+// Light containers are combined by one thread, so the first call of `combine` waits in vain.
+#[test]
+fn light_containers_start_no_thread(rt: HostRuntime) -> Result<(), Fail> {
+    let alloc = rt.alloc();
+    let plan = plan_of(alloc, 4, 2, 1)?;
+    let lists = MeetingLists::new(alloc, true);
+    let run = run_leaves(
+        &rt,
+        alloc,
+        &plan,
+        &Nothing::new(),
+        &Whole,
+        &lists,
+        2,
+        &NoGate,
+    )?;
+    assert_eq!(rt; run.acc.as_slice(), [0, 1, 2, 3].as_slice());
+    assert_eq!(rt; lists.missed.load(Ordering::SeqCst), 1);
+    Ok(())
+}
+
+// One worker combines alone, so here too.
 #[test]
 fn one_worker_combines_alone(rt: HostRuntime) -> Result<(), Fail> {
     let alloc = rt.alloc();
     let plan = plan_of(alloc, 4, 1, 1)?;
-    let lists = MeetingLists {
-        alloc,
-        entered: AtomicU64::new(0),
-        missed: AtomicU64::new(0),
-    };
+    let lists = MeetingLists::new(alloc, false);
     let run = run_leaves(
         &rt,
         alloc,

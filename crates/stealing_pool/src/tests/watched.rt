@@ -105,12 +105,24 @@ impl Test<i64> for Watched<'_> {
     }
 }
 
-/// Lists as `ToList` does. The first two calls of `combine` each turn until the other has been entered.
+/// Lists as `ToList` does, light ones where it says so. The first two calls of `combine` each turn until the other has been entered.
 #[derive(Drop)]
 pub struct MeetingLists {
     pub alloc: Global,
+    pub light: bool,
     pub entered: AtomicU64,
     pub missed: AtomicU64,
+}
+
+impl MeetingLists {
+    pub fn new(alloc: Global, light: bool) -> MeetingLists {
+        MeetingLists {
+            alloc,
+            light,
+            entered: AtomicU64::new(0),
+            missed: AtomicU64::new(0),
+        }
+    }
 }
 
 impl Collector for MeetingLists {
@@ -154,5 +166,9 @@ impl Collector for MeetingLists {
 
     fn finish(&self, acc: Vec<i64>) -> Result<Vec<i64>, NoMemory> {
         Ok(acc)
+    }
+
+    fn is_light(&self, _acc: &Vec<i64>) -> bool {
+        self.light
     }
 }
