@@ -17,8 +17,9 @@ use Rattle.pipeline_meaning.specs.Functions.{number_join, text_join}
 use Rattle.pipeline_meaning.specs.Passages.{passage_image}
 use Rattle.pipeline_meaning.specs.Prepared.{mapping_image}
 use Rattle.pipeline_meaning.specs.declared.passage.Passage.{Passage}
+use Rattle.pipeline_meaning.specs.declared.functions.NumberChange.TheVariants.{Add, Mul, Negate}
 use Rattle.pipeline_meaning.specs.declared.functions.NumberMapping.{NumberMapping}
-use Rattle.pipeline_meaning.specs.declared.functions.NumberMapping.TheVariants.{Add, Mul, Negate, Mod, Itself}
+use Rattle.pipeline_meaning.specs.declared.functions.NumberMapping.TheVariants.{Itself, Mod, Change}
 
 -- a remainder is below its divisor
 pub remainder-value : (x : ℤ) (n : ℕ) → 1 ≤ n → n < 2 ^ 63 → IsI64 (int_rem_euclid x (pos n))
@@ -26,11 +27,11 @@ remainder-value (pos a) n h k = let below = mod_below a n (omega arith) in (omeg
 remainder-value (negsuc a) n h k = (omega (arith, ints), omega (arith, ints))
 
 pub mapping_image-value : (f : NumberMapping) (x : ℤ) → IsI64 x → IsI64 (mapping_image f x)
-mapping_image-value (Add n) x h = wrapped-value (x +ℤ n)
-mapping_image-value (Mul n) x h = wrapped-value (x *ℤ n)
-mapping_image-value Negate x h = wrapped-value (neg_ℤ x)
-mapping_image-value (Mod d) x h = remainder-value x d.number d.least d.most
 mapping_image-value Itself x h = h
+mapping_image-value (Mod d) x h = remainder-value x d.number d.least d.most
+mapping_image-value (Change (Add n)) x h = wrapped-value (x +ℤ n)
+mapping_image-value (Change (Mul n)) x h = wrapped-value (x *ℤ n)
+mapping_image-value (Change Negate) x h = wrapped-value (neg_ℤ x)
 
 pub passage_image-value : (p : Passage) (x : ℤ) → IsI64 x → IsI64 (passage_image p x)
 passage_image-value p x h = by p.changes

@@ -4,7 +4,7 @@ ghost use Rattle.spliterator.specs.Values.{IsI64};
 ghost use Rattle.stages.specs.Operators.{IsAssociative};
 ghost use Rattle.stages.specs.Wrapping.{wrapped-value};
 ghost use Rattle.pipeline_meaning.specs.Functions.{number_image, number_holds, number_join, text_length, text_holds, text_join};
-ghost use Rattle.pipeline_meaning.specs.Prepared.{mapping_image, check_holds};
+ghost use Rattle.pipeline_meaning.specs.Prepared.{change_image, mapping_image, comparison_holds, check_holds};
 ghost use Rattle.pipeline_meaning.specs.PreparedLaws.{mapping_image-value, number_join-value, text_join-value};
 
 use crate::Divisor;
@@ -12,14 +12,33 @@ use pipeline_language::{NumberFunction, NumberMerge, NumberTest, TextMerge, Text
 use spliterator::{NoMemory, Text, Value};
 use stages::{Mapping, Operator, Test};
 
-/// What a number is mapped to.
+/// A sum, a product or the number's negative, each wrapped.
 #[derive(Clone, Copy, Debug)]
-pub enum NumberMapping {
+pub enum NumberChange {
     Add(i64),
     Mul(i64),
     Negate,
-    Mod(Divisor),
+}
+
+impl NumberChange {
+    fn image_of(&self, x: i64) -> i64
+        ensures { result ≡ change_image self.now x }
+    {
+        match self {
+            NumberChange::Add(n) => x.wrapping_add(*n),
+            NumberChange::Mul(n) => x.wrapping_mul(*n),
+            NumberChange::Negate => x.wrapping_neg(),
+        }
+    }
+}
+
+/// What a number is mapped to. No choice has more than three ways: four or more become a jump through a table, which costs some processors
+/// as much as the rest of an item.
+#[derive(Clone, Copy, Debug)]
+pub enum NumberMapping {
     Itself,
+    Mod(Divisor),
+    Change(NumberChange),
 }
 
 impl NumberMapping {
@@ -27,9 +46,9 @@ impl NumberMapping {
         ensures { ⟦<NumberMapping as Mapping<i64>>⟧.image result ≡ number_image function }
     {
         match function {
-            NumberFunction::Add(n) => NumberMapping::Add(n),
-            NumberFunction::Mul(n) => NumberMapping::Mul(n),
-            NumberFunction::Negate => NumberMapping::Negate,
+            NumberFunction::Add(n) => NumberMapping::Change(NumberChange::Add(n)),
+            NumberFunction::Mul(n) => NumberMapping::Change(NumberChange::Mul(n)),
+            NumberFunction::Negate => NumberMapping::Change(NumberChange::Negate),
             NumberFunction::Mod(n) => NumberMapping::Mod(Divisor::new(n)),
             NumberFunction::Itself => NumberMapping::Itself,
         }
@@ -39,11 +58,9 @@ impl NumberMapping {
         ensures { result ≡ mapping_image self.now x }
     {
         match self {
-            NumberMapping::Add(n) => x.wrapping_add(*n),
-            NumberMapping::Mul(n) => x.wrapping_mul(*n),
-            NumberMapping::Negate => x.wrapping_neg(),
-            NumberMapping::Mod(divisor) => divisor.remainder(x),
             NumberMapping::Itself => x,
+            NumberMapping::Mod(divisor) => divisor.remainder(x),
+            NumberMapping::Change(change) => change.image_of(x),
         }
     }
 }
@@ -92,13 +109,31 @@ impl<T: Value + Copy> Mapping<T> for Itself {
     }
 }
 
-/// What is asked of a number.
+/// A comparison with a number.
 #[derive(Clone, Copy, Debug)]
-pub enum NumberCheck {
+pub enum NumberComparison {
     Less(i64),
     Greater(i64),
     Equals(i64),
+}
+
+impl NumberComparison {
+    fn holds(&self, x: i64) -> bool
+        ensures { result ≡ comparison_holds self.now x }
+    {
+        match self {
+            NumberComparison::Less(n) => x < *n,
+            NumberComparison::Greater(n) => x > *n,
+            NumberComparison::Equals(n) => x == *n,
+        }
+    }
+}
+
+/// What is asked of a number.
+#[derive(Clone, Copy, Debug)]
+pub enum NumberCheck {
     Divisible(Divisor),
+    Comparison(NumberComparison),
 }
 
 impl NumberCheck {
@@ -106,9 +141,9 @@ impl NumberCheck {
         ensures { ⟦<NumberCheck as Test<i64>>⟧.holds result ≡ number_holds test }
     {
         match test {
-            NumberTest::Less(n) => NumberCheck::Less(n),
-            NumberTest::Greater(n) => NumberCheck::Greater(n),
-            NumberTest::Equals(n) => NumberCheck::Equals(n),
+            NumberTest::Less(n) => NumberCheck::Comparison(NumberComparison::Less(n)),
+            NumberTest::Greater(n) => NumberCheck::Comparison(NumberComparison::Greater(n)),
+            NumberTest::Equals(n) => NumberCheck::Comparison(NumberComparison::Equals(n)),
             NumberTest::Divisible(n) => NumberCheck::Divisible(Divisor::new(n)),
         }
     }
@@ -119,10 +154,8 @@ impl Test<i64> for NumberCheck {
 
     fn holds(&self, x: &i64) -> bool {
         match self {
-            NumberCheck::Less(n) => *x < *n,
-            NumberCheck::Greater(n) => *x > *n,
-            NumberCheck::Equals(n) => *x == *n,
             NumberCheck::Divisible(divisor) => divisor.divides(*x),
+            NumberCheck::Comparison(comparison) => comparison.holds(*x),
         }
     }
 }

@@ -21,7 +21,8 @@ mod written;
 pub use adapted::{Adapted, Adapting};
 pub use divisor::Divisor;
 pub use functions::{
-    Itself, NumberCheck, NumberMapping, NumberMerging, TextCheck, TextLength, TextMerging,
+    Itself, NumberChange, NumberCheck, NumberComparison, NumberMapping, NumberMerging, TextCheck,
+    TextLength, TextMerging,
 };
 pub use number_bases::{NumberBaseCollector, NumberBaseContainer, NumberBaseResult, number_base};
 pub use number_steps::NumberSteps;

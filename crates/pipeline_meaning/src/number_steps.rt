@@ -20,13 +20,19 @@ use spliterator::NoMemory;
 use stages::{Filter, Map, Mapping, Operation, Sink, Stage, Test, Then};
 use std::alloc::Global;
 
-/// One stage, prepared.
+/// A function or a test.
+#[derive(Clone, Copy, Debug)]
+enum PlainStep {
+    Map(NumberMapping),
+    Filter(NumberCheck),
+}
+
+/// One stage, prepared: one of three, since a choice of more becomes a jump through a table.
 #[derive(Clone, Copy, Debug)]
 enum NumberStep {
     // products, sums and bounds
     Pass(Passage),
-    Map(NumberMapping),
-    Filter(NumberCheck),
+    Plain(PlainStep),
     Repeat(u64),
 }
 
@@ -52,7 +58,7 @@ impl NumberStep {
     {
         match Passage::of_function(function) {
             Some(passage) => NumberStep::Pass(passage),
-            None => NumberStep::Map(NumberMapping::of(function)),
+            None => NumberStep::Plain(PlainStep::Map(NumberMapping::of(function))),
         }
     }
 
@@ -61,7 +67,7 @@ impl NumberStep {
     {
         match Passage::of_test(test) {
             Some(passage) => NumberStep::Pass(passage),
-            None => NumberStep::Filter(NumberCheck::of(test)),
+            None => NumberStep::Plain(PlainStep::Filter(NumberCheck::of(test))),
         }
     }
 
@@ -70,8 +76,8 @@ impl NumberStep {
     {
         match self {
             NumberStep::Pass(passage) => passage.keeps_all(),
-            NumberStep::Map(_) => true,
-            NumberStep::Filter(_) | NumberStep::Repeat(_) => false,
+            NumberStep::Plain(PlainStep::Map(_)) => true,
+            NumberStep::Plain(PlainStep::Filter(_)) | NumberStep::Repeat(_) => false,
         }
     }
 
@@ -90,11 +96,11 @@ impl NumberStep {
     {
         match *self {
             NumberStep::Pass(second) => Some(NumberWalk::Passages(Then::new(first, second))),
-            NumberStep::Map(NumberMapping::Mod(divisor)) => {
+            NumberStep::Plain(PlainStep::Map(NumberMapping::Mod(divisor))) => {
                 let remainder = Map::new(Remainder { divisor });
                 Some(NumberWalk::Remainders(Then::new(first, remainder)))
             }
-            NumberStep::Filter(NumberCheck::Divisible(divisor)) => {
+            NumberStep::Plain(PlainStep::Filter(NumberCheck::Divisible(divisor))) => {
                 let multiple = Filter::new(IsMultiple { divisor });
                 Some(NumberWalk::Multiples(Then::new(first, multiple)))
             }
@@ -209,12 +215,14 @@ fn walk(steps: &[NumberStep], x: i64) -> Walked<'_>
                     return Walked::Dropped;
                 }
             }
-            NumberStep::Map(mapping) => number = mapping.image_of(number),
-            NumberStep::Filter(check) => {
-                if !check.holds(&number) {
-                    return Walked::Dropped;
+            NumberStep::Plain(plain) => match plain {
+                PlainStep::Map(mapping) => number = mapping.image_of(number),
+                PlainStep::Filter(check) => {
+                    if !check.holds(&number) {
+                        return Walked::Dropped;
+                    }
                 }
-            }
+            },
             NumberStep::Repeat(n) => return Walked::Copied(*n, number, &steps[place + 1..]),
         }
     }

@@ -1,6 +1,6 @@
 use Rattle.std.proofs.Common.{rules}
 use Rattle.std.proofs.lemmas.Int.{wraps}
-use Rattle.pipeline_meaning.proofs.functions.NumberMapping.image_of.Goals as goal
+use Rattle.pipeline_meaning.proofs.functions.NumberChange.image_of.Goals as goal
 
 pub returns-in-Add : goal.returns-in-Add
 returns-in-Add c = search (rules, wraps)
