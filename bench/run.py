@@ -5,8 +5,9 @@
 
 The machine is shared and noisy, so a case and its peers take turns of two seconds each, the best run of each counts, and only ratios are
 told. `bench/FOLDER/cases.py` names the cases of a layer; a peer is a Rust file beside it, built by `rustc -O`, a Java file, built by
-`javac`, or a line of awk. Ours is always the whole process. Only a warmed Java program tells its own time: that of its best round,
-without the start of its machine. A case that the program refuses is told as such. The program has to be built before (`rt run` in
+`javac`, or a line of awk. Ours is the whole process. Only a warmed Java program tells its own time: that of its best round, without the
+start of its machine. Beside it ours is told twice: the whole process, and, with the limit, without the start of a process, which is
+what `true` takes in the same run. A case that the program refuses is told as such. The program has to be built before (`rt run` in
 crates/pstream). The status is 1 where a ratio lies above its limit, or a case is refused.
 """
 
@@ -123,6 +124,13 @@ def best_times(case, turns):
     return min(ours), [min(times) for times in peers]
 
 
+def told_ratios(peer, ours, theirs, start):
+    """What is told of a peer: names and ratios, of which the last is held to the limit."""
+    yield peer.name, ours / theirs
+    if peer.tells_time:
+        yield f"{peer.name}, without the start of a process", (ours - start) / theirs
+
+
 def refusal(case):
     """What the program says of a case that it can't do."""
     done = subprocess.run(case.ours, capture_output=True)
@@ -146,12 +154,16 @@ def main():
             print(f"{case.name}: today's program refuses it: {refused}", flush=True)
             continue
         ours, peers = best_times(case, options.turns)
+        start, _ = take_turn(["true"])
         for peer, time_taken in zip(case.peers, peers):
-            found = ours / time_taken
+            ratios = list(told_ratios(peer, ours, time_taken, start))
+            for name, found in ratios[:-1]:
+                print(f"{case.name}: {found:.3g} times {name}", flush=True)
+            name, found = ratios[-1]
             above = peer.limit is not None and found > peer.limit
             missed += above
             limit = "" if peer.limit is None else f" (at most {peer.limit}{', MISSED' if above else ''})"
-            print(f"{case.name}: {found:.3g} times {peer.name}{limit}", flush=True)
+            print(f"{case.name}: {found:.3g} times {name}{limit}", flush=True)
     sys.exit(1 if missed else 0)
 
 
