@@ -10,7 +10,7 @@ use std::hash::{BuildHasher, Hash};
 #[derive(Drop)]
 pub struct Groups<K: Eq + Hash, A, S: BuildHasher> {
     pub(crate) entries: IndexMap<K, A, S>,
-    // Where the last item's group stands. No result depends on it.
+    // No result depends on it.
     pub(crate) last: usize,
 }
 
@@ -35,7 +35,7 @@ impl<K: Eq + Hash, A, S: BuildHasher> Groups<K, A, S> {
         }
     }
 
-    /// The place behind the last item's group, which is the first one behind the end.
+    /// The place behind the last item's group. Behind the end it is the first one.
     fn next(&self) -> usize {
         let next = self.last.saturating_add(1);
         if next < self.entries.len() { next } else { 0 }
