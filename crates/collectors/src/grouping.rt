@@ -5,6 +5,7 @@ ghost use Rattle.collectors.specs.GroupingLaws.{grouping_laws};
 
 use crate::Collector;
 use crate::collector::LIGHT_ENTRIES;
+use crate::groups::Groups;
 use indexmap::IndexMap;
 use spliterator::NoMemory;
 use stages::Mapping;
@@ -57,7 +58,7 @@ where
 {
     type Item = D::Item;
 
-    type Acc = IndexMap<K::Out, D::Acc, S>;
+    type Acc = Groups<K::Out, D::Acc, S>;
 
     type Out = IndexMap<K::Out, D::Out, S>;
 
@@ -65,7 +66,7 @@ where
 
     ghost Content = { List (K.Out.Content × D.Content) };
 
-    ghost content = { λ c m. contents K.Out.content (D.content c.downstream) m.entries };
+    ghost content = { λ c m. contents K.Out.content (D.content c.downstream) m.entries.entries };
 
     ghost empty = { λ _. [] };
 
@@ -77,35 +78,34 @@ where
 
     ghost laws = { λ c. grouping_laws K.Out.same K.Out.same_decides (K.image c.key) D.Item.is_value (D.empty c.downstream) (D.add c.downstream) (D.merge c.downstream) (D.laws c.downstream) };
 
-    fn supply(&self) -> Result<IndexMap<K::Out, D::Acc, S>, NoMemory> {
-        Ok(IndexMap::with_hasher(self.alloc, self.hash_builder))
+    fn supply(&self) -> Result<Groups<K::Out, D::Acc, S>, NoMemory> {
+        Ok(Groups::new(self.alloc, self.hash_builder))
     }
 
-    fn accumulate(
-        &self,
-        acc: &mut IndexMap<K::Out, D::Acc, S>,
-        x: &D::Item,
-    ) -> Result<(), NoMemory> {
+    fn accumulate(&self, acc: &mut Groups<K::Out, D::Acc, S>, x: &D::Item) -> Result<(), NoMemory> {
         let key = self.key.image(x)?;
-        if let Some(kept) = acc.get_mut(&key) {
+        if let Some(at) = acc.place_of(&key) {
+            acc.last = at;
+            let kept = acc.entries.get_index_mut(at).unwrap();
             return self.downstream.accumulate(kept, x);
         }
         let mut kept = self.downstream.supply()?;
         self.downstream.accumulate(&mut kept, x)?;
-        acc.insert(key, kept)?;
+        acc.last = acc.entries.len();
+        acc.entries.insert(key, kept)?;
         Ok(())
     }
 
     fn combine(
         &self,
-        left: &mut IndexMap<K::Out, D::Acc, S>,
-        right: IndexMap<K::Out, D::Acc, S>,
+        left: &mut Groups<K::Out, D::Acc, S>,
+        right: Groups<K::Out, D::Acc, S>,
     ) -> Result<(), NoMemory> {
-        for (key, kept) in right {
-            match left.get_mut(&key) {
+        for (key, kept) in right.entries {
+            match left.entries.get_mut(&key) {
                 Some(earlier) => self.downstream.combine(earlier, kept)?,
                 None => {
-                    left.insert(key, kept)?;
+                    left.entries.insert(key, kept)?;
                 }
             }
         }
@@ -114,17 +114,21 @@ where
 
     fn finish(
         &self,
-        acc: IndexMap<K::Out, D::Acc, S>,
+        acc: Groups<K::Out, D::Acc, S>,
     ) -> Result<IndexMap<K::Out, D::Out, S>, NoMemory> {
         let mut results = IndexMap::with_hasher(self.alloc, self.hash_builder);
-        for (key, kept) in acc {
+        for (key, kept) in acc.entries {
             let result = self.downstream.finish(kept)?;
             results.insert(key, result)?;
         }
         Ok(results)
     }
 
-    fn is_light(&self, acc: &IndexMap<K::Out, D::Acc, S>) -> bool {
-        acc.len() <= LIGHT_ENTRIES && acc.iter().all(|(_, kept)| self.downstream.is_light(kept))
+    fn is_light(&self, acc: &Groups<K::Out, D::Acc, S>) -> bool {
+        let entries = &acc.entries;
+        entries.len() <= LIGHT_ENTRIES
+            && entries
+                .iter()
+                .all(|(_, kept)| self.downstream.is_light(kept))
     }
 }

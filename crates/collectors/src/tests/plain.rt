@@ -98,6 +98,37 @@ fn groups_stand_by_their_first_item(rt: HostRuntime) -> Result<(), Fail> {
 }
 
 #[test]
+fn groups_of_repeated_sorted_and_shuffled_keys(rt: HostRuntime) -> Result<(), Fail> {
+    let alloc = rt.alloc();
+    let lists = GroupingBy::new(alloc, Modulo::new(3), ToList::<i64>::new(alloc));
+    let repeated = [1, 2, 3, 4, 5, 6, 7];
+    check(
+        &rt,
+        alloc,
+        &lists,
+        &repeated,
+        "{1=[1, 4, 7], 2=[2, 5], 0=[3, 6]}",
+    )?;
+    let sorted = [0, 3, 6, 1, 4, 2, 5];
+    check(
+        &rt,
+        alloc,
+        &lists,
+        &sorted,
+        "{0=[0, 3, 6], 1=[1, 4], 2=[2, 5]}",
+    )?;
+    let shuffled = [2, 4, 3, 5, 8, 6, 1, 9, 7];
+    check(
+        &rt,
+        alloc,
+        &lists,
+        &shuffled,
+        "{2=[2, 5, 8], 1=[4, 1, 7], 0=[3, 6, 9]}",
+    )?;
+    Ok(())
+}
+
+#[test]
 fn groups_by_random_hashes(rt: HostRuntime) -> Result<(), Fail> {
     let alloc = rt.alloc();
     let hashes = RandomState::new(&rt)?;
