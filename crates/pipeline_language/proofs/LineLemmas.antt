@@ -9,7 +9,7 @@ use Rattle.std.proofs.lemmas.List.Sums.{count_by-le-length}
 use Rattle.std.proofs.lemmas.List.Splits.{slice_split_none, slice_split_at, length-slice_split}
 use Rattle.std.specs.Prelude.{IsUtf8}
 use Rattle.std.specs.Str.{IsCharBoundary}
-use Rattle.std.proofs.lemmas.Str.{IsUtf8-drop, IsCharBoundary-before_ascii, IsCharBoundary-after_ascii}
+use Rattle.std.proofs.lemmas.Str.{IsUtf8-drop, IsUtf8-take, IsCharBoundary-before_ascii, IsCharBoundary-after_ascii}
 use Rattle.pipeline_language.specs.Words.{lines_of, without_empty_last}
 use Rattle.memchr.specs.Find.{Nowhere, NoneBefore, Passes, is_byte}
 
@@ -73,6 +73,14 @@ cut_is_boundary bytes behind end text first back =
     let some : 0 < length behind = omega (arith, first.0.high, ap length back, length-drop end bytes) in
     let head : get_or behind 0 0 ≡ get_or bytes (end + 0) 0 = ap (λ l. get_or l 0 0) back ∙ get_or-drop end bytes 0 0 in
     IsCharBoundary-after_ascii behind 0 rest some (omega (arith, head ∙ ap (λ n. get_or bytes n 0) (plus_zero end), byte))
+
+-- what is cut there is text
+pub cut_is_text : (bytes line behind rest : List ℕ) (end : ℕ) → IsUtf8 bytes → first_end end bytes → line ≡ take end bytes → behind ≡ drop end bytes → rest ≡ drop 1 behind → IsUtf8 line × IsUtf8 rest
+cut_is_text bytes line behind rest end text first front back left =
+    let byte : slice_index bytes end ≡ 10 = eqb-true _ _ first.1 in
+    let bound = IsCharBoundary-before_ascii bytes end first.0.high (omega (arith, byte)) in
+    let later : IsUtf8 behind = subst IsUtf8 (sym back) (IsUtf8-drop bytes end text bound) in
+    (subst IsUtf8 (sym front) (IsUtf8-take bytes end text bound), subst IsUtf8 (sym left) (IsUtf8-drop behind 1 later (cut_is_boundary bytes behind end text first back)))
 
 -- a file has no more lines than bytes, and one
 fewer : (pieces : List (List ℕ)) → length (without_empty_last pieces) ≤ length pieces

@@ -1,6 +1,7 @@
 -- The loops over the lines of a file: what was read, and what is left.
 use Rattle.std.proofs.Common.{◌≡◌, ℕ, zero, suc, ◌+◌, ◌-◌, ◌<◌, Bool, true, false, List, [], ◌∷◌, ◌++◌, drop, map, Result, Ok, Err, refl, sym, ap, ◌∙◌, arith, cond}
 use Rattle.std.specs.Str.{is_utf8}
+use Rattle.std.proofs.lemmas.Bool.{cond-true}
 use Rattle.std.proofs.lemmas.List.{append-nil, append_assoc, map-append}
 use Rattle.pipeline_language.specs.declared.fault.FileError.TheVariants.{BadText, MissingTerminal}
 use Rattle.pipeline_language.specs.declared.fault.FileFault.{FileFault}
@@ -197,3 +198,12 @@ texts_more f items pushed text count index lines left whole less push rest is fo
     ∙ ap (λ ts. with_texts ts (texts_from (count - (index + 1)) ((index + 3) + 1) (drop 1 lines))) (sym (map-append f items (text ∷ [])) ∙ ap (map f) (sym push))
     ∙ ap (λ n. with_texts (map f pushed) (texts_from (count - (index + 1)) n (drop 1 lines))) number
     ∙ ap (λ ls. with_texts (map f pushed) (texts_from (count - (index + 1)) ((index + 1) + 3) ls)) (sym rest)
+
+-- the first text of lines that are text
+pub text_found : (n : ℕ) (lines left : List (List ℕ)) (text : List ℕ) → is_utf8 text ≡ true → lines ≡ text ∷ left → first_text n lines ≡ Ok text
+unfolding first_text
+text_found n lines left text is whole = ap (first_text n) whole ∙ cond-true (is_utf8 text) (Ok text) (Err (not_text n)) is
+
+pub no_text_found : (n : ℕ) (lines : List (List ℕ)) → lines ≡ [] → first_text n lines ≡ Err (no_line n)
+unfolding first_text
+no_text_found n lines none = ap (first_text n) none

@@ -1,6 +1,6 @@
 //! Lines of a file and words of a line.
 
-ghost use Rattle.std.specs.Prelude.{◌≡◌, ◌≤◌, ◌+◌, ◌∷◌, [], ℕ, List, length, IfOk, map, MatchOption, MatchResult, true, false};
+ghost use Rattle.std.specs.Prelude.{◌≡◌, ◌≤◌, ◌+◌, ◌∷◌, [], ℕ, List, length, IfOk, IfSome, IsUtf8, map, MatchOption, MatchResult, true, false};
 ghost use Rattle.std.specs.Str.{is_utf8};
 ghost use Rattle.pipeline_language.specs.Pieces.{piece_bytes};
 ghost use Rattle.pipeline_language.specs.Words.{lines_of, words_of};
@@ -79,6 +79,25 @@ impl<'a> Lines<'a> {
         }
     }
 
+    /// The lines of a text.
+    pub(crate) fn of_text(text: &'a str) -> Lines<'a>
+        ensures { result ≡ lines_of text.now }
+    {
+        Lines {
+            rest: Piece::Text(text),
+        }
+    }
+
+    /// What is left of a file that is text.
+    pub(crate) fn text(&self) -> Option<&'a str>
+        ensures { IfSome result (λ text. lines_of text.now ≡ self.now) }
+    {
+        match self.rest {
+            Piece::Text(text) => Some(text),
+            Piece::Bytes(_) => None,
+        }
+    }
+
     pub(crate) fn next(&mut self) -> Option<Piece<'a>>
         ensures { MatchOption result ((self.old ≡ []) × (self.new ≡ [])) (λ line. self.old ≡ piece_bytes line ∷ self.new) }
     {
@@ -98,8 +117,9 @@ impl<'a> Lines<'a> {
 }
 
 /// The first line of a text, and what stands behind its end.
-fn first_of_text(text: &str) -> Option<(&str, &str)>
-    ensures { MatchOption result (lines_of text.now ≡ []) (λ p. lines_of text.now ≡ p.0.now ∷ lines_of p.1.now) }
+pub(crate) fn first_of_text(text: &str) -> Option<(&str, &str)>
+    ensures text { IfSome result (λ p. IsUtf8 p.0.now × IsUtf8 p.1.now) }
+    ensures line { MatchOption result (lines_of text.now ≡ []) (λ p. lines_of text.now ≡ p.0.now ∷ lines_of p.1.now) }
 {
     if text.is_empty() {
         return None;

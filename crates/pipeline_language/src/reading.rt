@@ -10,10 +10,11 @@ ghost use Rattle.pipeline_language.specs.Pieces.{piece_bytes};
 ghost use Rattle.pipeline_language.specs.Reading.{line_of};
 ghost use Rattle.pipeline_language.specs.Syntax.{NumberKind, Program, TextKind, bodies, origins};
 ghost use Rattle.pipeline_language.specs.SyntaxReading.{body_of, origin_words};
+ghost use Rattle.pipeline_language.specs.Words.{lines_of};
 
 use crate::fault::{FileError, FileFault, LineError, ReadError};
 use crate::kinds::{NumberLine, TextLine, number_line, text_line};
-use crate::lines::{Lines, Piece, words};
+use crate::lines::{Lines, Piece, first_of_text, words};
 use crate::pipeline::{NumberBody, NumberSource, Pipeline, TextBody, TextEnd};
 use crate::syntax::read_body;
 use crate::version::Version;
@@ -151,9 +152,49 @@ fn read_texts<'a>(
     ensures taken { IfOk result (λ texts. length texts.items + length lines.new ≡ length lines.old) }
     ensures number { IfOk result (λ texts. length texts.items ≡ count) }
 {
-    let mut texts = Vec::new(alloc);
+    let Some(text) = lines.text() else {
+        return read_tested(alloc, lines, count);
+    };
+    let (texts, rest) = cut_texts(alloc, text, count)?;
+    *lines = Lines::of_text(rest);
+    Ok(texts)
+}
+
+/// The first `count` lines of a text, which stand behind the second line of the file, and what is left. Each line has a byte at least, so
+/// that the room is for no more than the text can hold.
+#[inline(never)]
+fn cut_texts(alloc: Global, text: &str, count: u64) -> Result<(Vec<&str>, &str), ReadError>
+    requires { length (lines_of text.now) < 2 ^ 32 }
+    ensures texts { Reads (λ cut. (map (λ text. text.now) cut.0.items, lines_of cut.1.now)) result (texts_from count 3 (lines_of text.now)) }
+    ensures taken { IfOk result (λ cut. length cut.0.items + length (lines_of cut.1.now) ≡ length (lines_of text.now)) }
+    ensures number { IfOk result (λ cut. length cut.0.items ≡ count) }
+{
+    let mut texts = Vec::with_capacity(alloc, text.len().min(count as usize))?;
+    let mut rest = text;
     for index in 0..count {
-        texts.push(first_text(lines, index + 3)?)?;
+        let Some((line, behind)) = first_of_text(rest) else {
+            return Err(LineError::Fault(FileError::MissingTerminal).at(index + 3));
+        };
+        texts.push(line)?;
+        rest = behind;
+    }
+    Ok((texts, rest))
+}
+
+/// The same as `read_texts`, where each line is tested.
+fn read_tested<'a>(
+    alloc: Global,
+    lines: &mut Lines<'a>,
+    count: u64,
+) -> Result<Vec<&'a str>, ReadError>
+    requires { length lines.old < 2 ^ 32 }
+    ensures texts { Reads (λ texts. (map (λ text. text.now) texts.items, lines.new)) result (texts_from count 3 lines.old) }
+    ensures taken { IfOk result (λ texts. length texts.items + length lines.new ≡ length lines.old) }
+    ensures number { IfOk result (λ texts. length texts.items ≡ count) }
+{
+    let mut texts = Vec::new(alloc);
+    for before in 0..count {
+        texts.push(first_text(lines, before + 3)?)?;
     }
     Ok(texts)
 }
