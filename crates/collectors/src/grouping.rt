@@ -1,5 +1,5 @@
 //! Grouping.
-ghost use Rattle.std.specs.Prelude.{◌≡◌, List, []};
+ghost use Rattle.std.specs.Prelude.{◌≡◌, List, [], IfOk};
 ghost use Rattle.collectors.specs.Grouping.{group_add, group_merge, contents, IsGrouping};
 ghost use Rattle.collectors.specs.GroupingLaws.{grouping_laws};
 
@@ -52,6 +52,18 @@ impl<K, D, S> GroupingBy<K, D, S> {
     }
 }
 
+/// What is kept of a group's first item. Few items are first ones, and the loop over the others is shorter without this.
+#[cold]
+#[inline(never)]
+fn first_kept<D: Collector>(downstream: &D, x: &D::Item) -> Result<D::Acc, NoMemory>
+    requires { D.ready downstream.now }
+    ensures { IfOk result (λ kept. D.content downstream.now kept ≡ D.add downstream.now (D.empty downstream.now) (D.Item.content x.now)) }
+{
+    let mut kept = downstream.supply()?;
+    downstream.accumulate(&mut kept, x)?;
+    Ok(kept)
+}
+
 impl<D: Collector, K: Mapping<D::Item>, S: BuildHasher + Copy> Collector for GroupingBy<K, D, S>
 where
     K::Out: Hash + Drop,
@@ -89,8 +101,7 @@ where
             let kept = acc.entries.get_index_mut(at).unwrap();
             return self.downstream.accumulate(kept, x);
         }
-        let mut kept = self.downstream.supply()?;
-        self.downstream.accumulate(&mut kept, x)?;
+        let kept = first_kept(&self.downstream, x)?;
         acc.last = acc.entries.len();
         acc.entries.insert(key, kept)?;
         Ok(())
