@@ -97,12 +97,14 @@ where
     fn accumulate(&self, acc: &mut Groups<K::Out, D::Acc, S>, x: &D::Item) -> Result<(), NoMemory> {
         let key = self.key.image(x)?;
         if let Some(at) = acc.place_of(&key) {
+            acc.expected = acc.expected_behind(at);
             acc.last = at;
             let kept = acc.entries.get_index_mut(at).unwrap();
             return self.downstream.accumulate(kept, x);
         }
         let kept = first_kept(&self.downstream, x)?;
         acc.last = acc.entries.len();
+        acc.expected = 0;
         acc.entries.insert(key, kept)?;
         Ok(())
     }

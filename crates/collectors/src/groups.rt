@@ -6,12 +6,13 @@ use indexmap::IndexMap;
 use std::alloc::Global;
 use std::hash::{BuildHasher, Hash};
 
-/// What is kept for each key, and where the last item's group stands.
+/// What is kept for each key, where the last item's group stands, and where the next one's is expected.
 #[derive(Drop)]
 pub struct Groups<K: Eq + Hash, A, S: BuildHasher> {
     pub(crate) entries: IndexMap<K, A, S>,
-    // No result depends on it.
+    // No result depends on these two.
     pub(crate) last: usize,
+    pub(crate) expected: usize,
 }
 
 impl<K: Eq + Hash, A, S: BuildHasher> Groups<K, A, S> {
@@ -22,6 +23,7 @@ impl<K: Eq + Hash, A, S: BuildHasher> Groups<K, A, S> {
         Groups {
             entries: IndexMap::with_hasher(alloc, hash_builder),
             last: 0,
+            expected: 0,
         }
     }
 
@@ -35,25 +37,32 @@ impl<K: Eq + Hash, A, S: BuildHasher> Groups<K, A, S> {
         }
     }
 
-    /// The place behind the last item's group. Behind the end it is the first one.
-    fn next(&self) -> usize {
-        let next = self.last.saturating_add(1);
+    /// The place behind another. Behind the end it is the first one.
+    fn behind(&self, at: usize) -> usize {
+        let next = at.saturating_add(1);
         if next < self.entries.len() { next } else { 0 }
     }
 
-    /// The place of a key's group.
+    /// Where the group of the item behind one at `at` is expected.
     ///
-    /// Items often come in a repeating order of keys, as the remainders of a range do, or in runs of one key, as sorted items do. So a key is
-    /// compared to that of the group behind the last item's and to that of the last item's, and hashed only where both are others.
+    /// Items often come in a repeating order of keys, as the remainders of a range do, or in runs of one key, as sorted items do. Where they
+    /// just did neither, no place is expected, so that scattered keys cost no comparison.
+    pub(crate) fn expected_behind(&self, at: usize) -> usize {
+        if at == self.behind(self.last) {
+            self.behind(at)
+        } else if at == self.last {
+            at
+        } else {
+            usize::MAX
+        }
+    }
+
+    /// The place of a key's group, which is hashed only where another key's group stands at the expected place.
     pub(crate) fn place_of(&self, key: &K) -> Option<usize>
         ensures { result ≡ index_of K.eq self.now.entries key.now }
     {
-        let next = self.next();
-        if self.stands_at(next, key) {
-            return Some(next);
-        }
-        if self.stands_at(self.last, key) {
-            return Some(self.last);
+        if self.stands_at(self.expected, key) {
+            return Some(self.expected);
         }
         self.entries.get_index_of(key)
     }
