@@ -104,7 +104,7 @@ where
         }
         let kept = first_kept(&self.downstream, x)?;
         acc.last = acc.entries.len();
-        acc.expected = 0;
+        acc.expected = Some(0);
         acc.entries.insert(key, kept)?;
         Ok(())
     }

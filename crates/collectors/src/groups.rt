@@ -12,7 +12,7 @@ pub struct Groups<K: Eq + Hash, A, S: BuildHasher> {
     pub(crate) entries: IndexMap<K, A, S>,
     // No result depends on these two.
     pub(crate) last: usize,
-    pub(crate) expected: usize,
+    pub(crate) expected: Option<usize>,
 }
 
 impl<K: Eq + Hash, A, S: BuildHasher> Groups<K, A, S> {
@@ -23,7 +23,7 @@ impl<K: Eq + Hash, A, S: BuildHasher> Groups<K, A, S> {
         Groups {
             entries: IndexMap::with_hasher(alloc, hash_builder),
             last: 0,
-            expected: 0,
+            expected: None,
         }
     }
 
@@ -47,13 +47,13 @@ impl<K: Eq + Hash, A, S: BuildHasher> Groups<K, A, S> {
     ///
     /// Items often come in a repeating order of keys, as the remainders of a range do, or in runs of one key, as sorted items do. Where they
     /// just did neither, no place is expected, so that scattered keys cost no comparison.
-    pub(crate) fn expected_behind(&self, at: usize) -> usize {
+    pub(crate) fn expected_behind(&self, at: usize) -> Option<usize> {
         if at == self.behind(self.last) {
-            self.behind(at)
+            Some(self.behind(at))
         } else if at == self.last {
-            at
+            Some(at)
         } else {
-            usize::MAX
+            None
         }
     }
 
@@ -61,8 +61,10 @@ impl<K: Eq + Hash, A, S: BuildHasher> Groups<K, A, S> {
     pub(crate) fn place_of(&self, key: &K) -> Option<usize>
         ensures { result ≡ index_of K.eq self.now.entries key.now }
     {
-        if self.stands_at(self.expected, key) {
-            return Some(self.expected);
+        if let Some(at) = self.expected
+            && self.stands_at(at, key)
+        {
+            return Some(at);
         }
         self.entries.get_index_of(key)
     }
