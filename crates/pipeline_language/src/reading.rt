@@ -161,7 +161,7 @@ fn read_texts<'a>(
 }
 
 /// The first `count` lines of a text, which stand behind the second line of the file, and what is left. Each line has a byte at least, so
-/// that the room is for no more than the text can hold.
+/// that the room is for no more than the text can hold. It isn't inlined, which leaves its loop registers enough.
 #[inline(never)]
 fn cut_texts(alloc: Global, text: &str, count: u64) -> Result<(Vec<&str>, &str), ReadError>
     requires { length (lines_of text.now) < 2 ^ 32 }
