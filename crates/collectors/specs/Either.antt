@@ -1,10 +1,9 @@
 -- A collector of one of two types. A container is seen on the collector's own side; one of the other side, which no run makes, is
 -- seen as nothing, and stays as it is.
-use Rattle.std.specs.Prelude.{◌≡◌, List, [], ◌∷◌, fold, All, refl, Option, Some, None}
+use Rattle.std.specs.Prelude.{◌≡◌, List, [], ◌∷◌, fold, refl, Option, Some, None}
 use Rattle.std.proofs.Common.{ap, ap₂, sym, ◌∙◌}
 use Rattle.either.specs.declared.Either.{Either}
 use Rattle.either.specs.declared.Either.TheVariants.{Left, Right}
-use Rattle.either.specs.Either.{either}
 use Rattle.collectors.specs.Laws.{CollectorLaws}
 
 module _ {C D : Type 0} where
