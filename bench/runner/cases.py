@@ -82,6 +82,7 @@ def line_case(tools):
     peers = [
         tools.Peer("Java's warmed best", [*java, "warm", "lines", file], limit=1, tells_time=True),
         tools.Peer("Java's whole process", [*java, "cold", "lines", file]),
+        tools.Peer("Rust threads by hand", [tools.rust(HERE / "peer_lines.rs"), file, str(WORKERS)]),
         tools.Peer("awk", ["awk", program, file]),
     ]
     yield tools.Case("a megabyte of lines grouped by length", [tools.pstream, file, "--workers", str(WORKERS)], peers)

@@ -1,25 +1,12 @@
 //! The same sums by plain Rust loops.
-use std::io::{self, BufRead};
-use std::time::Instant;
+#[path = "../loops.rs"]
+mod loops;
 
-fn measure(name: &str, feed: impl FnOnce() -> i64) {
-    let start = Instant::now();
-    let value = feed();
-    println!("{name} {} {value} true", start.elapsed().as_nanos());
-}
+use loops::{measure, report_lines, sum_below};
 
 fn report(count: i64, factor: i64, summand: i64) {
     let half = count / 2;
-    measure("map_filter_sum", || {
-        let mut sum: i64 = 0;
-        for number in 0..count {
-            let image = number.wrapping_mul(factor);
-            if image < count {
-                sum = sum.wrapping_add(image);
-            }
-        }
-        sum
-    });
+    measure("map_filter_sum", || sum_below(count, factor));
     measure("four_stages_sum", || {
         let mut sum: i64 = 0;
         for number in 0..count {
@@ -59,11 +46,5 @@ fn report(count: i64, factor: i64, summand: i64) {
 }
 
 fn main() {
-    for line in io::stdin().lock().lines() {
-        let line = line.unwrap();
-        let mut words = line.split(' ').map(|word| word.parse().unwrap_or(0));
-        let mut next = || words.next().unwrap_or(0);
-        let (count, factor, summand) = (next(), next(), next());
-        report(count, factor, summand);
-    }
+    report_lines(report);
 }

@@ -1,24 +1,11 @@
 //! The same sums by plain Rust loops.
-use std::io::{self, BufRead};
-use std::time::Instant;
+#[path = "../loops.rs"]
+mod loops;
 
-fn measure(name: &str, feed: impl FnOnce() -> i64) {
-    let start = Instant::now();
-    let value = feed();
-    println!("{name} {} {value} true", start.elapsed().as_nanos());
-}
+use loops::{measure, report_lines, sum_below};
 
 fn report(count: i64, factor: i64, divisor: i64) {
-    measure("times_below", || {
-        let mut sum: i64 = 0;
-        for number in 0..count {
-            let image = number.wrapping_mul(factor);
-            if image < count {
-                sum = sum.wrapping_add(image);
-            }
-        }
-        sum
-    });
+    measure("times_below", || sum_below(count, factor));
     measure("times_divisible", || {
         let mut sum: i64 = 0;
         for number in 0..count {
@@ -52,11 +39,5 @@ fn report(count: i64, factor: i64, divisor: i64) {
 }
 
 fn main() {
-    for line in io::stdin().lock().lines() {
-        let line = line.unwrap();
-        let mut words = line.split(' ').map(|word| word.parse().unwrap_or(0));
-        let mut next = || words.next().unwrap_or(0);
-        let (count, factor, divisor) = (next(), next(), next());
-        report(count, factor, divisor);
-    }
+    report_lines(report);
 }
