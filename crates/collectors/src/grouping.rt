@@ -1,13 +1,14 @@
 //! Grouping.
-ghost use Rattle.std.specs.Prelude.{◌≡◌, List, [], IfOk};
-ghost use Rattle.collectors.specs.Grouping.{group_add, group_merge, contents, IsGrouping};
+ghost use Rattle.std.specs.Prelude.{◌≡◌, List, [], None, OnOk};
+ghost use Rattle.indexmap.specs.IndexMap.{index_of};
+ghost use Rattle.collectors.specs.Grouping.{group_add, group_merge, put, contents, IsGrouping};
 ghost use Rattle.collectors.specs.GroupingLaws.{grouping_laws};
 
 use crate::Collector;
 use crate::collector::LIGHT_ENTRIES;
 use crate::groups::Groups;
 use indexmap::IndexMap;
-use spliterator::NoMemory;
+use spliterator::{NoMemory, Value};
 use stages::Mapping;
 use std::alloc::Global;
 use std::hash::{BuildHasher, BuildHasherDefault, FoldHasher, Hash};
@@ -52,16 +53,25 @@ impl<K, D, S> GroupingBy<K, D, S> {
     }
 }
 
-/// What is kept of a group's first item. Few items are first ones, and the loop over the others is shorter without this.
+/// Takes in the first item of a group. Few items are first ones, and the loop over the others is shorter without this.
 #[cold]
 #[inline(never)]
-fn first_kept<D: Collector>(downstream: &D, x: &D::Item) -> Result<D::Acc, NoMemory>
-    requires { D.ready downstream.now }
-    ensures { IfOk result (λ kept. D.content downstream.now kept ≡ D.add downstream.now (D.empty downstream.now) (D.Item.content x.now)) }
+fn add_group<K: Value + Hash + Drop, D: Collector, S: BuildHasher>(
+    downstream: &D,
+    groups: &mut Groups<K, D::Acc, S>,
+    key: K,
+    x: &D::Item,
+) -> Result<(), NoMemory>
+    requires ready { D.ready downstream.now }
+    requires absent { index_of K.eq groups.now.entries key ≡ None }
+    ensures { OnOk result (contents K.content (D.content downstream.now) groups.new.entries.entries ≡ put K.same (K.content key) (D.add downstream.now (D.empty downstream.now) (D.Item.content x.now)) (λ a. D.add downstream.now a (D.Item.content x.now)) (contents K.content (D.content downstream.now) groups.old.entries.entries)) }
 {
     let mut kept = downstream.supply()?;
     downstream.accumulate(&mut kept, x)?;
-    Ok(kept)
+    groups.last = groups.entries.len();
+    groups.expected = Some(0);
+    groups.entries.insert(key, kept)?;
+    Ok(())
 }
 
 impl<D: Collector, K: Mapping<D::Item>, S: BuildHasher + Copy> Collector for GroupingBy<K, D, S>
@@ -102,11 +112,7 @@ where
             let kept = acc.entries.get_index_mut(at).unwrap();
             return self.downstream.accumulate(kept, x);
         }
-        let kept = first_kept(&self.downstream, x)?;
-        acc.last = acc.entries.len();
-        acc.expected = Some(0);
-        acc.entries.insert(key, kept)?;
-        Ok(())
+        add_group(&self.downstream, acc, key, x)
     }
 
     fn combine(

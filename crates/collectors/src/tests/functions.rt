@@ -154,12 +154,12 @@ impl Test<i64> for Below {
 #[derive(Drop)]
 pub struct Pair;
 
-impl Pairing<i64, i64> for Pair {
-    type Out = (i64, i64);
+impl<A: Drop, B: Drop> Pairing<A, B> for Pair {
+    type Out = (A, B);
 
     ghost gives = { λ _ a b r. r ≡ (a, b) };
 
-    fn pair(&self, first: i64, second: i64) -> Result<(i64, i64), NoMemory> {
+    fn pair(&self, first: A, second: B) -> Result<(A, B), NoMemory> {
         Ok((first, second))
     }
 }

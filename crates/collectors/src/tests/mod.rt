@@ -4,6 +4,7 @@ mod chosen;
 mod cuts;
 mod functions;
 mod joined;
+mod light;
 mod nested;
 mod plain;
 mod shown;

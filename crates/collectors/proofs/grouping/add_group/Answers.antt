@@ -1,0 +1,19 @@
+use Rattle.std.proofs.Common.{◌∙◌, ◌≡◌, None, ap}
+use Rattle.std.specs.Map.{lookup}
+use Rattle.collectors.specs.Grouping.{put, contents}
+use Rattle.collectors.proofs.Entries.{put-insert_entry, absent-place}
+use Rattle.collectors.proofs.grouping.add_group.Goals as goal
+
+pub returns : goal.returns
+returns g c =
+    let d = c.args.downstream.now in
+    let x = g.D.Item.Value.content c.args.x.now in
+    let keys = g.K.Value.content in
+    let kept = g.D.Collector.content d in
+    let es = c.args.groups.now.entries.entries in
+    let absent : lookup (g.K.PartialEq.eq c.args.key) es ≡ None = absent-place g.K.PartialEq.eq c.args.key es c.requires.absent in
+    let added : kept c.accumulate.new.acc ≡ g.D.Collector.add d (g.D.Collector.empty d) x
+    = c.in_ok-accumulate.ensures ∙ ap (λ a. g.D.Collector.add d a x) c.in_ok-kept.ensures in
+    ap (contents keys kept) c.in_ok-insert.ensures.entries
+    ∙ put-insert_entry g.K.PartialEq.eq g.K.Value.same keys kept g.met.K.Value.eq_is_same c.args.key c.accumulate.new.acc (λ a. g.D.Collector.add d a x) es absent
+    ∙ ap (λ a. put g.K.Value.same (keys c.args.key) a (λ a. g.D.Collector.add d a x) (contents keys kept es)) added
