@@ -62,6 +62,7 @@ where
         self.downstream.supply()
     }
 
+    #[inline(always)]
     fn accumulate(&self, acc: &mut D::Acc, x: &D::Item) -> Result<(), NoMemory> {
         match &self.step {
             Adapting::Nothing => self.downstream.accumulate(acc, x),

@@ -81,6 +81,7 @@ impl Collector for NumberBaseCollector {
         Ok(NumberBaseContainer { held })
     }
 
+    #[inline(always)]
     fn accumulate(&self, acc: &mut NumberBaseContainer, x: &i64) -> Result<(), NoMemory> {
         self.chosen.accumulate(&mut acc.held, x)
     }

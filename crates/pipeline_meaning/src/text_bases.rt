@@ -77,6 +77,7 @@ impl<'a> Collector for TextBaseCollector<'a> {
         Ok(TextBaseContainer { held })
     }
 
+    #[inline(always)]
     fn accumulate(&self, acc: &mut TextBaseContainer<'a>, x: &&'a str) -> Result<(), NoMemory> {
         self.chosen.accumulate(&mut acc.held, x)
     }

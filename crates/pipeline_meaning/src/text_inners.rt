@@ -84,6 +84,7 @@ impl<'a> Collector for TextInnerCollector<'a> {
         Ok(TextInnerContainer { held })
     }
 
+    #[inline(always)]
     fn accumulate(&self, acc: &mut TextInnerContainer<'a>, x: &&'a str) -> Result<(), NoMemory> {
         self.chosen.accumulate(&mut acc.held, x)
     }
