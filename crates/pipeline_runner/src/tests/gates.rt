@@ -42,6 +42,11 @@ impl Watch {
         )
     }
 
+    /// How many workers have entered a leaf.
+    pub fn worker_count(&self) -> u32 {
+        self.workers.load(Ordering::SeqCst).count_ones()
+    }
+
     /// Whether the first worker was held in vain.
     pub fn was_missed(&self) -> bool {
         self.missed.load(Ordering::SeqCst) > 0

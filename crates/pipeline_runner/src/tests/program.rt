@@ -15,7 +15,7 @@ Arguments:
   <FILE>  The pipeline file; /dev/stdin is standard input
 
 Options:
-      --workers <W>  How many workers run the leaves, 1 to 64 [default: 4]
+      --workers <W>  The most workers that run the leaves, 1 to 64 [default: 4]
       --target <T>   The most items of a leaf; 0 chooses it [default: 0]
   -h, --help         Print help
 

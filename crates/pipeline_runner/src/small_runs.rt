@@ -1,0 +1,88 @@
+//! Small runs take one worker, since threads take longer to start than they would save.
+
+ghost use Rattle.std.specs.Prelude.{◌≡◌, ◌≢◌, ◌≤◌, ◌^◌, IfSome};
+
+use crate::runner::Settings;
+use pipeline_language::{
+    NumberBody, NumberSource, NumberStage, Pipeline, TextBody, TextEnd, TextStage,
+};
+
+/// The most steps of a small run, where a step is an item at a stage or at the terminal: one to three milliseconds on one worker. To start
+/// three threads and wait for them takes up to half a millisecond.
+const FEW_STEPS: u64 = 1 << 18;
+
+/// The settings with which a pipeline is run. A small run whose leaves are chosen by the program has one worker; its leaves are those that
+/// the wanted workers would have.
+pub(crate) fn settings_for(pipeline: &Pipeline, wanted: &Settings) -> Settings
+    requires workers { (1 ≤ wanted.now.workers) × (wanted.now.workers ≤ 64) }
+    requires target { wanted.now.target ≤ 2 ^ 62 }
+    ensures workers { (1 ≤ result.workers) × (result.workers ≤ wanted.now.workers) }
+    ensures target { result.target ≤ 2 ^ 62 }
+    ensures chosen { wanted.now.target ≢ 0 → result ≡ wanted.now }
+{
+    if wanted.target > 0 {
+        return *wanted;
+    }
+    let Some(items) = small_source(pipeline) else {
+        return *wanted;
+    };
+    Settings {
+        workers: 1,
+        target: (items / (4 * u64::from(wanted.workers))).max(1),
+    }
+}
+
+/// The number of the source's items, where a run over them is small. None is where a stage makes several items of one.
+fn small_source(pipeline: &Pipeline) -> Option<u64>
+    ensures { IfSome result (λ items. items ≤ 2 ^ 18) }
+{
+    let (items, stages) = match pipeline {
+        Pipeline::Numbers(source, body) => (number_count(source), number_stages(body)?),
+        Pipeline::Texts(texts, body) => (texts.len() as u64, text_stages(body)?),
+    };
+    let steps = items.saturating_mul(stages.saturating_add(1));
+    if steps <= FEW_STEPS {
+        Some(items)
+    } else {
+        None
+    }
+}
+
+/// How many numbers a source has.
+fn number_count(source: &NumberSource) -> u64 {
+    match source {
+        NumberSource::Range(start, end) if start < end => end.abs_diff(*start),
+        NumberSource::Range(_, _) => 0,
+        NumberSource::Closed(start, end) if start <= end => end.abs_diff(*start).saturating_add(1),
+        NumberSource::Closed(_, _) => 0,
+        NumberSource::Numbers(numbers) => numbers.len() as u64,
+    }
+}
+
+/// The number of the stages, where none makes several items of one.
+fn number_stages(body: &NumberBody) -> Option<u64> {
+    for stage in &body.stages {
+        if let NumberStage::Repeat(_) = stage {
+            return None;
+        }
+    }
+    Some(body.stages.len() as u64)
+}
+
+/// The same of texts, and of the numbers behind them.
+fn text_stages(body: &TextBody) -> Option<u64> {
+    for stage in &body.stages {
+        if let TextStage::Repeat(_) | TextStage::Words = stage {
+            return None;
+        }
+    }
+    let stages = body.stages.len() as u64;
+    match &body.end {
+        TextEnd::Terminal(_) => Some(stages),
+        TextEnd::Lengths(numbers) => Some(
+            stages
+                .saturating_add(1)
+                .saturating_add(number_stages(numbers)?),
+        ),
+    }
+}
