@@ -6,17 +6,20 @@
 The machine is shared and noisy, so a case and its peers take turns of two seconds each, the best run of each counts, and only ratios are
 told. `bench/FOLDER/cases.py` names the cases of a layer; a peer is a Rust file beside it, built by `rustc -O`, a Java file, built by
 `javac`, or a line of awk. Ours is the whole process. Only a warmed Java program tells its own time: that of its best round, without the
-start of its machine. Beside it ours is told twice: the whole process, and, with the limit, without the start of a process, which is
-what `true` takes in the same run. A case that the program refuses is told as such. The program has to be built before (`rt run` in
-crates/pstream). The status is 1 where a ratio lies above its limit, or a case is refused.
+start of its machine. Beside it ours is told more than once: the whole process; without the start of a process, which is what `true` takes
+in the same run; and, where the case has a program of ours that runs it many times in one process, warmed as well. The limit is for the
+last of these. A case that the program refuses is told as such. The program has to be built before (`rt run` in crates/pstream). The
+status is 1 where a ratio lies above its limit, or a case is refused.
 """
 
 import argparse
 import dataclasses
 import importlib.util
 import pathlib
+import shutil
 import subprocess
 import sys
+import tempfile
 import time
 
 BENCH = pathlib.Path(__file__).resolve().parent
@@ -41,11 +44,12 @@ class Peer:
 
 @dataclasses.dataclass
 class Case:
-    """What is compared: our command, and its peers."""
+    """What is compared: our command, and its peers. A warmed command of ours tells the time of its best round, as Java's do."""
 
     name: str
     ours: list
     peers: list
+    warmed: list | None = None
 
 
 class Tools:
@@ -68,6 +72,18 @@ class Tools:
             subprocess.run(["javac", "-d", BUILT, source], check=True)
         # three threads beside the one that calls
         return ["java", "-cp", BUILT, "-Djava.util.concurrent.ForkJoinPool.common.parallelism=3", source.stem]
+
+    def rattle(self, folder):
+        """A program over our crates, built anew where `pstream` is younger; that takes minutes."""
+        program = BUILT / folder.name
+        if is_older(program, PSTREAM):
+            lines = (BENCH.parent / "crates.txt").read_text().splitlines()
+            names = [line.split(":")[0].split()[0] for line in lines if line and not line.startswith("#")]
+            with tempfile.TemporaryDirectory() as work:
+                crates = " ".join(name for name in names if name != "pstream")
+                subprocess.run([BENCH / "lay_out", work, folder, crates, "pipeline_runner"], check=True)
+                shutil.copy(pathlib.Path(work, "crates", folder.name, "out", folder.name), program)
+        return program
 
     def file(self, name, lines):
         """A file of these lines."""
@@ -109,11 +125,16 @@ def take_turn(command):
 
 
 def best_times(case, turns):
-    """The best time of ours and of each peer."""
-    ours, peers = [], [[] for _ in case.peers]
+    """The best time of ours, of ours warmed, and of each peer."""
+    ours, warmed, peers = [], [], [[] for _ in case.peers]
     for turn in range(turns):
         taken, written = take_turn(case.ours)
         ours.append(taken)
+        if case.warmed:
+            taken, wanted = run(case.warmed, True)
+            warmed.append(taken)
+            if written != wanted:
+                sys.exit(f"{case.name}: wrote {written[:200]!r}, and warmed {wanted[:200]!r}")
         for peer, times in zip(case.peers, peers):
             if peer.slow and turn > 0:
                 continue
@@ -121,14 +142,16 @@ def best_times(case, turns):
             times.append(taken)
             if written != wanted:
                 sys.exit(f"{case.name}: wrote {written[:200]!r}, and {peer.name} {wanted[:200]!r}")
-    return min(ours), [min(times) for times in peers]
+    return min(ours), min(warmed, default=None), [min(times) for times in peers]
 
 
-def told_ratios(peer, ours, theirs, start):
+def told_ratios(peer, ours, warmed, theirs, start):
     """What is told of a peer: names and ratios, of which the last is held to the limit."""
     yield peer.name, ours / theirs
     if peer.tells_time:
         yield f"{peer.name}, without the start of a process", (ours - start) / theirs
+        if warmed:
+            yield f"{peer.name}, warmed as well", warmed / theirs
 
 
 def refusal(case):
@@ -153,10 +176,10 @@ def main():
             missed += 1
             print(f"{case.name}: today's program refuses it: {refused}", flush=True)
             continue
-        ours, peers = best_times(case, options.turns)
+        ours, warmed, peers = best_times(case, options.turns)
         start, _ = take_turn(["true"])
         for peer, time_taken in zip(case.peers, peers):
-            ratios = list(told_ratios(peer, ours, time_taken, start))
+            ratios = list(told_ratios(peer, ours, warmed, time_taken, start))
             for name, found in ratios[:-1]:
                 print(f"{case.name}: {found:.3g} times {name}", flush=True)
             name, found = ratios[-1]

@@ -85,7 +85,9 @@ def line_case(tools):
         tools.Peer("Rust threads by hand", [tools.rust(HERE / "peer_lines.rs"), file, str(WORKERS)]),
         tools.Peer("awk", ["awk", program, file]),
     ]
-    yield tools.Case("a megabyte of lines grouped by length", [tools.pstream, file, "--workers", str(WORKERS)], peers)
+    words = [file, "--workers", str(WORKERS)]
+    warmed = [tools.rattle(HERE / "run_warm"), *words]
+    yield tools.Case("a megabyte of lines grouped by length", [tools.pstream, *words], peers, warmed)
 
 
 def small_case(tools):
