@@ -23,7 +23,7 @@ fn run_with<R: Threads + RandomSource + Sync>(
     write_fails: u64,
 ) -> Result<(String, String), AllocError> {
     let mut input = Counted::new(Script::new(alloc, file, 4, read_fails));
-    let mut output = Counted::new(Script::new(alloc, b"", write_step, write_fails));
+    let mut output = Counted::new(Script::new(alloc, b"", write_step, write_fails).with_room()?);
     let told = match run(rt, alloc, &mut input, &mut output, &SETTINGS, &NoGate) {
         Ok(()) => String::new(alloc),
         Err(RunError::NoMemory) => return Err(AllocError),

@@ -2,6 +2,7 @@
 
 ghost use Rattle.std.specs.Prelude.{◌≤◌, ◌^◌};
 
+use super::ROOM;
 use super::gates::Watch;
 use crate::{Counted, RunError, Settings, run};
 use std::alloc::{AllocError, Global};
@@ -22,7 +23,7 @@ fn watched<R: Threads + RandomSource + Sync>(
 {
     let gate = Watch::new(holds);
     let mut input = Counted::new(file);
-    let mut output = Counted::new(Vec::new(alloc));
+    let mut output = Counted::new(Vec::with_capacity(alloc, ROOM)?);
     if let Err(RunError::NoMemory) = run(rt, alloc, &mut input, &mut output, settings, &gate) {
         return Err(AllocError);
     }
@@ -120,7 +121,7 @@ fn workers_run_at_the_same_time(rt: HostRuntime) -> Result<(), Fail> {
     };
     let gate = Watch::new(true);
     let mut input = Counted::new(b"pipeline 1\nrange 0 100\nsum\n".as_slice());
-    let mut output = Counted::new(Vec::new(alloc));
+    let mut output = Counted::new(Vec::with_capacity(alloc, ROOM)?);
     let end = run(&rt, alloc, &mut input, &mut output, &settings, &gate);
     // no second thread came: its start wanted memory
     if end.is_err() || gate.was_missed() {

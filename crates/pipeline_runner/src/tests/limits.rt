@@ -2,8 +2,8 @@
 
 ghost use Rattle.std.specs.Prelude.{◌≤◌, ◌^◌};
 
-use super::SETTINGS;
 use super::rows::all_right;
+use super::{ROOM, SETTINGS};
 use crate::{Counted, NoGate, RunError, Settings, run};
 use std::alloc::{AllocError, Global};
 use std::io;
@@ -25,7 +25,7 @@ fn is_answered<R: Threads + RandomSource + Sync>(
     requires target { settings.now.target ≤ 2 ^ 62 }
 {
     let mut input = Counted::new(file);
-    let mut output = Counted::new(Vec::new(alloc));
+    let mut output = Counted::new(Vec::with_capacity(alloc, ROOM)?);
     match run(rt, alloc, &mut input, &mut output, settings, &NoGate) {
         Ok(()) => Ok(output.get_ref().last() == Some(&b'\n')),
         Err(RunError::Fault(_)) => Ok(output.get_ref().is_empty()),

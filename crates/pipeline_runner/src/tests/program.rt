@@ -1,6 +1,6 @@
 //! The whole program, over the words after its name.
 
-use super::Script;
+use super::{ROOM, Script};
 use crate::{Counted, command};
 use std::alloc::{AllocError, Global};
 use std::random::RandomSource;
@@ -90,8 +90,8 @@ fn program<R: Threads + RandomSource + Sync>(
     words: &[&str],
     write_fails: u64,
 ) -> Result<End, AllocError> {
-    let mut output = Counted::new(Script::new(alloc, b"", 100, write_fails));
-    let mut error = Vec::new(alloc);
+    let mut output = Counted::new(Script::new(alloc, b"", 100, write_fails).with_room()?);
+    let mut error = Vec::with_capacity(alloc, ROOM)?;
     let row: &[u8] = b"pipeline 1\nrange 1 6\nsum\n";
     let opener = |name: &str| match name {
         "row" => Some(Counted::new(Script::new(alloc, row, 100, 0))),
