@@ -44,12 +44,13 @@ class Peer:
 
 @dataclasses.dataclass
 class Case:
-    """What is compared: our command, and its peers. A warmed command of ours tells the time of its best round, as Java's do."""
+    """What is compared: our command, and its peers; and the folder of a program of ours, if there is one, that takes the same words, runs
+    them many times, and tells the time of its best round as Java's do."""
 
     name: str
     ours: list
     peers: list
-    warmed: list | None = None
+    warmed: pathlib.Path | None = None
 
 
 class Tools:
@@ -126,12 +127,13 @@ def take_turn(command):
 
 def best_times(case, turns):
     """The best time of ours, of ours warmed, and of each peer."""
+    warm = [Tools().rattle(case.warmed), *case.ours[1:]] if case.warmed else None
     ours, warmed, peers = [], [], [[] for _ in case.peers]
     for turn in range(turns):
         taken, written = take_turn(case.ours)
         ours.append(taken)
-        if case.warmed:
-            taken, wanted = run(case.warmed, True)
+        if warm:
+            taken, wanted = run(warm, True)
             warmed.append(taken)
             if written != wanted:
                 sys.exit(f"{case.name}: wrote {written[:200]!r}, and warmed {wanted[:200]!r}")

@@ -85,9 +85,8 @@ def line_case(tools):
         tools.Peer("Rust threads by hand", [tools.rust(HERE / "peer_lines.rs"), file, str(WORKERS)]),
         tools.Peer("awk", ["awk", program, file]),
     ]
-    words = [file, "--workers", str(WORKERS)]
-    warmed = [tools.rattle(HERE / "run_warm"), *words]
-    yield tools.Case("a megabyte of lines grouped by length", [tools.pstream, *words], peers, warmed)
+    ours = [tools.pstream, file, "--workers", str(WORKERS)]
+    yield tools.Case("a megabyte of lines grouped by length", ours, peers, HERE / "run_warm")
 
 
 def small_case(tools):

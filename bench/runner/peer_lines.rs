@@ -15,7 +15,7 @@ impl Counts {
     fn of(lines: &[&str]) -> Counts {
         let mut counts = Counts::default();
         for line in lines {
-            counts.add(line.chars().count(), 1);
+            counts.add(line.len(), 1);
         }
         counts
     }
