@@ -6,9 +6,9 @@
 The machine is shared and noisy, so a case and its peers take turns of two seconds each, the best run of each counts, and only ratios are
 told. `bench/FOLDER/cases.py` names the cases of a layer; a peer is a Rust file beside it, built by `rustc -O`, a Java file, built by
 `javac`, or a line of awk. Ours is the whole process. Only a warmed Java program tells its own time: that of its best round, without the
-start of its machine. Beside it ours is told more than once: the whole process; without the start of a process, which is what `true` takes
-in the same run; and, where the case has a program of ours that runs it many times in one process, warmed as well. The limit is for the
-last of these. A case that the program refuses is told as such. The program has to be built before (`rt run` in crates/pstream). The
+start of its machine. Beside it ours is told more than once: the whole process; where the case has a program of ours that runs it many
+times in one process, warmed as well; and without the start of a process, which is what `true` takes in the same run. The limit is for
+the last of these. A case that the program refuses is told as such. The program has to be built before (`rt run` in crates/pstream). The
 status is 1 where a ratio lies above its limit, or a case is refused.
 """
 
@@ -151,9 +151,9 @@ def told_ratios(peer, ours, warmed, theirs, start):
     """What is told of a peer: names and ratios, of which the last is held to the limit."""
     yield peer.name, ours / theirs
     if peer.tells_time:
-        yield f"{peer.name}, without the start of a process", (ours - start) / theirs
         if warmed:
             yield f"{peer.name}, warmed as well", warmed / theirs
+        yield f"{peer.name}, without the start of a process", (ours - start) / theirs
 
 
 def refusal(case):
