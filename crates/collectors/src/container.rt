@@ -1,7 +1,7 @@
 //! Containers and the lists that they stand for: what the laws of a collector give to whoever folds, combines and finishes.
 //!
 //! Each function has the contract that follows for every lawful collector, so a caller of these cites no law.
-ghost use Rattle.std.specs.Prelude.{◌≡◌, List, [], ◌∷◌, ◌++◌, IfOk, OnOk, map};
+ghost use Rattle.std.specs.Prelude.{List, [], ◌∷◌, ◌++◌, IfOk, OnOk, map};
 ghost use Rattle.collectors.specs.Laws.{IsContainerOf};
 
 use crate::Collector;

@@ -1,5 +1,5 @@
 //! The board, its seats and the passes that it hands out.
-ghost use Rattle.std.specs.Prelude.{◌≡◌, ◌≢◌, ℕ, ◌+◌, ◌-◌, ◌*◌, ◌/◌, ◌^◌, ◌<◌, ◌≤◌, ◌↔◌, min, slice_index, [], ◌∷◌, ◌++◌, IsTrue, IfOk, IfSome, IfNone, MatchOption, MatchResult};
+ghost use Rattle.std.specs.Prelude.{◌≡◌, ◌≢◌, ℕ, ◌+◌, ◌-◌, ◌*◌, ◌/◌, ◌^◌, ◌<◌, ◌≤◌, ◌↔◌, min, slice_index, [], ◌∷◌, ◌++◌, IsTrue, IfOk, IfSome, IfNone, MatchResult};
 ghost use Rattle.barriers.specs.Needs.{need_of, IsBelow};
 ghost use Rattle.leaf_board.specs.Case.{share_end, ring, IsJustified, IsLawful};
 ghost use Rattle.leaf_board.specs.Statuses.{Unknown};

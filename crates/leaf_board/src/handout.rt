@@ -1,8 +1,8 @@
 //! The calls of a board that hands out leaves and cuts, as two traits: what a pool of workers stands on.
-ghost use Rattle.std.specs.Prelude.{◌≡◌, ◌<◌, ◌≤◌, ◌^◌, ◌↔◌, ℕ, Option, IsTrue, MatchResult};
+ghost use Rattle.std.specs.Prelude.{◌≡◌, ◌<◌, ◌≤◌, ◌^◌, ◌↔◌, ℕ, Option, IsTrue};
 ghost use Rattle.barriers.specs.Needs.{Reaches};
 ghost use Rattle.leaf_board.specs.Case.{IsLawful};
-ghost use Rattle.leaf_board.specs.Statuses.{Status, Unknown, Given, Published, Skipped, Turns, SameFrom, Draws, SkipsLeaf, StaysSeat, AreSeats};
+ghost use Rattle.leaf_board.specs.Statuses.{Status, Given, Published, Turns, SameFrom, Draws, SkipsLeaf, StaysSeat, AreSeats};
 ghost use Rattle.leaf_board.specs.Records.{Closes};
 
 /// The answer of a draw.

@@ -1,7 +1,6 @@
 // Boards, call by call.
-ghost use Rattle.std.specs.Prelude.{◌≡◌, ℕ, ◌<◌, ◌≤◌, ◌∷◌, [], IfOk};
-ghost use Rattle.leaf_board.specs.Statuses.{Unknown, Given};
-ghost use Rattle.leaf_board.specs.Knowledge.{IsHeld, status_of};
+ghost use Rattle.std.specs.Prelude.{◌≡◌, ◌<◌, ◌∷◌, [], IfOk};
+ghost use Rattle.leaf_board.specs.Knowledge.{IsHeld};
 ghost use Rattle.leaf_board.specs.Seats.{SameSeat, Gained, OnlyDraws};
 ghost use Rattle.leaf_board.specs.Boards.{case_of};
 ghost use Rattle.std.specs.Prelude.{None, Some};

@@ -1,5 +1,5 @@
 //! A barrier behind a stream.
-ghost use Rattle.std.specs.Prelude.{◌≡◌, List, [], map};
+ghost use Rattle.std.specs.Prelude.{[], map};
 ghost use Rattle.spliterator.specs.Clones.{ClonesAlike};
 ghost use Rattle.collectors.specs.NestedLaws.{push};
 ghost use Rattle.stealing_pool.specs.Fronts.{folding, work_of};

@@ -1,6 +1,6 @@
 //! All the runs of a stream, one after another, each on the workers.
-ghost use Rattle.std.specs.Prelude.{◌≡◌, ◌++◌, ◌∷◌, List, [], true, false, length, map, IfOk};
-ghost use Rattle.stealing_pool.specs.Fronts.{folding, work_of, full_count, joined, IsFront};
+ghost use Rattle.std.specs.Prelude.{◌≡◌, List, true, false, IfOk};
+ghost use Rattle.stealing_pool.specs.Fronts.{folding, work_of, joined, IsFront};
 ghost use Rattle.leaf_board.specs.Closing.{Outcome};
 ghost use Rattle.parallel_streams.specs.Progress.{EndsWith};
 ghost use Rattle.parallel_streams.specs.Reports.{HasReport};

@@ -1,5 +1,5 @@
 //! The places of a list, cut into leaves.
-ghost use Rattle.std.specs.Prelude.{◌≡◌, ◌<◌, ◌≤◌, ◌^◌, ◌+◌, IfOk, IfSome, length, min};
+ghost use Rattle.std.specs.Prelude.{◌≡◌, ◌<◌, ◌≤◌, ◌^◌, IfOk, length, min};
 ghost use Rattle.split_tree.specs.SplitTree.{leaf_numbers, numbers_from};
 ghost use Rattle.split_tree.specs.Plan.{leaves_of};
 ghost use Rattle.parallel_streams.specs.Cuts.{Ascends, cut_at, start_at};

@@ -1,5 +1,5 @@
 //! A stream over a source.
-ghost use Rattle.std.specs.Prelude.{◌≡◌, ⊤, true, map, length, flat_map, [], None, IfOk, refl};
+ghost use Rattle.std.specs.Prelude.{◌≡◌, true, map, length, flat_map, [], refl};
 
 use crate::Stream;
 use barriers::{Demand, Need};

@@ -1,5 +1,5 @@
 //! A stateless stage behind a stream.
-ghost use Rattle.std.specs.Prelude.{◌≡◌, flat_map, map};
+ghost use Rattle.std.specs.Prelude.{flat_map, map};
 ghost use Rattle.parallel_streams.specs.LeafLaws.{joined-through, count-through};
 ghost use Rattle.stages.specs.Flags.{after};
 

@@ -1,7 +1,7 @@
 //! A pipeline, as a file names it. Pipelines of numbers and of texts are different types, so that each stage, terminal and
 //! collector takes the items that come to it; the stage `map length` alone leads from texts to numbers.
 
-ghost use Rattle.std.specs.Prelude.{◌≡◌, ◌≤◌, ◌<◌, ◌-ℤ◌, MatchOption};
+ghost use Rattle.std.specs.Prelude.{◌≡◌, ◌<◌, ◌-ℤ◌};
 ghost use Rattle.pipeline_language.specs.Steps.{steps_up};
 
 /// A whole pipeline. Texts borrow from the file's bytes.

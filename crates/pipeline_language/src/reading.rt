@@ -1,8 +1,8 @@
 //! Reads a pipeline file, line by line.
 
-ghost use Rattle.std.specs.Prelude.{◌≡◌, ◌⊎◌, ℕ, ◌<◌, ◌≤◌, ◌+◌, ◌-◌, ◌^◌, List, IfErr, IfOk, OnOk, map, drop, length, Ok, Err, true, false};
+ghost use Rattle.std.specs.Prelude.{◌≡◌, ◌⊎◌, ℕ, ◌<◌, ◌+◌, ◌-◌, ◌^◌, List, IfErr, IfOk, OnOk, map, drop, length, Ok, Err};
 ghost use Rattle.pipeline_language.specs.declared.fault.FileFault.{FileFault};
-ghost use Rattle.pipeline_language.specs.Content.{number_body, number_origin, program_of, text_body};
+ghost use Rattle.pipeline_language.specs.Content.{number_body, program_of, text_body};
 ghost use Rattle.pipeline_language.specs.FileReading.{IfFault, LineGets, LineReads, Reads, after_end, body_from, file_of, first_of, first_text, no_more, program_from, texts_from, version_of};
 ghost use Rattle.pipeline_language.specs.Kinds.{number_line_content, text_line_content, source_content};
 ghost use Rattle.pipeline_language.specs.Language.{HasFault, Means};

@@ -1,6 +1,6 @@
 //! What a line says, name by name, before the kind of the items is asked for.
 
-ghost use Rattle.std.specs.Prelude.{◌≡◌, Result};
+ghost use Rattle.std.specs.Prelude.{Result};
 ghost use Rattle.pipeline_language.specs.LineContent.{base_content, body_line_content, condition_content, expansion_content, function_content, inner_content, joint_content, merge_content, summary_content, terminal_line_content};
 ghost use Rattle.pipeline_language.specs.Reading.{GetsAs};
 ghost use Rattle.pipeline_language.specs.SyntaxReading.{base_names, base_of, body_of, condition_of, expansion_of, function_of, inner_of, joint_of, merge_of, nesting_summary_of, new_terminal_names, summary_of, terminal_names};

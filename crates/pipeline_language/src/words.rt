@@ -1,6 +1,6 @@
 //! Words.
 
-ghost use Rattle.std.specs.Prelude.{◌≡◌, ℕ, ℤ, List, Bool, map, Result, Option, Ok, Err, MatchResult, IfOk, true};
+ghost use Rattle.std.specs.Prelude.{◌≡◌, map, Result, Ok, Err, MatchResult, IfOk, true};
 ghost use Rattle.pipeline_language.specs.Reading.{Left, Gets, next_word, next_number, next_natural, all_numbers, ended, is_done};
 
 use crate::fault::FileError;

@@ -1,6 +1,6 @@
 //! The collector of a base of numbers, chosen at run time.
 ghost use Rattle.std.proofs.Common.{ap};
-ghost use Rattle.std.specs.Prelude.{◌≡◌, ℕ, ℤ, pos, refl, List};
+ghost use Rattle.std.specs.Prelude.{◌≡◌, ℤ, pos, refl, List};
 ghost use Rattle.std.specs.Fmt.{signed_decimal};
 ghost use Rattle.std.specs.Ordering.{int_eq};
 ghost use Rattle.spliterator.specs.Values.{IsI64, int_eq-decides};

@@ -1,5 +1,5 @@
 //! The language's collectors of numbers, level by level, each chosen at run time.
-ghost use Rattle.std.specs.Prelude.{◌≡◌, ℕ, ℤ, refl, List};
+ghost use Rattle.std.specs.Prelude.{◌≡◌, ℤ, refl, List};
 ghost use Rattle.std.specs.Fmt.{signed_decimal};
 ghost use Rattle.std.specs.Ordering.{int_eq};
 ghost use Rattle.spliterator.specs.Values.{IsI64, int_eq-decides};

@@ -1,5 +1,5 @@
 //! Items that have texts.
-ghost use Rattle.std.specs.Prelude.{◌≡◌, ℕ, List, refl, string_bytes};
+ghost use Rattle.std.specs.Prelude.{◌≡◌, ℕ, List, refl};
 ghost use Rattle.std.specs.Fmt.{signed_decimal};
 
 use crate::Written;

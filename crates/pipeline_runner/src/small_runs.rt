@@ -1,24 +1,28 @@
 //! Small runs take one worker, since threads take longer to start than they would save.
 
-ghost use Rattle.std.specs.Prelude.{◌≡◌, ◌≢◌, ◌≤◌, ◌^◌, IfSome};
+ghost use Rattle.std.specs.Prelude.{◌≡◌, ◌≢◌, ◌⊎◌, ◌≤◌, ◌^◌, IfSome};
+ghost use Rattle.split_tree.specs.SplitTree.{split_target};
+ghost use Rattle.pipeline_value.specs.Ranges.{PipelineFits};
+ghost use Rattle.pipeline_runner.specs.Leaves.{source_count};
 
 use crate::runner::Settings;
-use pipeline_language::{
-    NumberBody, NumberSource, NumberStage, Pipeline, TextBody, TextEnd, TextStage,
-};
+use pipeline_language::{NumberBody, NumberStage, Pipeline, TextBody, TextEnd, TextStage};
+use pipeline_value::source_size;
 
 /// The most steps of a small run, where a step is an item at a stage or at the terminal. On one worker so many take from 0.4 milliseconds, for
 /// a sum, to some 5, for groups of texts; to start three threads and wait for them takes up to half a millisecond.
 const FEW_STEPS: u64 = 1 << 18;
 
-/// The settings with which a pipeline is run. A small run whose leaves are chosen by the program has one worker; its leaves are those that
-/// the wanted workers would have.
+/// The settings with which a pipeline is run. A small run whose leaves are chosen by the program has one worker; the leaves of its source are
+/// those that the wanted workers would have.
 pub(crate) fn settings_for(pipeline: &Pipeline, wanted: &Settings) -> Settings
     requires workers { (1 ≤ wanted.now.workers) × (wanted.now.workers ≤ 64) }
     requires target { wanted.now.target ≤ 2 ^ 62 }
-    ensures workers { (1 ≤ result.workers) × (result.workers ≤ wanted.now.workers) }
+    requires fits { PipelineFits pipeline.now }
+    ensures workers { (result.workers ≡ 1) ⊎ (result.workers ≡ wanted.now.workers) }
     ensures target { result.target ≤ 2 ^ 62 }
     ensures chosen { wanted.now.target ≢ 0 → result ≡ wanted.now }
+    ensures leaves { split_target (source_count pipeline.now) result.workers result.target ≡ split_target (source_count pipeline.now) wanted.now.workers wanted.now.target }
 {
     if wanted.target > 0 {
         return *wanted;
@@ -34,10 +38,12 @@ pub(crate) fn settings_for(pipeline: &Pipeline, wanted: &Settings) -> Settings
 
 /// The number of the source's items, where a run over them is small. None is where a stage makes several items of one.
 fn small_source(pipeline: &Pipeline) -> Option<u64>
-    ensures { IfSome result (λ items. items ≤ 2 ^ 18) }
+    requires fits { PipelineFits pipeline.now }
+    ensures count { IfSome result (λ items. items ≡ source_count pipeline.now) }
+    ensures few { IfSome result (λ items. items ≤ 2 ^ 18) }
 {
     let (items, stages) = match pipeline {
-        Pipeline::Numbers(source, body) => (number_count(source), number_stages(body)?),
+        Pipeline::Numbers(source, body) => (source_size(source), number_stages(body)?),
         Pipeline::Texts(texts, body) => (texts.len() as u64, text_stages(body)?),
     };
     let steps = items.saturating_mul(stages.saturating_add(1));
@@ -45,17 +51,6 @@ fn small_source(pipeline: &Pipeline) -> Option<u64>
         Some(items)
     } else {
         None
-    }
-}
-
-/// How many numbers a source has.
-fn number_count(source: &NumberSource) -> u64 {
-    match source {
-        NumberSource::Range(start, end) if start < end => end.abs_diff(*start),
-        NumberSource::Range(_, _) => 0,
-        NumberSource::Closed(start, end) if start <= end => end.abs_diff(*start).saturating_add(1),
-        NumberSource::Closed(_, _) => 0,
-        NumberSource::Numbers(numbers) => numbers.len() as u64,
     }
 }
 

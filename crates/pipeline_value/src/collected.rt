@@ -1,6 +1,6 @@
 //! What collectors make of a stream, told by its text.
 
-ghost use Rattle.std.specs.Prelude.{◌≡◌, Ok, List};
+ghost use Rattle.std.specs.Prelude.{Ok, List};
 ghost use Rattle.parallel_streams.specs.Runs.{IsLawfulRun};
 ghost use Rattle.pipeline_value.specs.Value.{Tells};
 

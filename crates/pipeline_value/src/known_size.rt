@@ -1,6 +1,6 @@
 //! Counts that are known before anything runs.
 
-ghost use Rattle.std.specs.Prelude.{◌≡◌, ◌≤◌, ◌^◌, ℕ, ℤ, pos, List, Ok, IfSome, IsTrue, is_some, length};
+ghost use Rattle.std.specs.Prelude.{◌≡◌, ℕ, ℤ, pos, List, Ok, IfSome, IsTrue, is_some, length};
 ghost use Rattle.std.specs.Fmt.{signed_decimal};
 ghost use Rattle.std.specs.List.{list_all};
 ghost use Rattle.spliterator.specs.Characteristics.{tells};
@@ -140,8 +140,14 @@ fn text_size_after(size: u64, stage: &TextStage<'_>) -> Option<u64>
     }
 }
 
-/// How many numbers a source has.
-fn source_size(source: &NumberSource) -> u64
+/// How many numbers a source has, up to 2^62.
+///
+/// ```text
+/// range 3 10       // 7
+/// closed 3 10      // 8
+/// numbers 5 1 5    // 3
+/// ```
+pub fn source_size(source: &NumberSource) -> u64
     requires { NumberSourceFits source.now }
     ensures { result ≡ length (source_numbers source.now) }
 {

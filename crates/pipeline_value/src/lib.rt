@@ -21,6 +21,7 @@ mod texts;
 mod told;
 mod value;
 
+pub use known_size::source_size;
 pub use told::ValueError;
 pub use value::pipeline_value;
 

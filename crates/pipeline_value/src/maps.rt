@@ -1,6 +1,6 @@
 //! Maps of a stream's keys and values, told by their texts.
 
-ghost use Rattle.std.specs.Prelude.{◌≡◌, Ok, List};
+ghost use Rattle.std.specs.Prelude.{Ok, List};
 ghost use Rattle.parallel_streams.specs.Runs.{IsLawfulRun};
 ghost use Rattle.stages.specs.Operators.{IsAssociative};
 ghost use Rattle.pipeline_meaning.specs.Summaries.{merged_text};

@@ -3,12 +3,13 @@
 ghost use Rattle.std.specs.Prelude.{◌≡◌, ℤ, List};
 ghost use Rattle.std.specs.Fmt.{signed_decimal};
 ghost use Rattle.std.specs.Ordering.{int_eq};
+ghost use Rattle.pipeline_language.specs.declared.pipeline.NumberBase.TheVariants as bases;
 ghost use Rattle.pipeline_meaning.specs.Functions.{number_image, number_holds};
-ghost use Rattle.pipeline_meaning.specs.Summaries.{groups_text, parts_text, number_summary_text};
+ghost use Rattle.pipeline_meaning.specs.Summaries.{groups_text, parts_text, number_base_text, number_summary_text};
 ghost use Rattle.pipeline_meaning.specs.Texts.{pair_text};
 
 use crate::nested::{paired, parted};
-use collectors::{Collector, GroupingBy, PartitioningBy, Teeing};
+use collectors::{Collector, Counting, GroupingBy, PartitioningBy, Teeing};
 use pipeline_language::{NumberFunction, NumberSummary, NumberTest};
 use pipeline_meaning::{
     Both, NumberCheck, NumberMapping, NumberSummaryCollector, SeededHashes, Summarizes, grouped,
@@ -18,6 +19,9 @@ use std::alloc::Global;
 
 /// The collector of groups of numbers.
 pub(crate) type NumberGroups = GroupingBy<NumberMapping, NumberSummaryCollector, SeededHashes>;
+
+/// The collector of how many numbers have each image. It keeps a number a group, where the groups above keep what is chosen at run time.
+pub(crate) type NumberCounts = GroupingBy<NumberMapping, Counting<i64>, SeededHashes>;
 
 /// The collector of the numbers that fail a test and of those that pass.
 pub(crate) type NumberParts = PartitioningBy<NumberCheck, NumberSummaryCollector>;
@@ -41,6 +45,19 @@ pub(crate) fn number_groups(
         number_summary(alloc, hashes, summary),
         hashes,
     )
+}
+
+/// How many numbers have each image.
+pub(crate) fn number_counts(
+    alloc: Global,
+    hashes: SeededHashes,
+    function: NumberFunction,
+) -> NumberCounts
+    ensures ready { ⟦<NumberCounts as Collector>⟧.ready result }
+    ensures summary { (l : List ℤ) → ⟦<NumberCounts as Summarizes>⟧.summary result l ≡ groups_text signed_decimal int_eq (number_image function) (number_base_text bases.Count) l }
+{
+    let key = NumberMapping::of(function);
+    grouped(alloc, key, Counting::new(), hashes)
 }
 
 /// The results of the numbers that fail a test, and of those that pass.

@@ -5,10 +5,10 @@ ghost use Rattle.pipeline_language.specs.declared.pipeline.NumberTerminal.TheVar
 ghost use Rattle.pipeline_value.specs.Value.{Tells, number_told};
 
 use crate::collected::collected;
-use crate::number_groups::{number_groups, number_pair, number_parts};
+use crate::number_groups::{number_counts, number_groups, number_pair, number_parts};
 use crate::told::ValueError;
 use parallel_streams::{Run, Stream};
-use pipeline_language::{NumberFunction, NumberSummary, NumberTest};
+use pipeline_language::{NumberBase, NumberFunction, NumberSummary, NumberTest};
 use pipeline_meaning::SeededHashes;
 use std::alloc::Global;
 use std::thread::Threads;
@@ -34,8 +34,16 @@ where
     requires stream { X.ready stream.now }
     ensures { Tells (number_told (terminals.GroupBy function summary) (X.value stream.now)) result }
 {
-    let groups = number_groups(alloc, hashes, function, summary);
-    collected(rt, alloc, stream, &groups, run)
+    match summary {
+        NumberSummary::Base(NumberBase::Count) => {
+            let counts = number_counts(alloc, hashes, function);
+            collected(rt, alloc, stream, &counts, run)
+        }
+        _ => {
+            let groups = number_groups(alloc, hashes, function, summary);
+            collected(rt, alloc, stream, &groups, run)
+        }
+    }
 }
 
 /// The text of the results of the numbers that fail a test, and of those that pass.

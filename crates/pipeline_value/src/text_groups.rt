@@ -1,13 +1,14 @@
 //! The collectors of the terminals that part texts, put them under keys, or collect them twice.
 
 ghost use Rattle.std.specs.Prelude.{◌≡◌, ℕ, List};
+ghost use Rattle.pipeline_language.specs.declared.pipeline.TextBase.TheVariants as bases;
 ghost use Rattle.pipeline_language.specs.declared.pipeline.TextFunction.TheVariants as keys;
 ghost use Rattle.pipeline_meaning.specs.Functions.{text_holds};
-ghost use Rattle.pipeline_meaning.specs.Summaries.{parts_text, text_groups_text, text_summary_text};
+ghost use Rattle.pipeline_meaning.specs.Summaries.{parts_text, text_base_text, text_groups_text, text_summary_text};
 ghost use Rattle.pipeline_meaning.specs.Texts.{pair_text};
 
 use crate::nested::{paired, parted};
-use collectors::{Collector, GroupingBy, PartitioningBy, Teeing};
+use collectors::{Collector, Counting, GroupingBy, PartitioningBy, Teeing};
 use pipeline_language::{TextSummary, TextTest};
 use pipeline_meaning::{
     Both, Itself, SeededHashes, Summarizes, TextCheck, TextLength, TextSummaryCollector, grouped,
@@ -20,6 +21,12 @@ pub(crate) type LengthGroups<'a> = GroupingBy<TextLength, TextSummaryCollector<'
 
 /// The collector of groups of equal texts.
 pub(crate) type TextGroups<'a> = GroupingBy<Itself, TextSummaryCollector<'a>, SeededHashes>;
+
+/// The collector of how many texts there are of each length. It keeps a number a group, where the groups above keep what is chosen at run time.
+pub(crate) type LengthCounts<'a> = GroupingBy<TextLength, Counting<&'a str>, SeededHashes>;
+
+/// The collector of how often each text comes.
+pub(crate) type TextCounts<'a> = GroupingBy<Itself, Counting<&'a str>, SeededHashes>;
 
 /// The collector of the texts that fail a test and of those that pass.
 pub(crate) type TextParts<'a> = PartitioningBy<TextCheck<'a>, TextSummaryCollector<'a>>;
@@ -54,6 +61,22 @@ pub(crate) fn text_groups<'a>(
     ensures summary { (l : List (List ℕ)) → ⟦<TextGroups<'a> as Summarizes>⟧.summary result l ≡ text_groups_text keys.Itself (text_summary_text summary.entry) l }
 {
     grouped(alloc, Itself, text_summary(alloc, hashes, summary), hashes)
+}
+
+/// How many texts there are of each length.
+pub(crate) fn length_counts<'a>(alloc: Global, hashes: SeededHashes) -> LengthCounts<'a>
+    ensures ready { ⟦<LengthCounts<'a> as Collector>⟧.ready result }
+    ensures summary { (l : List (List ℕ)) → ⟦<LengthCounts<'a> as Summarizes>⟧.summary result l ≡ text_groups_text keys.Length (text_base_text bases.Count) l }
+{
+    grouped(alloc, TextLength, Counting::new(), hashes)
+}
+
+/// How often each text comes.
+pub(crate) fn text_counts<'a>(alloc: Global, hashes: SeededHashes) -> TextCounts<'a>
+    ensures ready { ⟦<TextCounts<'a> as Collector>⟧.ready result }
+    ensures summary { (l : List (List ℕ)) → ⟦<TextCounts<'a> as Summarizes>⟧.summary result l ≡ text_groups_text keys.Itself (text_base_text bases.Count) l }
+{
+    grouped(alloc, Itself, Counting::new(), hashes)
 }
 
 /// The results of the texts that fail a test, and of those that pass.

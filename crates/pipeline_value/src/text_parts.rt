@@ -6,10 +6,12 @@ ghost use Rattle.pipeline_language.specs.declared.pipeline.TextTerminal.TheVaria
 ghost use Rattle.pipeline_value.specs.Value.{Tells, text_told};
 
 use crate::collected::collected;
-use crate::text_groups::{length_groups, text_groups, text_pair, text_parts};
+use crate::text_groups::{
+    length_counts, length_groups, text_counts, text_groups, text_pair, text_parts,
+};
 use crate::told::ValueError;
 use parallel_streams::{Run, Source, Staged, Stream};
-use pipeline_language::{TextFunction, TextSummary, TextTest};
+use pipeline_language::{TextBase, TextFunction, TextSummary, TextTest};
 use pipeline_meaning::{SeededHashes, TextSteps};
 use sources::SliceSplit;
 use std::alloc::Global;
@@ -32,8 +34,15 @@ fn length_groups_value<'s, 'a, R: Threads + Sync, H: Gate + Sync>(
     requires stream { ⟦<Texts<'s, 'a> as Stream>⟧.ready stream.now }
     ensures { Tells (text_told (terminals.GroupBy keys.Length summary.entry) (⟦<Texts<'s, 'a> as Stream>⟧.value stream.now)) result }
 {
-    let groups = length_groups(alloc, hashes, summary);
-    collected(rt, alloc, stream, &groups, run)
+    match summary {
+        TextSummary::Base(TextBase::Count) => {
+            collected(rt, alloc, stream, &length_counts(alloc, hashes), run)
+        }
+        _ => {
+            let groups = length_groups(alloc, hashes, summary);
+            collected(rt, alloc, stream, &groups, run)
+        }
+    }
 }
 
 /// The text of the groups of equal texts of a stream.
@@ -49,8 +58,15 @@ fn text_groups_value<'s, 'a, R: Threads + Sync, H: Gate + Sync>(
     requires stream { ⟦<Texts<'s, 'a> as Stream>⟧.ready stream.now }
     ensures { Tells (text_told (terminals.GroupBy keys.Itself summary.entry) (⟦<Texts<'s, 'a> as Stream>⟧.value stream.now)) result }
 {
-    let groups = text_groups(alloc, hashes, summary);
-    collected(rt, alloc, stream, &groups, run)
+    match summary {
+        TextSummary::Base(TextBase::Count) => {
+            collected(rt, alloc, stream, &text_counts(alloc, hashes), run)
+        }
+        _ => {
+            let groups = text_groups(alloc, hashes, summary);
+            collected(rt, alloc, stream, &groups, run)
+        }
+    }
 }
 
 /// The text of the groups of a stream's texts by their keys.

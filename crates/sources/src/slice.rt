@@ -1,4 +1,4 @@
-ghost use Rattle.std.specs.Prelude.{◌≡◌, ⊤, length, min, map};
+ghost use Rattle.std.specs.Prelude.{◌≡◌, ⊤, length, map};
 ghost use Rattle.spliterator.specs.Clones.{ClonesAlike, TestsClonesAlike};
 
 use crate::counted::{capped, told};

@@ -1,5 +1,5 @@
 //! A run of a job's leaves on several threads.
-ghost use Rattle.std.specs.Prelude.{◌≡◌, ◌<◌, ◌≤◌, IfOk, length};
+ghost use Rattle.std.specs.Prelude.{◌≡◌, ◌<◌, ◌≤◌, IfOk};
 ghost use Rattle.leaf_board.specs.Closing.{cut_of, count_of};
 ghost use Rattle.split_tree.specs.SplitTree.{leaf_numbers, numbers_from};
 ghost use Rattle.stealing_pool.specs.Cases.{case_of};

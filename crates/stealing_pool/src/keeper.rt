@@ -1,6 +1,6 @@
 //! What is kept of a leaf, as a sink.
-ghost use Rattle.std.specs.Prelude.{◌≡◌, ◌<◌, ◌+◌, ◌^◌, cond, List, [], ◌∷◌, ◌++◌, true, OnOk, ⊤};
-ghost use Rattle.std.proofs.Common.{refl, ◌∙◌, subst, sym};
+ghost use Rattle.std.specs.Prelude.{◌≡◌, ◌<◌, ◌+◌, ◌^◌, cond, true, OnOk, ⊤};
+ghost use Rattle.std.proofs.Common.{refl, ◌∙◌};
 ghost use Rattle.barriers.specs.Needs.{need_of};
 ghost use Rattle.stealing_pool.specs.Fronts.{folding, KeepsFront};
 ghost use Rattle.stealing_pool.specs.Keepers.{IsNeed};

@@ -1,5 +1,5 @@
 //! A run of a plan's leaves through a stage into a collector.
-ghost use Rattle.std.specs.Prelude.{◌<◌, ◌≤◌, ℕ, IfOk, flat_map, length};
+ghost use Rattle.std.specs.Prelude.{◌<◌, ◌≤◌, IfOk, flat_map, length};
 ghost use Rattle.leaf_board.specs.Closing.{cut_of, count_of};
 ghost use Rattle.split_tree.specs.Plan.{leaves_of};
 ghost use Rattle.stealing_pool.specs.Fronts.{folding, IsFront, lists_of, full_count, work_of};

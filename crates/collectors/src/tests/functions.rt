@@ -1,6 +1,6 @@
 //! The functions of the rows, each beside what it computes.
-ghost use Rattle.std.specs.Prelude.{◌≡◌, ℤ, pos, ◌<ℤ◌, ◌*ℤ◌, Bool, not, length, int_lt};
-ghost use Rattle.std.specs.Int.{int_rem_euclid, w64};
+ghost use Rattle.std.specs.Prelude.{◌≡◌, ℤ, pos, ◌<ℤ◌, ◌*ℤ◌, length, int_lt};
+ghost use Rattle.std.specs.Int.{int_rem_euclid};
 ghost use Rattle.stages.specs.Wrapping.{wrapped, wrapped-value};
 
 use crate::Pairing;

@@ -1,8 +1,8 @@
 //! Collectors in collectors, and collectors by closures.
-ghost use Rattle.std.specs.Prelude.{◌≡◌, ℤ, pos, List, fold, IfOk};
+ghost use Rattle.std.specs.Prelude.{◌≡◌, ℤ, pos, fold};
 ghost use Rattle.spliterator.specs.Values.{IsI64};
 ghost use Rattle.stages.specs.Wrapping.{wrapped_sum};
-ghost use Rattle.collectors.specs.NestedLaws.{add_both, merge_both, teeing_laws};
+ghost use Rattle.collectors.specs.NestedLaws.{add_both, teeing_laws};
 ghost use Rattle.collectors.specs.Sums.{add_number, sum_laws};
 
 use super::cuts::check;

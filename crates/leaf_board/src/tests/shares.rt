@@ -1,5 +1,5 @@
 // Which leaves lie in which share.
-ghost use Rattle.std.specs.Prelude.{◌≡◌, ℕ, ◌<◌, ◌≤◌, [], None};
+ghost use Rattle.std.specs.Prelude.{◌≡◌, ◌<◌, ◌≤◌, [], None};
 ghost use Rattle.leaf_board.specs.Seats.{SameSeat};
 ghost use Rattle.leaf_board.specs.Boards.{case_of};
 

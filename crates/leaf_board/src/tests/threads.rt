@@ -1,5 +1,5 @@
 // The largest board, with each of its 64 seats in a thread.
-ghost use Rattle.std.specs.Prelude.{◌≡◌, ℕ, ◌+◌, ◌%◌, ◌^◌, ◌<◌, length, slice_index_or};
+ghost use Rattle.std.specs.Prelude.{◌≡◌, ◌+◌, ◌%◌, ◌^◌, ◌<◌};
 ghost use Rattle.barriers.specs.Needs.{need_of, IsBelow};
 ghost use Rattle.leaf_board.specs.Knowledge.{IsHeld};
 ghost use Rattle.leaf_board.specs.Seats.{SameSeat};

@@ -1,5 +1,5 @@
 //! Functions of stages and collectors, over numbers.
-ghost use Rattle.std.specs.Prelude.{◌≡◌, ◌<ℤ◌, pos, ◌+ℤ◌, ◌*ℤ◌, int_lt, replicate, unsigned_abs};
+ghost use Rattle.std.specs.Prelude.{◌≡◌, pos, ◌+ℤ◌, ◌*ℤ◌, int_lt, replicate, unsigned_abs};
 ghost use Rattle.std.specs.Int.{int_rem_euclid};
 ghost use Rattle.std.specs.Ordering.{int_eq};
 ghost use Rattle.std.proofs.lemmas.List.Elements.{All-replicate};

@@ -1,7 +1,6 @@
 //! Functions of stages and collectors, over texts.
 ghost use Rattle.std.specs.Prelude.{◌≡◌, ◌==◌, pos, length, IfOk, map};
 ghost use Rattle.std.specs.List.{slice_split};
-ghost use Rattle.std.proofs.lemmas.List.Elements.{All-nil};
 ghost use Rattle.stages.specs.Wrapping.{wrapped, wrapped-value};
 
 use spliterator::NoMemory;

@@ -1,5 +1,4 @@
 //! Functions of numbers and texts, made of what a file names.
-ghost use Rattle.std.specs.Prelude.{⊤};
 
 use crate::{
     Divisor, Itself, NumberCheck, NumberMapping, NumberMerging, TextCheck, TextLength, TextMerging,

@@ -7,6 +7,7 @@ use super::made::{
     text_answer,
 };
 use super::{TARGETS, WORKERS};
+use crate::source_size;
 use parallel_streams::Run;
 use pipeline_language::{
     NumberFunction, NumberSource, NumberStage, NumberTerminal, NumberTest, TextStage, TextTerminal,
@@ -114,6 +115,23 @@ fn not_known<R: Threads + RandomSource + Abort + Alloc<A = Global> + Sync>(
         .and(NumberStage::Skip(1))?
         .and(small)?;
     range_answer(rt, run, (0, 10), &stages, NumberTerminal::Count, "3")?;
+    Ok(())
+}
+
+#[test]
+fn sources_have_sizes(rt: HostRuntime) -> Result<(), Fail> {
+    let most = 1 << 62;
+    assert_eq!(rt; source_size(&NumberSource::Range(3, 10)), 7);
+    assert_eq!(rt; source_size(&NumberSource::Range(7, 3)), 0);
+    assert_eq!(rt;
+        source_size(&NumberSource::Range(-2, 4_611_686_018_427_387_902)),
+        most
+    );
+    assert_eq!(rt; source_size(&NumberSource::Closed(3, 10)), 8);
+    assert_eq!(rt; source_size(&NumberSource::Closed(10, 9)), 0);
+    assert_eq!(rt; source_size(&NumberSource::Closed(i64::MAX, i64::MAX)), 1);
+    let numbers = NumberSource::Numbers(Vec::from_slice(rt.alloc(), &[5, 1, 5])?);
+    assert_eq!(rt; source_size(&numbers), 3);
     Ok(())
 }
 

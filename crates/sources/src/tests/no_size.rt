@@ -1,5 +1,5 @@
 //! More items than an estimate can say, which only items of no size can be.
-ghost use Rattle.std.specs.Prelude.{◌≡◌, true, ⊤, refl};
+ghost use Rattle.std.specs.Prelude.{true, ⊤, refl};
 ghost use Rattle.std.specs.declared.cmp.Ordering.TheVariants.{Equal};
 
 use crate::SliceSplit;

@@ -1,6 +1,5 @@
 //! Functions, and those that are kept as closures.
 ghost use Rattle.std.specs.Prelude.{◌≡◌, pos, ◌+ℤ◌, ◌*ℤ◌, IfOk, int_lt};
-ghost use Rattle.spliterator.specs.Values.{IsI64};
 ghost use Rattle.stages.specs.Products.{wrapped_product};
 ghost use Rattle.stages.specs.Wrapping.{wrapped_sum, wrapped-value};
 

@@ -1,5 +1,5 @@
 //! A job as a stream has one: what one thread does with a leaf stands in a trait's method, and one function starts the threads.
-ghost use Rattle.std.specs.Prelude.{◌≡◌, ◌<◌, ◌≤◌, List, [], IfOk, flat_map, length, map, slice_index_or};
+ghost use Rattle.std.specs.Prelude.{◌≡◌, ◌<◌, ◌≤◌, List, [], IfOk, length, map, slice_index_or};
 ghost use Rattle.leaf_board.specs.Statuses.{SameFrom, StaysSeat};
 ghost use Rattle.split_tree.specs.SplitTree.{leaf_numbers, numbers_from};
 ghost use Rattle.stealing_pool.specs.Fronts.{folding, EndsList, IsFront, joined, work_of};
