@@ -123,6 +123,11 @@ fn text_groups<R: Threads + RandomSource + Abort + Alloc<A = Global> + Sync>(
     let sum = TextSummary::MappingLength(NumberInner::Base(NumberBase::Sum));
     let sums = TextTerminal::GroupBy(TextFunction::Length, sum);
     text_answer(rt, run, &["a b", "c", "a"], &all, sums, "{3=3, 1=2}")?;
+    let count = TextSummary::Base(TextBase::Count);
+    let of_length = TextTerminal::GroupBy(TextFunction::Length, count);
+    text_answer(rt, run, &["bb", "a", "cc"], &all, of_length, "{2=2, 1=1}")?;
+    let of_text = TextTerminal::GroupBy(TextFunction::Itself, count);
+    text_answer(rt, run, &["a", "bb", "a"], &all, of_text, "{a=2, bb=1}")?;
     let counts = TextSummary::GroupBy(TextFunction::Length, TextInner::Base(TextBase::Count));
     let apart = TextTerminal::GroupBy(TextFunction::Itself, counts);
     text_answer(
