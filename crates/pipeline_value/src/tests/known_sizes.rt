@@ -1,6 +1,7 @@
 //! Counts that are known from the source's size run no leaf.
 
 ghost use Rattle.parallel_streams.specs.Runs.{IsLawfulRun};
+ghost use Rattle.pipeline_value.specs.Ranges.{NumberSourceFits};
 
 use super::made::{
     Counts, NumberStages, TextStages, length_answer, list_answer, number_answer, range_answer,
@@ -94,6 +95,13 @@ fn lists<R: Threads + RandomSource + Abort + Alloc<A = Global> + Sync>(
     Ok(())
 }
 
+fn has_size<R: Abort>(rt: &R, source: &NumberSource, wanted: u64) -> Result<(), Fail>
+    requires { NumberSourceFits source.now }
+{
+    assert_eq!(rt; source_size(source), wanted);
+    Ok(())
+}
+
 fn known<R: Threads + RandomSource + Abort + Alloc<A = Global> + Sync>(
     rt: &R,
     run: &Run<'_, Counts>,
@@ -120,19 +128,15 @@ fn not_known<R: Threads + RandomSource + Abort + Alloc<A = Global> + Sync>(
 
 #[test]
 fn sources_have_sizes(rt: HostRuntime) -> Result<(), Fail> {
-    let most = 1 << 62;
-    assert_eq!(rt; source_size(&NumberSource::Range(3, 10)), 7);
-    assert_eq!(rt; source_size(&NumberSource::Range(7, 3)), 0);
-    assert_eq!(rt;
-        source_size(&NumberSource::Range(-2, 4_611_686_018_427_387_902)),
-        most
-    );
-    assert_eq!(rt; source_size(&NumberSource::Closed(3, 10)), 8);
-    assert_eq!(rt; source_size(&NumberSource::Closed(10, 9)), 0);
-    assert_eq!(rt; source_size(&NumberSource::Closed(i64::MAX, i64::MAX)), 1);
+    has_size(&rt, &NumberSource::Range(3, 10), 7)?;
+    has_size(&rt, &NumberSource::Range(7, 3), 0)?;
+    let most = NumberSource::Range(-2, 4_611_686_018_427_387_902);
+    has_size(&rt, &most, 4_611_686_018_427_387_904)?;
+    has_size(&rt, &NumberSource::Closed(3, 10), 8)?;
+    has_size(&rt, &NumberSource::Closed(10, 9), 0)?;
+    has_size(&rt, &NumberSource::Closed(i64::MAX, i64::MAX), 1)?;
     let numbers = NumberSource::Numbers(Vec::from_slice(rt.alloc(), &[5, 1, 5])?);
-    assert_eq!(rt; source_size(&numbers), 3);
-    Ok(())
+    has_size(&rt, &numbers, 3)
 }
 
 #[test]
