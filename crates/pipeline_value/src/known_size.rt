@@ -140,7 +140,7 @@ fn text_size_after(size: u64, stage: &TextStage<'_>) -> Option<u64>
     }
 }
 
-/// How many numbers a source has, up to 2^62.
+/// How many numbers a source has. A range has up to 2^62.
 ///
 /// ```text
 /// range 3 10       // 7
