@@ -14,6 +14,3 @@ pub use distinct::Distinct;
 pub use limit::Limit;
 pub use skip::Skip;
 pub use whiles::{DropWhile, TakeWhile};
-
-#[cfg(test)]
-mod tests;

@@ -11,4 +11,3 @@ pub mod Ends
 pub mod Closing
 pub mod Gathering
 pub mod Handing
-pub mod Simulated

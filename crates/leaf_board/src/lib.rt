@@ -6,8 +6,6 @@ mod board_handout;
 mod handout;
 mod record;
 mod rule;
-#[cfg(test)]
-mod tests;
 mod view;
 
 pub use board::{Board, BoardSeat, LeafPass};

@@ -18,6 +18,3 @@ pub use run::{MapError, Run, StreamError};
 pub use source::{Source, of};
 pub use staged::Staged;
 pub use stream::Stream;
-
-#[cfg(test)]
-mod tests;

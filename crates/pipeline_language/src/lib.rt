@@ -18,6 +18,3 @@ pub use pipeline::{
     TextInner, TextMerge, TextStage, TextSummary, TextTerminal, TextTest, TextValue,
 };
 pub use reading::{MOST_BYTES, MOST_STAGES, one_reading, read_pipeline};
-
-#[cfg(test)]
-mod tests;

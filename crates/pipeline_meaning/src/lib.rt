@@ -44,6 +44,3 @@ pub use text_summaries::{
     TextSummaryCollector, TextSummaryContainer, TextSummaryResult, text_summary,
 };
 pub use written::Written;
-
-#[cfg(test)]
-mod tests;

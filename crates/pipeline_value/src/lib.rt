@@ -24,6 +24,3 @@ mod value;
 pub use known_size::source_size;
 pub use told::ValueError;
 pub use value::pipeline_value;
-
-#[cfg(test)]
-mod tests;

@@ -13,8 +13,6 @@ mod plan_run;
 mod report;
 mod run;
 mod stretch;
-#[cfg(test)]
-mod tests;
 mod worker;
 
 pub use gate::{Gate, NoGate};

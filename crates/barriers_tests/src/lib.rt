@@ -1,0 +1,5 @@
+//! The tests of `barriers`.
+#![tactic(auto)]
+
+#[cfg(test)]
+mod tests;

@@ -1,0 +1,5 @@
+//! The tests of `collectors`.
+#![tactic(auto)]
+
+#[cfg(test)]
+mod tests;

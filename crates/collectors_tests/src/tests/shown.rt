@@ -1,0 +1,126 @@
+//! Results as Java prints them.
+use collectors::{DuplicateKey, Partition};
+use either::{Either, Left, Right};
+use indexmap::IndexMap;
+use spliterator::NoMemory;
+use std::alloc::Global;
+use std::hash::{BuildHasher, Hash};
+
+/// A result that has a text.
+pub trait Shown {
+    fn show(&self, alloc: Global, text: &mut String) -> Result<(), NoMemory>;
+}
+
+/// The text of a result.
+pub fn text_of<R: Shown>(alloc: Global, value: &R) -> Result<String, NoMemory> {
+    let mut text = String::new(alloc);
+    value.show(alloc, &mut text)?;
+    Ok(text)
+}
+
+impl Shown for i64 {
+    fn show(&self, alloc: Global, text: &mut String) -> Result<(), NoMemory> {
+        let digits = format!(in alloc; "{self}")?;
+        text.push_str(digits.as_str())?;
+        Ok(())
+    }
+}
+
+impl Shown for &str {
+    fn show(&self, _alloc: Global, text: &mut String) -> Result<(), NoMemory> {
+        text.push_str(self)?;
+        Ok(())
+    }
+}
+
+impl Shown for String {
+    fn show(&self, _alloc: Global, text: &mut String) -> Result<(), NoMemory> {
+        text.push_str(self.as_str())?;
+        Ok(())
+    }
+}
+
+impl<A: Shown, B: Shown> Shown for (A, B) {
+    fn show(&self, alloc: Global, text: &mut String) -> Result<(), NoMemory> {
+        text.push_str("(")?;
+        self.0.show(alloc, text)?;
+        text.push_str(", ")?;
+        self.1.show(alloc, text)?;
+        text.push_str(")")?;
+        Ok(())
+    }
+}
+
+impl<R: Shown> Shown for Option<R> {
+    fn show(&self, alloc: Global, text: &mut String) -> Result<(), NoMemory> {
+        match self {
+            Some(value) => {
+                text.push_str("Optional[")?;
+                value.show(alloc, text)?;
+                text.push_str("]")?;
+            }
+            None => text.push_str("Optional.empty")?,
+        }
+        Ok(())
+    }
+}
+
+impl<R: Shown> Shown for Vec<R> {
+    fn show(&self, alloc: Global, text: &mut String) -> Result<(), NoMemory> {
+        let mut between = "[";
+        for item in self {
+            text.push_str(between)?;
+            item.show(alloc, text)?;
+            between = ", ";
+        }
+        text.push_str(if self.is_empty() { "[]" } else { "]" })?;
+        Ok(())
+    }
+}
+
+impl<R: Shown> Shown for Partition<R> {
+    fn show(&self, alloc: Global, text: &mut String) -> Result<(), NoMemory> {
+        text.push_str("{false=")?;
+        self.no.show(alloc, text)?;
+        text.push_str(", true=")?;
+        self.yes.show(alloc, text)?;
+        text.push_str("}")?;
+        Ok(())
+    }
+}
+
+impl<K: Shown + Eq + Hash, V: Shown, S: BuildHasher> Shown for IndexMap<K, V, S> {
+    fn show(&self, alloc: Global, text: &mut String) -> Result<(), NoMemory> {
+        let mut between = "{";
+        for (key, value) in self.iter() {
+            text.push_str(between)?;
+            key.show(alloc, text)?;
+            text.push_str("=")?;
+            value.show(alloc, text)?;
+            between = ", ";
+        }
+        text.push_str(if self.is_empty() { "{}" } else { "}" })?;
+        Ok(())
+    }
+}
+
+impl<M: Shown, K: Shown> Shown for Result<M, DuplicateKey<K>> {
+    fn show(&self, alloc: Global, text: &mut String) -> Result<(), NoMemory> {
+        match self {
+            Ok(map) => map.show(alloc, text),
+            Err(duplicate) => {
+                text.push_str("duplicate key ")?;
+                duplicate.key.show(alloc, text)
+            }
+        }
+    }
+}
+
+impl<A: Shown, B: Shown> Shown for Either<A, B> {
+    fn show(&self, alloc: Global, text: &mut String) -> Result<(), NoMemory> {
+        match self {
+            Left(value) => value.show(alloc, text),
+            Right(value) => value.show(alloc, text),
+        }
+    }
+}

@@ -1,0 +1,51 @@
+//! Barriers behind a source that borrows, in a caller that names the borrow.
+
+use super::functions::Below;
+use super::{TARGETS, WORKERS};
+use parallel_streams::{Run, Stream, StreamError, of};
+use collectors::ToList;
+use sources::SliceSplit;
+use std::alloc::Global;
+use std::test::Fail;
+use std::thread::Threads;
+use stealing_pool::NoGate;
+
+fn second_and_third<R: Threads + Alloc<A = Global> + Sync>(
+    rt: &R,
+    run: &Run<'_, NoGate>,
+    numbers: &[i64],
+) -> Result<Vec<i64>, StreamError> {
+    of(SliceSplit::new(numbers))
+        .filter(Below(10))
+        .skip(1)
+        .limit(2)
+        .collect(rt, rt.alloc(), run, &ToList::new(rt.alloc()))
+}
+
+fn count_of_words<'a, R: Threads + Alloc<A = Global> + Sync>(
+    rt: &R,
+    run: &Run<'_, NoGate>,
+    texts: &[&'a str],
+) -> Result<i64, StreamError> {
+    of(SliceSplit::new(texts))
+        .distinct()
+        .count(rt, rt.alloc(), run)
+}
+
+#[test]
+fn barriers_behind_what_is_borrowed(rt: HostRuntime) -> Result<(), Fail> {
+    for workers in WORKERS {
+        for target in TARGETS {
+            let run = Run {
+                workers,
+                target,
+                gate: &NoGate,
+            };
+            let pair = second_and_third(&rt, &run, &[4, 15, 8, 16, 2, 3])?;
+            assert_eq!(rt; pair.as_slice(), [8, 2].as_slice());
+            let words = count_of_words(&rt, &run, &["b", "a", "b", "c", "a"])?;
+            assert_eq!(rt; words, 3);
+        }
+    }
+    Ok(())
+}

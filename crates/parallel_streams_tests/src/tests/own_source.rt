@@ -1,0 +1,86 @@
+//! A caller's own source.
+ghost use Rattle.std.proofs.Common.{sym, true≢false};
+ghost use Rattle.std.specs.Prelude.{◌<◌, ◌^◌, replicate};
+ghost use Rattle.spliterator.specs.Spliterator.{IsSplit};
+
+use super::{TARGETS, WORKERS};
+use parallel_streams::{Run, Stream, of};
+use collectors::ToList;
+use spliterator::{NoMemory, Spliterator};
+use stages::WrapAdd;
+use std::test::Fail;
+use stealing_pool::NoGate;
+
+/// One number again and again: a source that never splits, and tells nothing but its order.
+#[derive(Clone, Copy)]
+struct Again {
+    number: i64,
+    left: u64,
+    ghost few: { left < 2 ^ 63 },
+}
+
+impl Spliterator for Again {
+    type Item = i64;
+
+    ghost items = { λ s. replicate s.left s.number };
+
+    ghost weight = { λ s. s.left };
+
+    ghost estimate = { λ s. s.left };
+
+    ghost told = { λ _. 0x10 };
+
+    ghost MayRefuse = { λ _. ⊥ };
+
+    ghost split_gives = { IsSplit (λ s. replicate s.left s.number) (λ s. s.left) (λ s. s.left) (λ _. 0x10) };
+
+    fn try_advance(&mut self) -> Result<Option<i64>, NoMemory> {
+        if self.left == 0 {
+            return Ok(None);
+        }
+        self.left -= 1;
+        Ok(Some(self.number))
+    }
+
+    fn try_split(&mut self) -> Option<Again> {
+        None
+    }
+
+    fn estimate_size(&self) -> u64 {
+        self.left
+    }
+
+    fn characteristics(&self) -> u32 {
+        0x10
+    }
+
+    ghost split_law = { λ s part rest h. h };
+
+    ghost size_law = { λ s. record { exact = λ h. absurd (true≢false (sym h)); at_most = s.few } };
+
+    ghost flag_law = { λ s. record { distinct = λ h. absurd (true≢false (sym h)); sorted = λ h. absurd (true≢false (sym h)) } };
+}
+
+#[test]
+fn a_source_of_the_callers_own(rt: HostRuntime) -> Result<(), Fail> {
+    let alloc = rt.alloc();
+    let sevens = of(Again { number: 7, left: 3 });
+    assert_eq!(rt; sevens.known_size(), None);
+    for target in TARGETS {
+        for workers in WORKERS {
+            let run = Run {
+                workers,
+                target,
+                gate: &NoGate,
+            };
+            assert_eq!(rt; sevens.count(&rt, alloc, &run)?, 3);
+            let sum = sevens.reduce(&rt, alloc, &run, 0, &WrapAdd::new())?;
+            assert_eq!(rt; sum, 21);
+            let two = of(Again { number: 7, left: 3 })
+                .skip(1)
+                .collect(&rt, alloc, &run, &ToList::new(alloc))?;
+            assert_eq!(rt; two.as_slice(), [7, 7].as_slice());
+        }
+    }
+    Ok(())
+}

@@ -1,0 +1,71 @@
+//! A caller's own stage.
+ghost use Rattle.std.specs.Prelude.{pos, [], ◌∷◌, None};
+ghost use Rattle.stages.specs.declared.flags.Operation.TheVariants.{FlatMap as flat_map_row};
+ghost use Rattle.stages.specs.FlagLaws.{KeepsSound-flat_map};
+ghost use Rattle.stages.specs.Wrapping.{wrapped_sum};
+ghost use Rattle.std.specs.Ordering.{int_cmp};
+
+use super::{TARGETS, WORKERS};
+use parallel_streams::{Run, Stream, of};
+use collectors::ToList;
+use sources::RangeSplit;
+use spliterator::NoMemory;
+use stages::{Operation, Operator, Sink, Stage, WrapAdd};
+use std::test::Fail;
+use stealing_pool::NoGate;
+
+/// Each number, and then the next one.
+#[derive(Drop)]
+struct WithNext;
+
+impl Stage for WithNext {
+    type In = i64;
+
+    type Out = i64;
+
+    ghost expand = { λ _ x. x ∷ wrapped_sum x (pos 1) ∷ [] };
+
+    ghost operation = { λ _. flat_map_row };
+
+    ghost size_after = { λ _ _. None };
+
+    ghost flag_law = { λ _. KeepsSound-flat_map int_cmp int_cmp (λ x. x ∷ wrapped_sum x (pos 1) ∷ []) };
+
+    fn feed<K: Sink<i64>>(&self, x: i64, sink: &mut K) -> Result<(), NoMemory> {
+        let next = WrapAdd::new().join(&x, &1)?;
+        sink.take(x)?;
+        sink.take(next)
+    }
+
+    fn operation(&self) -> Operation {
+        Operation::FlatMap
+    }
+
+    fn size_after(&self, _size: Option<u64>) -> Option<u64> {
+        None
+    }
+}
+
+#[test]
+fn a_stage_of_the_callers_own(rt: HostRuntime) -> Result<(), Fail> {
+    let alloc = rt.alloc();
+    for target in TARGETS {
+        for workers in WORKERS {
+            let run = Run {
+                workers,
+                target,
+                gate: &NoGate,
+            };
+            let items = of(RangeSplit::range(0, 3)?)
+                .then(WithNext)
+                .collect(&rt, alloc, &run, &ToList::new(alloc))?;
+            assert_eq!(rt; items.as_slice(), [0, 1, 1, 2, 2, 3].as_slice());
+            let different = of(RangeSplit::range(0, 3)?)
+                .then(WithNext)
+                .distinct()
+                .count(&rt, alloc, &run)?;
+            assert_eq!(rt; different, 4);
+        }
+    }
+    Ok(())
+}

@@ -1,0 +1,35 @@
+//! Settings that are refused before anything runs.
+
+use super::gates::Counts;
+use parallel_streams::{Run, Stream, StreamError, of};
+use sources::RangeSplit;
+use std::sync::atomic::Ordering;
+use std::test::Fail;
+
+#[test]
+fn unlawful_settings_are_refused(rt: HostRuntime) -> Result<(), Fail> {
+    let gate = Counts::new();
+    let ten = of(RangeSplit::range(0, 10)?);
+    for (workers, target, error) in [
+        (0, 0, StreamError::BadWorkers),
+        (65, 0, StreamError::BadWorkers),
+        (1, 4_611_686_018_427_387_905, StreamError::BadTarget),
+        (0, 4_611_686_018_427_387_905, StreamError::BadWorkers),
+    ] {
+        let run = Run {
+            workers,
+            target,
+            gate: &gate,
+        };
+        assert_eq!(rt; ten.count(&rt, rt.alloc(), &run), Err(error));
+        assert_eq!(rt; ten.find_first(&rt, rt.alloc(), &run), Err(error));
+    }
+    assert_eq!(rt; gate.entered.load(Ordering::SeqCst), 0);
+    let run = Run {
+        workers: 64,
+        target: 4_611_686_018_427_387_904,
+        gate: &gate,
+    };
+    assert_eq!(rt; ten.find_first(&rt, rt.alloc(), &run)?, Some(0));
+    Ok(())
+}

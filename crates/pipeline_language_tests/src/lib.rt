@@ -1,0 +1,5 @@
+//! The tests of `pipeline_language`.
+#![tactic(auto)]
+
+#[cfg(test)]
+mod tests;

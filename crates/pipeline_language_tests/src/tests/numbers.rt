@@ -1,0 +1,140 @@
+//! Pipelines of numbers that are read.
+
+use pipeline_language::{
+    NumberBase, NumberFunction, NumberMerge, NumberSource, NumberStage, NumberSummary,
+    NumberTerminal, NumberTest, Pipeline, ReadError, read_pipeline,
+};
+use std::alloc::{AllocError, Global};
+use std::test::Fail;
+
+/// Whether the file is a pipeline of the numbers with the stages and the terminal.
+fn is_of_numbers(
+    alloc: Global,
+    file: &[u8],
+    numbers: &[i64],
+    stages: &[NumberStage],
+    terminal: NumberTerminal,
+) -> Result<bool, AllocError> {
+    match read_pipeline(alloc, file) {
+        Ok(Pipeline::Numbers(source, body)) => {
+            let same_source =
+                matches!(&source, NumberSource::Numbers(read) if read.as_slice() == numbers);
+            Ok(same_source && body.stages.as_slice() == stages && body.terminal == terminal)
+        }
+        Ok(Pipeline::Texts(_texts, _body)) => Ok(false),
+        Err(ReadError::Fault(_)) => Ok(false),
+        Err(ReadError::NoMemory) => Err(AllocError),
+    }
+}
+
+#[test]
+fn reads_stages_over_numbers(rt: HostRuntime) -> Result<(), Fail> {
+    let file =
+        b"pipeline 1\nnumbers 5 -2 9223372036854775807\nmap add -3\nmap mul 2\nmap negate\nmap mod 7\nmap self\n\
+        filter less 1\nfilter greater 2\nfilter equals 3\nfilter divisible 4\nflatmap repeat 1000\ndistinct\nlimit 0\n\
+        skip 9223372036854775807\ntakewhile less 5\ndropwhile less 6\ntomap self negate last\n";
+    let stages = [
+        NumberStage::Map(NumberFunction::Add(-3)),
+        NumberStage::Map(NumberFunction::Mul(2)),
+        NumberStage::Map(NumberFunction::Negate),
+        NumberStage::Map(NumberFunction::Mod(7)),
+        NumberStage::Map(NumberFunction::Itself),
+        NumberStage::Filter(NumberTest::Less(1)),
+        NumberStage::Filter(NumberTest::Greater(2)),
+        NumberStage::Filter(NumberTest::Equals(3)),
+        NumberStage::Filter(NumberTest::Divisible(4)),
+        NumberStage::Repeat(1000),
+        NumberStage::Distinct,
+        NumberStage::Limit(0),
+        NumberStage::Skip(9_223_372_036_854_775_807),
+        NumberStage::TakeWhile(NumberTest::Less(5)),
+        NumberStage::DropWhile(NumberTest::Less(6)),
+    ];
+    let terminal = NumberTerminal::ToMap(
+        NumberFunction::Itself,
+        NumberFunction::Negate,
+        NumberMerge::Last,
+    );
+    assert!(rt; is_of_numbers(rt.alloc(), file, &[5, -2, i64::MAX], &stages, terminal)?);
+    Ok(())
+}
+
+/// The terminal of a pipeline over no numbers, of a version, whose last line is the given one.
+pub(super) fn number_terminal(
+    alloc: Global,
+    version: u64,
+    line: &str,
+) -> Result<Option<NumberTerminal>, AllocError> {
+    let file = format!(in alloc; "pipeline {version}\nnumbers\n{line}\n")?;
+    match read_pipeline(alloc, file.as_bytes()) {
+        Ok(Pipeline::Numbers(_source, body)) => Ok(Some(body.terminal)),
+        Ok(Pipeline::Texts(_texts, _body)) => Ok(None),
+        Err(ReadError::Fault(_)) => Ok(None),
+        Err(ReadError::NoMemory) => Err(AllocError),
+    }
+}
+
+#[test]
+fn reads_terminals_of_numbers(rt: HostRuntime) -> Result<(), Fail> {
+    let below = NumberTest::Less(3);
+    let rows: [(&str, NumberTerminal); 10] = [
+        ("sum", NumberTerminal::Sum),
+        ("product", NumberTerminal::Product),
+        ("max", NumberTerminal::Max),
+        ("min", NumberTerminal::Min),
+        ("count", NumberTerminal::Count),
+        ("findfirst", NumberTerminal::FindFirst),
+        ("tolist", NumberTerminal::ToList),
+        ("allmatch less 3", NumberTerminal::AllMatch(below)),
+        ("anymatch less 3", NumberTerminal::AnyMatch(below)),
+        ("nonematch less 3", NumberTerminal::NoneMatch(below)),
+    ];
+    for (line, wanted) in rows {
+        assert_eq!(rt; number_terminal(rt.alloc(), 1, line)?, Some(wanted));
+        assert_eq!(rt; number_terminal(rt.alloc(), 2, line)?, Some(wanted));
+    }
+    Ok(())
+}
+
+#[test]
+fn reads_terminals_with_collectors(rt: HostRuntime) -> Result<(), Fail> {
+    let below = NumberTest::Less(3);
+    let odd = NumberFunction::Mod(2);
+    let rows: [(&str, NumberTerminal); 6] = [
+        (
+            "groupby mod 2 counting",
+            NumberTerminal::GroupBy(odd, NumberSummary::Base(NumberBase::Count)),
+        ),
+        (
+            "groupby mod 2 count",
+            NumberTerminal::GroupBy(odd, NumberSummary::Base(NumberBase::Count)),
+        ),
+        (
+            "partition less 3 tolist",
+            NumberTerminal::Partition(below, NumberSummary::Base(NumberBase::ToList)),
+        ),
+        (
+            "teeing sum first",
+            NumberTerminal::Teeing(
+                NumberSummary::Base(NumberBase::Sum),
+                NumberSummary::Base(NumberBase::First),
+            ),
+        ),
+        (
+            "teeing max min",
+            NumberTerminal::Teeing(
+                NumberSummary::Base(NumberBase::Max),
+                NumberSummary::Base(NumberBase::Min),
+            ),
+        ),
+        (
+            "tomap mod 2 mod 2 sum",
+            NumberTerminal::ToMap(odd, odd, NumberMerge::Sum),
+        ),
+    ];
+    for (line, wanted) in rows {
+        assert_eq!(rt; number_terminal(rt.alloc(), 1, line)?, Some(wanted));
+        assert_eq!(rt; number_terminal(rt.alloc(), 2, line)?, Some(wanted));
+    }
+    Ok(())
+}

@@ -1,0 +1,87 @@
+//! The gate of the tests: each other type of gate would be one more copy of the whole run in the compiled tests.
+
+use pipeline_runner::Gate;
+use std::hint;
+use std::sync::atomic::{AtomicU64, Ordering};
+
+/// The most turns for which a worker is held.
+const TURNS: u64 = 10_000_000;
+
+/// Counts the leaves that were entered and ended, and the calls of no worker. It may hold the first worker at its first leaf until another
+/// worker has entered a leaf.
+#[derive(Drop)]
+pub struct Watch {
+    holds: bool,
+    /// A bit for each worker that has entered a leaf.
+    workers: AtomicU64,
+    entered: AtomicU64,
+    ended: AtomicU64,
+    strays: AtomicU64,
+    missed: AtomicU64,
+}
+
+impl Watch {
+    /// A gate that holds the first worker, or that only counts.
+    pub fn new(holds: bool) -> Watch {
+        Watch {
+            holds,
+            workers: AtomicU64::new(0),
+            entered: AtomicU64::new(0),
+            ended: AtomicU64::new(0),
+            strays: AtomicU64::new(0),
+            missed: AtomicU64::new(0),
+        }
+    }
+
+    /// How many leaves were entered and ended, and how many calls were no worker's.
+    pub fn calls(&self) -> (u64, u64, u64) {
+        (
+            self.entered.load(Ordering::SeqCst),
+            self.ended.load(Ordering::SeqCst),
+            self.strays.load(Ordering::SeqCst),
+        )
+    }
+
+    /// How many workers have entered a leaf.
+    pub fn worker_count(&self) -> u32 {
+        self.workers.load(Ordering::SeqCst).count_ones()
+    }
+
+    /// Whether the first worker was held in vain.
+    pub fn was_missed(&self) -> bool {
+        self.missed.load(Ordering::SeqCst) > 0
+    }
+
+    /// Counts a call of a worker, which has to be one of the 64.
+    fn count(&self, calls: &AtomicU64, worker: u32) {
+        calls.fetch_add(1, Ordering::SeqCst);
+        if worker >= 64 {
+            self.strays.fetch_add(1, Ordering::SeqCst);
+        }
+    }
+
+    /// Turns until a worker with another bit has come.
+    fn wait_for_another(&self, own: u64) {
+        for _ in 0..TURNS {
+            if self.workers.load(Ordering::SeqCst) != own {
+                return;
+            }
+            hint::spin_loop();
+        }
+        self.missed.fetch_add(1, Ordering::SeqCst);
+    }
+}
+
+impl Gate for Watch {
+    fn before_leaf(&self, worker: u32, _leaf: usize) {
+        self.count(&self.entered, worker);
+        let own = 1 << (worker % 64);
+        if self.workers.fetch_or(own, Ordering::SeqCst) == 0 && self.holds {
+            self.wait_for_another(own);
+        }
+    }
+
+    fn after_leaf(&self, worker: u32, _leaf: usize) {
+        self.count(&self.ended, worker);
+    }
+}

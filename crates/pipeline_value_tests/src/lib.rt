@@ -1,0 +1,5 @@
+//! The tests of `pipeline_value`.
+#![tactic(auto)]
+
+#[cfg(test)]
+mod tests;

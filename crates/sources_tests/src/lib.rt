@@ -1,0 +1,5 @@
+//! The tests of `sources`.
+#![tactic(auto)]
+
+#[cfg(test)]
+mod tests;

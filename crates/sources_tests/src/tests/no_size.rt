@@ -1,0 +1,62 @@
+//! More items than an estimate can say, which only items of no size can be.
+ghost use Rattle.std.specs.Prelude.{true, ⊤, refl};
+ghost use Rattle.std.specs.declared.cmp.Ordering.TheVariants.{Equal};
+
+use sources::SliceSplit;
+use spliterator::{MAX_ESTIMATE, OrderedValue, Spliterator, Value};
+use std::process::Abort;
+
+/// The one value of its type, which takes no room.
+#[derive(Clone, Copy, Debug, PartialEq, Eq, PartialOrd, Ord)]
+struct Mark;
+
+impl Value for Mark {
+    type Content = ();
+
+    ghost content = { λ _. tt };
+
+    ghost same = { λ _ _. true };
+
+    ghost is_value = { λ _. ⊤ };
+
+    ghost same_decides = { λ x y. (λ _. refl, λ _. refl) };
+
+    ghost eq_is_same = { Prim.search };
+
+    fn is_value(&self) -> bool {
+        true
+    }
+}
+
+impl OrderedValue for Mark {
+    ghost order = { λ _ _. Equal };
+
+    ghost order_total = { record { antisymm = λ x y. refl; trans = λ x y z same below. below; congr = λ x y z same. refl } };
+
+    ghost order_ties = { λ _ _. refl };
+
+    ghost cmp_is_order = { Prim.search };
+}
+
+/// Checks what a slice of `N` marks tells and estimates, and the parts of its first split.
+fn check<const N: usize>(rt: &impl Abort, told: u32, estimate: u64, half: u64) {
+    let marks = [Mark; N];
+    let mut rest = SliceSplit::new(&marks);
+    assert_eq!(rt; rest.characteristics(), told);
+    assert_eq!(rt; rest.estimate_size(), estimate);
+    let part = rest.try_split();
+    assert_eq!(rt; part.and_then(|part| part.exact_size()), Some(half));
+    assert_eq!(rt; rest.exact_size(), Some(4_611_686_018_427_387_904));
+}
+
+#[test]
+fn a_slice_of_more_items_than_an_estimate_can_say_tells_no_size(rt: HostRuntime) {
+    let half = 4_611_686_018_427_387_904;
+    check::<9_223_372_036_854_775_808>(&rt, 0x510, MAX_ESTIMATE, half);
+}
+
+#[test]
+fn a_slice_of_as_many_items_as_an_estimate_can_say_tells_its_size(rt: HostRuntime) {
+    let half = 4_611_686_018_427_387_903;
+    check::<9_223_372_036_854_775_807>(&rt, 0x4550, MAX_ESTIMATE, half);
+}

@@ -1,0 +1,5 @@
+//! The tests of `spliterator`.
+#![tactic(auto)]
+
+#[cfg(test)]
+mod tests;

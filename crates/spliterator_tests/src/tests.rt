@@ -1,0 +1,86 @@
+use spliterator::characteristics::{
+    CONCURRENT, DISTINCT, IMMUTABLE, NONNULL, ORDERED, SIZED, SORTED, SUBSIZED,
+};
+use spliterator::{MAX_ESTIMATE, NoMemory, OrderedValue, Text, Value};
+use std::alloc::{AllocError, Global};
+use std::cmp::Ordering;
+use std::test::Fail;
+
+#[test]
+fn characteristics_have_javas_numbers(rt: HostRuntime) {
+    let told = [
+        DISTINCT, SORTED, ORDERED, SIZED, NONNULL, IMMUTABLE, CONCURRENT, SUBSIZED,
+    ];
+    let java = [0x1, 0x4, 0x10, 0x40, 0x100, 0x400, 0x1000, 0x4000];
+    assert_eq!(rt; told.as_slice(), java.as_slice());
+    assert_eq!(rt; MAX_ESTIMATE, u64::MAX / 2);
+}
+
+/// Whether each member is a value that stands below the next one, and equals itself alone, as the bound tells it.
+fn ascends<T: OrderedValue>(members: &[T]) -> bool {
+    let mut is_ascending = true;
+    let mut before: Option<&T> = None;
+    for member in members {
+        is_ascending = is_ascending && member.is_value() && member == member;
+        if let Some(lower) = before {
+            is_ascending = is_ascending && lower.cmp(member) == Ordering::Less && lower != member;
+        }
+        before = Some(member);
+    }
+    is_ascending
+}
+
+fn texts(alloc: Global) -> Result<[String; 4], AllocError> {
+    Ok([
+        String::new(alloc),
+        String::from_str(alloc, "a")?,
+        String::from_str(alloc, "aé")?,
+        String::from_str(alloc, "é")?,
+    ])
+}
+
+#[test]
+fn values_are_ordered_by_their_contents(rt: HostRuntime) -> Result<(), Fail> {
+    assert!(rt; ascends(&[i64::MIN, -1, 0, i64::MAX]));
+    assert!(rt; !ascends(&[1, 1]));
+    assert!(rt; ascends(&["", "a", "ab", "z", "é"]));
+    assert!(rt; !ascends(&["é", "z"]));
+    let strings = texts(rt.alloc())?;
+    assert!(rt; ascends(&strings));
+    let [empty, short, long, last] = strings;
+    let lists = [
+        Vec::new(rt.alloc()),
+        Vec::from_array(rt.alloc(), [empty])?,
+        Vec::from_array(rt.alloc(), [short])?,
+        Vec::from_array(rt.alloc(), [long, last])?,
+    ];
+    assert!(rt; ascends(&lists));
+    let numbers = [
+        Vec::new(rt.alloc()),
+        Vec::from_array(rt.alloc(), [-1])?,
+        Vec::from_array(rt.alloc(), [-1, 0])?,
+        Vec::from_array(rt.alloc(), [0])?,
+    ];
+    assert!(rt; ascends(&numbers));
+    Ok(())
+}
+
+/// The number of bytes of a text.
+fn length_in_bytes<T: Text>(text: &T) -> usize {
+    text.text().len()
+}
+
+#[test]
+fn texts_are_their_bytes(rt: HostRuntime) -> Result<(), Fail> {
+    assert_eq!(rt; length_in_bytes(&"aé\n"), 4);
+    assert_eq!(rt; length_in_bytes(&String::from_str(rt.alloc(), "aé\n")?), 4);
+    assert_eq!(rt; length_in_bytes(&String::new(rt.alloc())), 0);
+    Ok(())
+}
+
+#[test]
+fn a_want_of_memory_is_told(rt: HostRuntime) -> Result<(), Fail> {
+    let text = format!(in rt.alloc(); "{}", NoMemory::from(AllocError))?;
+    assert_eq!(rt; text.as_str(), "out of memory");
+    Ok(())
+}

@@ -1,0 +1,5 @@
+//! The tests of `stages`.
+#![tactic(auto)]
+
+#[cfg(test)]
+mod tests;

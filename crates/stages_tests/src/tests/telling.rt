@@ -1,0 +1,77 @@
+//! What streams tell of their items.
+use stages::{Operation, StreamFlags};
+use std::process::Abort;
+
+const SORTED_SET: u32 = 0x4555;
+
+const TOLD_NOTHING: u32 = 0x4110;
+
+/// Whether the flags tell distinct, sorted and sized, and whether they are of a short circuit.
+fn told(flags: StreamFlags) -> [bool; 4] {
+    [
+        flags.is_distinct(),
+        flags.is_sorted(),
+        flags.is_sized(),
+        flags.is_short_circuit(),
+    ]
+}
+
+fn check(rt: &impl Abort, flags: StreamFlags, row: [bool; 4]) {
+    assert!(rt; told(flags) == row);
+}
+
+#[test]
+fn a_source_tells_its_characteristics(rt: HostRuntime) {
+    let flags = StreamFlags::of(SORTED_SET);
+    check(&rt, flags, [true, true, true, false]);
+    check(&rt, StreamFlags::of(TOLD_NOTHING), [false; 4]);
+    check(&rt, StreamFlags::of(0x1), [true, false, false, false]);
+    check(&rt, StreamFlags::of(0x4), [false, true, false, false]);
+    check(&rt, StreamFlags::of(0x40), [false, false, true, false]);
+    let filtered = flags.after(Operation::Filter);
+    check(
+        &rt,
+        filtered.after(Operation::Limit),
+        [true, true, false, true],
+    );
+    let mapped = filtered.after(Operation::Limit).after(Operation::Map);
+    check(&rt, mapped, [false, false, false, true]);
+}
+
+/// Checks a row of the table: K for a flag that is kept, C for one that is cleared, S for one that is set.
+fn check_row(rt: &impl Abort, flags: StreamFlags, operation: Operation, row: &[u8; 4]) {
+    let before = told(flags);
+    let after = told(flags.after(operation));
+    for place in 0..4 {
+        let wanted = match row[place] {
+            b'K' => before[place],
+            letter => letter == b'S',
+        };
+        assert_eq!(rt; after[place], wanted, "{operation:?} at {place}");
+    }
+}
+
+/// Each row from a stream that tells everything and from one that tells nothing.
+#[test]
+fn operations_keep_clear_and_set_flags(rt: HostRuntime) {
+    let table = [
+        (Operation::Map, b"CCKK"),
+        (Operation::Filter, b"KKCK"),
+        (Operation::FlatMap, b"CCCK"),
+        (Operation::Distinct, b"SKCK"),
+        (Operation::Limit, b"KKKS"),
+        (Operation::Skip, b"KKKK"),
+        (Operation::TakeWhile, b"KKCS"),
+        (Operation::DropWhile, b"KKCK"),
+    ];
+    for (operation, row) in table {
+        check_row(
+            &rt,
+            StreamFlags::of(SORTED_SET).after(Operation::Limit),
+            operation,
+            row,
+        );
+        check_row(&rt, StreamFlags::of(SORTED_SET), operation, row);
+        check_row(&rt, StreamFlags::of(TOLD_NOTHING), operation, row);
+    }
+}

@@ -1,0 +1,5 @@
+//! The tests of `stealing_pool`.
+#![tactic(auto)]
+
+#[cfg(test)]
+mod tests;
