@@ -1,0 +1,83 @@
+#!/usr/bin/env python3
+"""Tests checks/wrong_bodies.py on a small crate: a refused wrong body passes, and whatever only looks like one is told as failed.
+
+Prints a line a case, and last `N passed, M failed`.
+"""
+
+import pathlib
+import subprocess
+import sys
+import tempfile
+
+SCRIPT = pathlib.Path(__file__).resolve().parent / "wrong_bodies.py"
+CODE = """//! Numbers that follow one another.
+#![tactic(auto)]
+
+ghost use Rattle.std.specs.Prelude.{◌≡◌, ◌+◌, ◌<◌};
+
+pub fn next(number: u8) -> u8
+    requires { number < 9 }
+    ensures { result ≡ number + 1 }
+{
+    number + 1
+}
+
+pub fn next_but_one(number: u8) -> u8
+    requires { number < 8 }
+    ensures { result ≡ number + 2 }
+{
+    next(next(number))
+}
+
+pub fn third(number: u8) -> u8
+    requires { number < 7 }
+    ensures { result ≡ number + 3 }
+{
+    number + 3
+}
+
+pub fn fourth(number: u8) -> u8
+    requires { number < 6 }
+    ensures { result ≡ number + 4 }
+{
+    number + 4
+}
+"""
+# what each edit changes, and how its line has to begin
+EDITS = {
+    "adds_two": ("    number + 1", "    number + 2", "sample/adds_two: refused: "),
+    "only_calls_what_is_refused": ("next(next(number))", "{ let first = next(number); next(first) }", "FAILED: sample/only_calls_what_is_refused: NOT REFUSED"),
+    "changes_nothing": ("    number + 3", "    3 + number", "FAILED: sample/changes_nothing: NOT REFUSED"),
+    "does_not_parse": ("    number + 4", "    number +", "FAILED: sample/does_not_parse: the edited text can't be read"),
+    "stands_nowhere": ("    number + 5", "    number", "FAILED: sample/stands_nowhere: it can't be applied"),
+}
+
+
+def told():
+    """What the script tells of the edits of the small crate, in lines."""
+    with tempfile.TemporaryDirectory(prefix="test-wrong-bodies-") as root:
+        crate = pathlib.Path(root, "crates", "sample")
+        for folder in ("src", "wrong-bodies"):
+            (crate / folder).mkdir(parents=True)
+        pathlib.Path(root, "crates.txt").write_text("sample:\n")
+        (crate / "src" / "lib.rt").write_text(CODE)
+        for name, (old, new, _) in EDITS.items():
+            (crate / "wrong-bodies" / f"{name}.edit").write_text(f"file: src/lib.rt\nold: {old}\nnew: {new}\n")
+        ran = subprocess.run([sys.executable, SCRIPT], cwd=root, stdout=subprocess.PIPE, text=True)
+        return ran.stdout.splitlines(), ran.returncode
+
+
+def main():
+    lines, status = told()
+    cases = {name: any(line.startswith(wanted) for line in lines) for name, (_, _, wanted) in EDITS.items()}
+    cases |= {"the sums": lines[-1:] == ["1 passed, 4 failed"], "the status": status == 1}
+    for name, good in cases.items():
+        print(f"{'ok' if good else 'FAILED'}: {name}")
+    if not all(cases.values()):
+        print(*lines, sep="\n")
+    print(f"{sum(cases.values())} passed, {len(cases) - sum(cases.values())} failed")
+    sys.exit(not all(cases.values()))
+
+
+if __name__ == "__main__":
+    main()

@@ -1,0 +1,310 @@
+#!/usr/bin/env python3
+"""Tries the wrong bodies crates/NAME/wrong-bodies/*.edit: the check has to refuse each edited function by a goal of its own.
+
+    checks/wrong_bodies.py [CRATE..]
+
+Run it at the top of the repository, once the libraries are built (`rt ci`, or `rt all check`). An edit has the form of a must-fail edit:
+a line `file: src/..`, then pairs of lines `old: TEXT` and `new: TEXT`. One check tries as many edits of a crate as touch different
+functions, over the work that earlier checks of the crate kept. An edit passes where the check says of the edited function itself that a goal
+isn't proved. That the function calls one that was refused, that a proof file names what the edit took away, or that the text can't be read
+is no refusal. What a pack doesn't show so is tried alone. An edit outside functions, of a constant say, is tried alone too, and passes where
+any function is refused so.
+
+Prints a line an edit, and last `N passed, M failed`.
+"""
+
+import collections
+import concurrent.futures
+import importlib.machinery
+import importlib.util
+import os
+import pathlib
+import re
+import shutil
+import subprocess
+import sys
+import tempfile
+
+FOLDER = "wrong-bodies"
+FUNCTION = re.compile(r"^( *)(?:pub(?:\([a-z]+\))? )?(?:(?:final|const|unsafe) )*fn (\w+)")
+OWNER = re.compile(r"^(?:pub )?(?:unsafe )?(impl\b.*|trait \w+)")
+CYCLE = re.compile(r"#\[cycle\((\w+)\)\]")
+TOLD = re.compile(r"fn (\S+?): (.*)")
+UNPROVED_NOTE = re.compile(r"note: (src/\S+?):(\d+):\d+: it is not proved that ")
+PROOF_ERROR = re.compile(r"(?:\./)?proofs/(\S+?)/\w+\.antt:\d+:\d+: error: (.*)")
+GONE = re.compile(r"has no field|is not in scope|has no `|was not admitted")
+
+Function = collections.namedtuple("Function", "file module owner name folders first last")
+Told = collections.namedtuple("Told", "reasons notes errors")
+
+
+def load_rt():
+    """The toolchain's command as a module: it knows the form of an edit, the crates, and the words of a check."""
+    sys.dont_write_bytecode = True
+    found = os.path.realpath(shutil.which("rt") or sys.exit("rt is not on the path"))
+    loader = importlib.machinery.SourceFileLoader("rt_command", found)
+    made = importlib.util.module_from_spec(importlib.util.spec_from_loader("rt_command", loader))
+    sys.modules["rt_command"] = made
+    loader.exec_module(made)
+    return made
+
+
+RT = load_rt()
+
+
+def functions_of(file, text):
+    """The functions of a laid-out source file, by the numbers of their lines."""
+    lines, found, owner = text.split("\n"), [], ""
+    module = re.sub(r"^src/|/mod\.rt$|\.rt$", "", file).replace("/", "::")
+    module = "" if module in ("lib", "main") else module
+    for number, line in enumerate(lines):
+        if line.startswith("}"):
+            owner = ""
+        owner = line if OWNER.match(line) else owner
+        head = FUNCTION.match(line)
+        if not head:
+            continue
+        cycles = [it[1] for it in map(CYCLE.search, lines[max(0, number - 6) : number]) if it]
+        folders = (head[2], *(f"+{it}" for it in [head[2], *cycles]))
+        found.append(Function(file, module, owner if head[1] else "", head[2], folders, number, last_line(lines, number, head[1])))
+    return found
+
+
+def last_line(lines, first, indent):
+    """The last line of the function that begins at this one: its closing brace, or the end of its declaration."""
+    is_open = False
+    for at in range(first, len(lines)):
+        is_open = is_open or lines[at] == indent + "{" or lines[at].endswith(" {")
+        if lines[at] == indent + "}" or lines[at].endswith(("{}", ";")) and not is_open:
+            return at
+    return first
+
+
+def camel(type_text):
+    """A type as the names of its impls spell it: `&str` is RefStr, `Vec<T>` is Vec."""
+    plain = re.sub(r"'\w+ |\bmut |<.*", "", type_text.strip())
+    words = re.findall(r"&|\w+", plain.rpartition("::")[2] if "&" not in plain else plain)
+    return "".join("Ref" if word == "&" else word[0].upper() + word[1:] for word in words)
+
+
+def owner_name(owner):
+    """How the check's names of a method's function begin behind its module: the type, and the trait where there is one."""
+    if owner.startswith(("trait", "pub trait")):
+        return owner.partition("trait ")[2].split("<")[0].split(":")[0].split(" ")[0]
+    head, depth = owner.partition("impl")[2], 0
+    if head.startswith("<"):
+        for at, sign in enumerate(head):
+            depth += (sign == "<") - (sign == ">" and head[at - 1] != "-")
+            if depth == 0:
+                head = head[at + 1 :]
+                break
+    head = re.split(r"\bwhere\b|\{", head)[0].strip()
+    trait, _, of = head.rpartition(" for ")
+    return camel(of) + (camel(trait) if trait else "")
+
+
+def names_of(crate, function, told):
+    """The names among those that the check told that can be this function's: one, where its impl tells it from others of its file."""
+    path = "::".join(it for it in (crate, function.module) if it) + "::"
+    if not function.owner:
+        return [name for name in told if name == path + function.name]
+    wanted = owner_name(function.owner)
+    named = [name for name in told if name.startswith(path) and name.endswith("::" + function.name)]
+    owners = {name: name[len(path) : -len(function.name) - 2] for name in named}
+    return [it for it in named if owners[it] == wanted] or [it for it in named if owners[it].startswith(wanted)] or named
+
+
+class Edit:
+    """A wrong body: what it changes, and the functions that it changes."""
+
+    def __init__(self, path, crate):
+        self.name, self.pairs, self.functions, self.fault = path.stem, [], [], None
+        text = path.read_text(encoding="utf-8")
+        self.fault = RT.edited(text, crate.folder)[1]
+        file = old = None
+        for line in text.split("\n"):
+            if line.startswith("file: "):
+                file = line[len("file: ") :].strip()
+            elif line.startswith("old: "):
+                old = line[len("old: ") :]
+            elif line.startswith("new:"):
+                self.pairs.append((file, old, line[len("new:") :].removeprefix(" ")))
+        if not self.fault:
+            self.is_inside = all([self.find(crate, file, old) for file, old, _ in self.pairs])
+
+    def find(self, crate, file, old):
+        """Notes the function that a pair changes, and answers whether there is one."""
+        text = pathlib.Path(crate.folder, file).read_text(encoding="utf-8")
+        at = text.find(old)
+        if at < 0:
+            # (a later pair may change what an earlier one wrote)
+            return bool(self.functions)
+        line = text[: at + len(old) - len(old.lstrip())].count("\n")
+        inside = [it for it in functions_of(file, text) if it.first <= line <= it.last]
+        self.functions += [it for it in inside if it not in self.functions]
+        return bool(inside)
+
+    def apply(self, texts, folder):
+        """The texts with this edit made too, or None where it doesn't fit them."""
+        texts = dict(texts)
+        for file, old, new in self.pairs:
+            if file not in texts:
+                texts[file] = pathlib.Path(folder, file).read_text(encoding="utf-8")
+            if texts[file].count(old) != 1:
+                return None
+            texts[file] = texts[file].replace(old, new)
+        return texts
+
+
+def packs_of(edits, folder):
+    """The edits in packs, at most one a function in each."""
+    packs = []
+    for edit in edits:
+        spans = {(it.file, it.first) for it in edit.functions}
+        for pack in packs:
+            texts = edit.apply(pack["texts"], folder) if edit.is_inside and pack["shared"] and not spans & pack["spans"] else None
+            if texts is not None:
+                break
+        else:
+            pack = {"edits": [], "spans": set(), "shared": edit.is_inside}
+            packs.append(pack)
+            texts = edit.apply({}, folder)
+        pack["edits"].append(edit)
+        pack["spans"] |= spans
+        pack["texts"] = texts
+    return [it["edits"] for it in packs]
+
+
+def read_check(said):
+    """What a check told: of each function that isn't proved why, the notes on its own goals by their places, and the errors of its proof files."""
+    reasons, notes, errors = {}, [], collections.defaultdict(list)
+    for line in said:
+        if found := TOLD.fullmatch(line):
+            reasons[found[1]] = found[2]
+        elif found := UNPROVED_NOTE.match(line):
+            notes.append((found[1], int(found[2]) - 1))
+        elif found := PROOF_ERROR.match(line):
+            errors[found[1]].append(found[2])
+    return Told(reasons, notes, errors)
+
+
+def own_goal(function, crate, told, texts):
+    """Says which goal of its own the function is refused by, or answers None."""
+    for name in names_of(crate, function, told.reasons):
+        reason = told.reasons[name]
+        if found := re.search(r"`search` did not prove (`[^;]*)", reason):
+            return found[1]
+        if reason.startswith(("not proved", "no proof")):
+            above = name.split("::")[1:-1]
+            places = {"/".join([*above, folder]) for folder in function.folders} | {"/".join([function.module.replace("::", "/"), folder]) for folder in function.folders}
+            shown = [error for place in places for error in told.errors.get(place, []) if not GONE.search(error)]
+            if shown:
+                return shown[0][:120]
+            now = next((it for it in functions_of(function.file, texts[function.file]) if (it.owner, it.name) == (function.owner, function.name)), None)
+            if now and any(file == now.file and now.first <= line <= now.last for file, line in told.notes):
+                return "a goal that has no answer"
+    return None
+
+
+def own_goal_of_any(crate, told):
+    """Says of a check by which goal of its own some function is refused, or answers None."""
+    for name, reason in told.reasons.items():
+        if found := re.search(r"`search` did not prove (`[^;]*)", reason):
+            return f"{name}: {found[1]}"
+    return next((shown[:120] for errors in told.errors.values() for shown in errors if not GONE.search(shown)), None)
+
+
+def why_not(edit, crate, told):
+    """Says why an edit that was tried alone is no refused wrong body."""
+    reasons = [told.reasons[name] for function in edit.functions for name in names_of(crate, function, told.reasons)]
+    if any(errors for errors in told.errors.values()):
+        return "refused only since a proof file names what the edit took away: change a value and keep the names"
+    if any("calls" in it or "passes" in it for it in reasons):
+        return "refused only through another function"
+    return "NOT REFUSED: the function is proved with this edit"
+
+
+class Trial:
+    """The edits of one crate, each tried until it is shown as refused or has failed."""
+
+    def __init__(self, crate, edits, kept):
+        self.crate, self.edits, self.kept, self.told = crate, edits, kept, {}
+
+    def run(self):
+        sound = [it for it in self.edits if not it.fault]
+        self.told = {it: (False, f"it can't be applied: {it.fault}") for it in self.edits if it.fault}
+        for pack in packs_of(sound, self.crate.folder):
+            self.try_pack(pack)
+        for edit in sound:
+            if edit not in self.told:
+                self.try_pack([edit])
+        return [(self.told[it][0], f"{self.crate.name}/{it.name}: {self.told[it][1]}") for it in self.edits]
+
+    def try_pack(self, pack):
+        texts = {}
+        for edit in pack:
+            texts = edit.apply(texts, self.crate.folder)
+        ran = RT.checked(self.crate, texts, ["--jobs", "1"], self.kept)
+        said = ran.stdout.rstrip("\n").split("\n")
+        unread = next((it for it in said if RT.unread(it, texts)), None)
+        if unread or not said[-1].startswith("logic="):
+            return self.divide(pack, unread or next((it for it in said if "error" in it), said[-1]))
+        told = read_check(said)
+        for edit in pack:
+            goals = [own_goal(it, self.crate.name, told, texts) for it in edit.functions]
+            goals += [] if edit.is_inside else [own_goal_of_any(self.crate.name, told)]
+            shown = next((it for it in goals if it), None)
+            if shown:
+                self.told[edit] = True, f"refused: {shown}"
+            elif len(pack) == 1:
+                self.told[edit] = False, why_not(edit, self.crate.name, told)
+
+    def divide(self, pack, unread):
+        """Tries the halves of a pack whose text can't be read."""
+        if len(pack) == 1:
+            self.told[pack[0]] = False, f"the edited text can't be read: {unread[:200]}"
+            return
+        half = len(pack) // 2
+        self.try_pack(pack[:half])
+        self.try_pack(pack[half:])
+
+
+def try_crate(crate):
+    folder = pathlib.Path(crate.folder)
+    edits = [Edit(it, crate) for it in sorted((folder / FOLDER).glob("*.edit"))]
+    lacking = [it.name for it in crate.below() if not os.path.isdir(it.rlib)]
+    if lacking:
+        return [(False, f"{crate.name}: its library {lacking[0]} is not built: `rt all check` builds it")]
+    with tempfile.TemporaryDirectory(prefix="wrong-bodies-") as kept:
+        if (folder / "out" / "incremental").is_dir():
+            shutil.copytree(folder / "out" / "incremental", kept, dirs_exist_ok=True)
+        return Trial(crate, edits, kept).run()
+
+
+def jobs():
+    """How many checks run side by side: a processor and about 5 GB of memory each."""
+    number = os.environ.get("RT_JOBS", "")
+    return int(number) if number.isdigit() and int(number) else max(1, min(RT.processors(), RT.free() // 5_000_000_000))
+
+
+def main():
+    RT.rtlib.guarded()
+    crates = [it for it in RT.rtlib.crates_below(os.getcwd()) if os.path.isdir(f"{it.folder}/{FOLDER}")]
+    unknown = {*sys.argv[1:]} - {it.name for it in crates}
+    if unknown:
+        sys.exit(f"no crate with a folder {FOLDER}: {' '.join(sorted(unknown))}")
+    crates = [it for it in crates if it.name in sys.argv[1:] or not sys.argv[1:]]
+    # the dearest first, so that none is left over at the end
+    crates.sort(key=lambda it: -it.count(rb"\n"))
+    passed = failed = 0
+    with concurrent.futures.ThreadPoolExecutor(jobs()) as lanes:
+        for ended in concurrent.futures.as_completed([lanes.submit(try_crate, it) for it in crates]):
+            for well, text in ended.result():
+                print(text if well else f"FAILED: {text}", flush=True)
+                passed, failed = passed + well, failed + (not well)
+    print(f"{passed} passed, {failed} failed")
+    sys.exit(failed > 0)
+
+
+if __name__ == "__main__":
+    main()
