@@ -1,10 +1,11 @@
 #!/usr/bin/env python3
-"""Checks of the built program that can't be tests of a crate: real devices, and each request for memory refused.
+"""Checks of the built program that can't be tests of a crate: real devices, and requests for memory refused in turn.
 
     checks/program.py
 
 The program has to be built before (`rt run` in crates/pstream). Memory is refused by a small library of this folder,
-built by `rustc` and loaded before the C library.
+built by `rustc` and loaded before the C library: one request a run, each that a command line makes, or some 400 of them, evenly spread,
+where it makes more.
 """
 
 import pathlib
@@ -16,7 +17,7 @@ from built import EXAMPLES, need_program, run, tell
 CHECKS = pathlib.Path(__file__).resolve().parent
 BUILT = CHECKS / "out"
 SUM = EXAMPLES / "01-sum.pipeline"
-# files beside the examples that run with each request for memory refused
+# files beside the examples that run with requests for memory refused
 FILES = [
     "pipeline 1\nrange 5 5\nsum\n",
     "pipeline 1\nrange 0 10\nlimit 0\ntolist\n",

@@ -1,10 +1,10 @@
 #!/usr/bin/env python3
-"""Refuses each request for memory of a crate's tests in turn, and each start of a thread: a test has to pass still, or to end in a want of memory.
+"""Refuses the requests for memory of a library's tests in turn, and the starts of threads: a test has to pass still, or to end in a want of memory.
 
     checks/refused_tests.py CRATE..
 
-The crate's tests have to be built before (`rt test` in its folder). Memory is refused by a small library of this folder, built by
-`rustc` and loaded before the C library. The requests are refused one a run, the first, the second, and so on, until a run meets none;
+CRATE is a library; its tests have to be built before (`rt test` in crates/CRATE_tests). Memory is refused by a small library of this folder,
+built by `rustc` and loaded before the C library. The requests are refused one a run, the first, the second, and so on, until a run meets none;
 of a test with more than 1,000 requests the first 1,000, and of the starts of threads the first 64.
 """
 
