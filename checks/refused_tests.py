@@ -67,7 +67,7 @@ def main():
     refusing = library()
     count = 0
     for crate in sys.argv[1:]:
-        program = CRATES / crate / "out" / f"{crate}_tests"
+        program = CRATES / f"{crate}_tests" / "out" / f"{crate}_tests_tests"
         listed = subprocess.run([program, "--list"], capture_output=True, text=True, check=True).stdout
         tests = [line.removesuffix(": test") for line in listed.splitlines() if line.endswith(": test")]
         for test in tests:
