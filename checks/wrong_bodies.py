@@ -82,6 +82,8 @@ def last_line(lines, first, indent):
 
 def camel(type_text):
     """A type as the names of its impls spell it: `&str` is RefStr, `Vec<T>` is Vec."""
+    if type_text.strip().startswith("("):
+        return f"Tuple{type_text.count(',') + 1}"
     plain = re.sub(r"'\w+ |\bmut |<.*", "", type_text.strip())
     words = re.findall(r"&|\w+", plain.rpartition("::")[2] if "&" not in plain else plain)
     return "".join("Ref" if word == "&" else word[0].upper() + word[1:] for word in words)
@@ -217,11 +219,14 @@ def own_goal_of_any(crate, told):
 def why_not(edit, crate, told):
     """Says why an edit that was tried alone is no refused wrong body."""
     reasons = [told.reasons[name] for function in edit.functions for name in names_of(crate, function, told.reasons)]
-    if any(errors for errors in told.errors.values()):
+    shown = next((it for it in reasons if it != "proved"), None)
+    if not shown and not (edit.is_inside or told.errors):
+        shown = next((it for it in told.reasons.values() if it != "proved"), None)
+    if not shown:
+        return "NOT REFUSED: the function is proved with this edit"
+    if told.errors:
         return "refused only since a proof file names what the edit took away: change a value and keep the names"
-    if any("calls" in it or "passes" in it for it in reasons):
-        return "refused only through another function"
-    return "NOT REFUSED: the function is proved with this edit"
+    return f"refused by no goal of its own: {shown[:200]}"
 
 
 class Trial:
