@@ -11,7 +11,9 @@ use spliterator::NoMemory;
 // The result of a container, or of a new one where there is none.
 fn finish_or_new<C: Collector>(collector: &C, acc: Option<C::Acc>) -> Result<C::Out, NoMemory>
     requires { C.ready collector.now }
-    ensures { let c = collector.now in (l : List C.Item.Content) → All C.Item.is_value l → option_map (C.content c) acc ≡ Some (fold (C.add c) (C.empty c) l) → IfOk result (C.gives c l) }
+    ensures { let c = collector.now in
+        (l : List C.Item.Content) → All C.Item.is_value l
+        → option_map (C.content c) acc ≡ Some (fold (C.add c) (C.empty c) l) → IfOk result (C.gives c l) }
 {
     match acc {
         Some(acc) => collector.finish(acc),

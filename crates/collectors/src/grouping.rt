@@ -8,6 +8,7 @@ ghost use Rattle.collectors.specs.GroupingLaws.{grouping_laws};
 use crate::Collector;
 use crate::collector::LIGHT_ENTRIES;
 use crate::groups::Groups;
+use crate::map_entries::add_entry;
 use indexmap::IndexMap;
 use spliterator::{NoMemory, Value};
 use stages::Mapping;
@@ -74,7 +75,8 @@ fn add_group<K: Value + Hash + Drop, D: Collector, S: BuildHasher>(
 // What is kept of a group's first item.
 fn first_kept<D: Collector>(downstream: &D, x: &D::Item) -> Result<D::Acc, NoMemory>
     requires { D.ready downstream.now }
-    ensures { let d = downstream.now in IfOk result (λ kept. D.content d kept ≡ D.add d (D.empty d) (D.Item.content x.now)) }
+    ensures { let d = downstream.now in
+        IfOk result (λ kept. D.content d kept ≡ D.add d (D.empty d) (D.Item.content x.now)) }
 {
     let mut kept = downstream.supply()?;
     downstream.accumulate(&mut kept, x)?;
@@ -88,14 +90,16 @@ fn merge_group<K: Value + Hash + Drop, D: Collector, S: BuildHasher>(
     group: (K, D::Acc),
 ) -> Result<(), NoMemory>
     requires { D.ready downstream.now }
-    ensures { let seen = contents K.content (D.content downstream.now) in OnOk result (seen left.new.entries ≡ merge_entry K.same (D.merge downstream.now) (seen left.old.entries) (K.content group.0, D.content downstream.now group.1)) }
+    ensures { let d = downstream.now in
+        let seen = contents K.content (D.content d) in
+        let merged = merge_entry K.same (D.merge d) (seen left.old.entries) in
+        OnOk result (seen left.new.entries ≡ merged (K.content group.0, D.content d group.1)) }
 {
     let (key, kept) = group;
     if let Some(earlier) = left.get_mut(&key) {
         return downstream.combine(earlier, kept);
     }
-    left.insert(key, kept)?;
-    Ok(())
+    add_entry(left, key, kept)
 }
 
 // Takes each group of the right side into the left side, in their order.
@@ -105,7 +109,9 @@ fn merge_groups<K: Value + Hash + Drop, D: Collector, S: BuildHasher + Copy>(
     right: IndexMap<K, D::Acc, S>,
 ) -> Result<(), NoMemory>
     requires { D.ready downstream.now }
-    ensures { let seen = contents K.content (D.content downstream.now) in OnOk result (seen left.new.entries ≡ group_merge K.same (D.merge downstream.now) (seen left.old.entries) (seen right.entries)) }
+    ensures { let seen = contents K.content (D.content downstream.now) in
+        let merged = group_merge K.same (D.merge downstream.now) (seen left.old.entries) in
+        OnOk result (seen left.new.entries ≡ merged (seen right.entries)) }
 {
     for group in right {
         merge_group(downstream, left, group)?;
@@ -133,12 +139,15 @@ fn finish_group<K: Value + Hash + Drop, D: Collector, S: BuildHasher>(
     group: (K, D::Acc),
 ) -> Result<(), NoMemory>
     requires { D.ready downstream.now }
-    ensures { let d = downstream.now in OnOk result ((r : K × D.Out) × HasResult D.Item.is_value (fold (D.add d) (D.empty d)) (D.content d) (D.gives d) group r × (results.new.entries ≡ insert_entry K.eq results.old.entries r.0 r.1)) }
+    ensures { let d = downstream.now in
+        let made = fold (D.add d) (D.empty d) in
+        let is_result = HasResult D.Item.is_value made (D.content d) (D.gives d) group in
+        let added = insert_entry K.eq results.old.entries in
+        OnOk result ((r : K × D.Out) × is_result r × (results.new.entries ≡ added r.0 r.1)) }
 {
     let (key, kept) = group;
     let result = downstream.finish(kept)?;
-    results.insert(key, result)?;
-    Ok(())
+    add_entry(results, key, result)
 }
 
 // The groups' results, each at the place of its group.
@@ -149,7 +158,10 @@ fn finish_groups<K: Value + Hash + Drop, D: Collector, S: BuildHasher + Copy>(
 ) -> Result<IndexMap<K, D::Out, S>, NoMemory>
     requires ready { D.ready downstream.now }
     requires none { results.entries ≡ [] }
-    ensures { let d = downstream.now in IfOk result (λ m. AllZip (HasResult D.Item.is_value (fold (D.add d) (D.empty d)) (D.content d) (D.gives d)) groups.entries m.entries) }
+    ensures { let d = downstream.now in
+        let made = fold (D.add d) (D.empty d) in
+        let is_result = HasResult D.Item.is_value made (D.content d) (D.gives d) in
+        IfOk result (λ m. AllZip is_result groups.entries m.entries) }
 {
     for group in groups {
         finish_group(downstream, &mut results, group)?;

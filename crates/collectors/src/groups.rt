@@ -2,6 +2,7 @@
 ghost use Rattle.std.specs.Prelude.{◌≡◌, true, Some, [], OnOk};
 ghost use Rattle.indexmap.specs.IndexMap.{index_of, insert_entry};
 
+use crate::map_entries::add_entry;
 use indexmap::IndexMap;
 use spliterator::NoMemory;
 use std::alloc::Global;
@@ -19,12 +20,12 @@ pub struct Groups<K: Eq + Hash, A, S: BuildHasher> {
 impl<K: Eq + Hash + Drop, A: Drop, S: BuildHasher> Groups<K, A, S> {
     /// Adds a group behind the others.
     pub(crate) fn push(&mut self, key: K, kept: A) -> Result<(), NoMemory>
-        ensures { OnOk result (self.new.entries.entries ≡ insert_entry K.eq self.old.entries.entries key kept) }
+        ensures { let added = insert_entry K.eq self.old.entries.entries key kept in
+            OnOk result (self.new.entries.entries ≡ added) }
     {
         self.last = self.entries.len();
         self.expected = Some(0);
-        self.entries.insert(key, kept)?;
-        Ok(())
+        add_entry(&mut self.entries, key, kept)
     }
 }
 

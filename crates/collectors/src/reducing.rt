@@ -16,7 +16,8 @@ pub(crate) fn join_into<T: Value + Drop, O: Operator<T>>(
     x: &T,
 ) -> Result<(), NoMemory>
     requires { O.ready operator.now }
-    ensures { let joins = O.join operator.now in OnOk result (T.content joined.new ≡ joins (T.content joined.old) (T.content x.now)) }
+    ensures { let joins = O.join operator.now in
+        OnOk result (T.content joined.new ≡ joins (T.content joined.old) (T.content x.now)) }
 {
     *joined = operator.join(joined, x)?;
     Ok(())

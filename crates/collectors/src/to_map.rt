@@ -7,6 +7,7 @@ ghost use Rattle.collectors.specs.Reductions.{reduced};
 
 use crate::Collector;
 use crate::collector::LIGHT_ENTRIES;
+use crate::map_entries::{add_entry, entry_of};
 use crate::reducing::join_into;
 use indexmap::IndexMap;
 use spliterator::{NoMemory, Value};
@@ -73,14 +74,15 @@ fn merge_value<K: Value + Hash + Drop, U: Value + Drop, M: Operator<U>, S: Build
     entry: (K, U),
 ) -> Result<(), NoMemory>
     requires { M.ready merge.now }
-    ensures { let seen = contents K.content U.content in OnOk result (seen map.new.entries ≡ merge_entry K.same (M.join merge.now) (seen map.old.entries) (K.content entry.0, U.content entry.1)) }
+    ensures { let seen = contents K.content U.content in
+        let merged = merge_entry K.same (M.join merge.now) (seen map.old.entries) in
+        OnOk result (seen map.new.entries ≡ merged (K.content entry.0, U.content entry.1)) }
 {
     let (key, value) = entry;
     if let Some(earlier) = map.get_mut(&key) {
         return join_into(merge, earlier, &value);
     }
-    map.insert(key, value)?;
-    Ok(())
+    add_entry(map, key, value)
 }
 
 // Merges each entry of the right side, in their order.
@@ -90,7 +92,9 @@ fn merge_values<K: Value + Hash + Drop, U: Value + Drop, M: Operator<U>, S: Buil
     right: IndexMap<K, U, S>,
 ) -> Result<(), NoMemory>
     requires { M.ready merge.now }
-    ensures { let seen = contents K.content U.content in OnOk result (seen left.new.entries ≡ group_merge K.same (M.join merge.now) (seen left.old.entries) (seen right.entries)) }
+    ensures { let seen = contents K.content U.content in
+        let merged = group_merge K.same (M.join merge.now) (seen left.old.entries) in
+        OnOk result (seen left.new.entries ≡ merged (seen right.entries)) }
 {
     for entry in right {
         merge_value(merge, left, entry)?;
@@ -136,9 +140,8 @@ where
     }
 
     fn accumulate(&self, acc: &mut IndexMap<K::Out, U, S>, x: &T) -> Result<(), NoMemory> {
-        let key = self.key.image(x)?;
-        let value = self.value.image(x)?;
-        merge_value(&self.merge, acc, (key, value))
+        let entry = entry_of(&self.key, &self.value, x)?;
+        merge_value(&self.merge, acc, entry)
     }
 
     fn combine(

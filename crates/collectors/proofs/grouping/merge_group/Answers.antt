@@ -27,6 +27,8 @@ returns g c =
     let es = c.args.left.now.entries in
     let unchanged = ap (λ m. m.entries) c.get_mut.follows.holds-at-none in
     let absent : lookup (g.K.PartialEq.eq c.args.group.0) es ≡ None = sym c.in_default.ensures.value in
-    ap (contents keys kept) (c.in_ok-insert.ensures.entries ∙ ap (λ es. insert_entry g.K.PartialEq.eq es c.args.group.0 c.args.group.1) unchanged)
+    on_ok_weaker c.add_entry.result
+    (λ added. ap (contents keys kept) (added ∙ ap (λ es. insert_entry g.K.PartialEq.eq es c.args.group.0 c.args.group.1) unchanged)
     ∙ put-insert_entry g.K.PartialEq.eq g.K.Value.same keys kept g.met.K.Value.eq_is_same c.args.group.0 c.args.group.1
-    (λ a. g.D.Collector.merge d a (kept c.args.group.1)) es absent
+    (λ a. g.D.Collector.merge d a (kept c.args.group.1)) es absent)
+    c.add_entry.ensures
