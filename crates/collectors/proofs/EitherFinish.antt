@@ -1,5 +1,6 @@
 -- The result of a collector of one of two types, by its side and its container's.
-use Rattle.std.proofs.Common.{◌≡◌, List, All, Option, Some, None, fold, sym, subst, ◌∙◌}
+use Rattle.std.proofs.Common.{◌≡◌, List, All, Option, Some, None, option_map, fold, sym, ap, subst, ◌∙◌}
+use Rattle.either.specs.Either.{left, right}
 use Rattle.either.specs.declared.Either.{Either}
 use Rattle.either.specs.declared.Either.TheVariants.{Left, Right}
 use Rattle.collectors.specs.Either.{either_content, either_empty, either_add, either_gives, fold-left, fold-right}
@@ -23,26 +24,24 @@ module _ {C D R S L M X A B : Type 0} (is_value : X → Type 0) (content : C →
   abbrev Finishes : Either C D → Either R S → Either L M → Type 0
   Finishes e acc made = (l : List X) → All is_value l → Holds e acc l → either_gives gives gives' e l made
 
-  at-sides : (e e' : Either C D) (acc acc' : Either R S) (made : Either L M) → e ≡ e' → acc ≡ acc' → Finishes e' acc' made → Finishes e acc made
-  at-sides e e' acc acc' made same same' f = subst (λ e. Finishes e acc made) (sym same) (subst (λ acc. Finishes e' acc made) (sym same') f)
+  left-of : (c : C) (acc : Either R S) (a : A) → either_content content content' (Left c) acc ≡ Some (Left a) → option_map (content c) (left acc) ≡ Some a
+  left-of c (Left r) a h = ap Some (left-same h)
+  left-of c (Right s) a h = none-some h
 
-  pub left-left : (e : Either C D) (acc : Either R S) (c : C) (r : R) (made : L) → e ≡ Left c → acc ≡ Left r
-      → ((l : List X) → All is_value l → content c r ≡ fold (add c) (empty c) l → gives c l made) → Finishes e acc (Left made)
-  left-left e acc c r made same same' f =
-      at-sides e (Left c) acc (Left r) (Left made) same same'
-      (λ l v h. f l v (left-same (h ∙ fold-left is_value empty empty' add add' c (empty c) l)))
+  right-of : (d : D) (acc : Either R S) (b : B) → either_content content content' (Right d) acc ≡ Some (Right b) → option_map (content' d) (right acc) ≡ Some b
+  right-of d (Left r) b h = none-some h
+  right-of d (Right s) b h = ap Some (right-same h)
 
-  pub right-right : (e : Either C D) (acc : Either R S) (d : D) (s : S) (made : M) → e ≡ Right d → acc ≡ Right s
-      → ((l : List X) → All is_value l → content' d s ≡ fold (add' d) (empty' d) l → gives' d l made) → Finishes e acc (Right made)
-  right-right e acc d s made same same' f =
-      at-sides e (Right d) acc (Right s) (Right made) same same'
-      (λ l v h. f l v (right-same (h ∙ fold-right is_value empty empty' add add' d (empty' d) l)))
+  pub on-left : (e : Either C D) (acc : Either R S) (c : C) (o : Option R) (made : L) → e ≡ Left c → o ≡ left acc
+      → ((l : List X) → All is_value l → option_map (content c) o ≡ Some (fold (add c) (empty c) l) → gives c l made) → Finishes e acc (Left made)
+  on-left e acc c o made same is f =
+      subst (λ e. Finishes e acc (Left made)) (sym same)
+      (λ l v h.
+      f l v (ap (option_map (content c)) is ∙ left-of c acc (fold (add c) (empty c) l) (h ∙ fold-left is_value empty empty' add add' c (empty c) l)))
 
-  -- a container of the other side stands for no list
-  pub left-right : (e : Either C D) (acc : Either R S) (c : C) (s : S) (made : Either L M) → e ≡ Left c → acc ≡ Right s → Finishes e acc made
-  left-right e acc c s made same same' =
-      at-sides e (Left c) acc (Right s) made same same' (λ l v h. none-some (h ∙ fold-left is_value empty empty' add add' c (empty c) l))
-
-  pub right-left : (e : Either C D) (acc : Either R S) (d : D) (r : R) (made : Either L M) → e ≡ Right d → acc ≡ Left r → Finishes e acc made
-  right-left e acc d r made same same' =
-      at-sides e (Right d) acc (Left r) made same same' (λ l v h. none-some (h ∙ fold-right is_value empty empty' add add' d (empty' d) l))
+  pub on-right : (e : Either C D) (acc : Either R S) (d : D) (o : Option S) (made : M) → e ≡ Right d → o ≡ right acc
+      → ((l : List X) → All is_value l → option_map (content' d) o ≡ Some (fold (add' d) (empty' d) l) → gives' d l made) → Finishes e acc (Right made)
+  on-right e acc d o made same is f =
+      subst (λ e. Finishes e acc (Right made)) (sym same)
+      (λ l v h.
+      f l v (ap (option_map (content' d)) is ∙ right-of d acc (fold (add' d) (empty' d) l) (h ∙ fold-right is_value empty empty' add add' d (empty' d) l)))

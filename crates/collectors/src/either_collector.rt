@@ -1,12 +1,25 @@
 //! One collector of two types.
 ghost use Rattle.either.specs.declared.Either.{Either};
 ghost use Rattle.either.specs.Either.{MatchEither};
-ghost use Rattle.std.specs.Prelude.{Option};
+ghost use Rattle.std.specs.Prelude.{◌≡◌, Option, Some, option_map, List, All, fold, IfOk};
 ghost use Rattle.collectors.specs.Either.{either_content, either_empty, either_add, either_merge, either_gives, either_laws};
 
 use crate::Collector;
 use either::{Either, Left, Right};
 use spliterator::NoMemory;
+
+// The result of a container, or of a new one where there is none.
+fn finish_or_new<C: Collector>(collector: &C, acc: Option<C::Acc>) -> Result<C::Out, NoMemory>
+    requires { C.ready collector.now }
+    ensures { let c = collector.now in
+        (l : List C.Item.Content) → All C.Item.is_value l
+        → option_map (C.content c) acc ≡ Some (fold (C.add c) (C.empty c) l) → IfOk result (C.gives c l) }
+{
+    match acc {
+        Some(acc) => collector.finish(acc),
+        None => collector.finish(collector.supply()?),
+    }
+}
 
 /// It does what its side does, and its containers and results are of that side: a collector that is chosen at run time.
 ///
@@ -62,11 +75,9 @@ impl<A: Collector, B: Collector<Item = A::Item>> Collector for Either<A, B> {
     }
 
     fn finish(&self, acc: Either<A::Acc, B::Acc>) -> Result<Either<A::Out, B::Out>, NoMemory> {
-        match (self, acc) {
-            (Left(side), Left(acc)) => Ok(Left(side.finish(acc)?)),
-            (Right(side), Right(acc)) => Ok(Right(side.finish(acc)?)),
-            (Left(side), Right(_)) => Ok(Left(side.finish(side.supply()?)?)),
-            (Right(side), Left(_)) => Ok(Right(side.finish(side.supply()?)?)),
+        match self {
+            Left(side) => Ok(Left(finish_or_new(side, acc.left())?)),
+            Right(side) => Ok(Right(finish_or_new(side, acc.right())?)),
         }
     }
 

@@ -1,12 +1,14 @@
 //! Grouping.
-ghost use Rattle.std.specs.Prelude.{◌≡◌, List, [], None, OnOk};
-ghost use Rattle.indexmap.specs.IndexMap.{index_of};
-ghost use Rattle.collectors.specs.Grouping.{group_add, group_merge, put, contents, IsGrouping};
+ghost use Rattle.std.specs.Prelude.{◌≡◌, List, [], None, OnOk, IfOk, fold};
+ghost use Rattle.std.specs.List.{AllZip};
+ghost use Rattle.indexmap.specs.IndexMap.{index_of, insert_entry};
+ghost use Rattle.collectors.specs.Grouping.{group_add, merge_entry, group_merge, put, contents, IsGrouping, HasResult};
 ghost use Rattle.collectors.specs.GroupingLaws.{grouping_laws};
 
 use crate::Collector;
 use crate::collector::LIGHT_ENTRIES;
 use crate::groups::Groups;
+use crate::map_entries::add_entry;
 use indexmap::IndexMap;
 use spliterator::{NoMemory, Value};
 use stages::Mapping;
@@ -66,12 +68,105 @@ fn add_group<K: Value + Hash + Drop, D: Collector, S: BuildHasher>(
     requires absent { index_of K.eq groups.now.entries key ≡ None }
     ensures { OnOk result (contents K.content (D.content downstream.now) groups.new.entries.entries ≡ put K.same (K.content key) (D.add downstream.now (D.empty downstream.now) (D.Item.content x.now)) (λ a. D.add downstream.now a (D.Item.content x.now)) (contents K.content (D.content downstream.now) groups.old.entries.entries)) }
 {
+    let kept = first_kept(downstream, x)?;
+    groups.push(key, kept)
+}
+
+// What is kept of a group's first item.
+fn first_kept<D: Collector>(downstream: &D, x: &D::Item) -> Result<D::Acc, NoMemory>
+    requires { D.ready downstream.now }
+    ensures { let d = downstream.now in
+        IfOk result (λ kept. D.content d kept ≡ D.add d (D.empty d) (D.Item.content x.now)) }
+{
     let mut kept = downstream.supply()?;
     downstream.accumulate(&mut kept, x)?;
-    groups.last = groups.entries.len();
-    groups.expected = Some(0);
-    groups.entries.insert(key, kept)?;
+    Ok(kept)
+}
+
+// Takes a group of the right side into that of its key, or adds it where the key is new.
+fn merge_group<K: Value + Hash + Drop, D: Collector, S: BuildHasher>(
+    downstream: &D,
+    left: &mut IndexMap<K, D::Acc, S>,
+    group: (K, D::Acc),
+) -> Result<(), NoMemory>
+    requires { D.ready downstream.now }
+    ensures { let d = downstream.now in
+        let seen = contents K.content (D.content d) in
+        let merged = merge_entry K.same (D.merge d) (seen left.old.entries) in
+        OnOk result (seen left.new.entries ≡ merged (K.content group.0, D.content d group.1)) }
+{
+    let (key, kept) = group;
+    if let Some(earlier) = left.get_mut(&key) {
+        return downstream.combine(earlier, kept);
+    }
+    add_entry(left, key, kept)
+}
+
+// Takes each group of the right side into the left side, in their order.
+fn merge_groups<K: Value + Hash + Drop, D: Collector, S: BuildHasher + Copy>(
+    downstream: &D,
+    left: &mut IndexMap<K, D::Acc, S>,
+    right: IndexMap<K, D::Acc, S>,
+) -> Result<(), NoMemory>
+    requires { D.ready downstream.now }
+    ensures { let seen = contents K.content (D.content downstream.now) in
+        let merged = group_merge K.same (D.merge downstream.now) (seen left.old.entries) in
+        OnOk result (seen left.new.entries ≡ merged (seen right.entries)) }
+{
+    for group in right {
+        merge_group(downstream, left, group)?;
+    }
     Ok(())
+}
+
+// Whether what is kept of each group is light.
+fn all_light<K: Eq + Hash, D: Collector, S: BuildHasher>(
+    downstream: &D,
+    groups: &IndexMap<K, D::Acc, S>,
+) -> bool {
+    for kept in groups.values() {
+        if !downstream.is_light(kept) {
+            return false;
+        }
+    }
+    true
+}
+
+// Adds a group's result to the results.
+fn finish_group<K: Value + Hash + Drop, D: Collector, S: BuildHasher>(
+    downstream: &D,
+    results: &mut IndexMap<K, D::Out, S>,
+    group: (K, D::Acc),
+) -> Result<(), NoMemory>
+    requires { D.ready downstream.now }
+    ensures { let d = downstream.now in
+        let made = fold (D.add d) (D.empty d) in
+        let is_result = HasResult D.Item.is_value made (D.content d) (D.gives d) group in
+        let added = insert_entry K.eq results.old.entries in
+        OnOk result ((r : K × D.Out) × is_result r × (results.new.entries ≡ added r.0 r.1)) }
+{
+    let (key, kept) = group;
+    let result = downstream.finish(kept)?;
+    add_entry(results, key, result)
+}
+
+// The groups' results, each at the place of its group.
+fn finish_groups<K: Value + Hash + Drop, D: Collector, S: BuildHasher + Copy>(
+    downstream: &D,
+    groups: IndexMap<K, D::Acc, S>,
+    mut results: IndexMap<K, D::Out, S>,
+) -> Result<IndexMap<K, D::Out, S>, NoMemory>
+    requires ready { D.ready downstream.now }
+    requires none { results.entries ≡ [] }
+    ensures { let d = downstream.now in
+        let made = fold (D.add d) (D.empty d) in
+        let is_result = HasResult D.Item.is_value made (D.content d) (D.gives d) in
+        IfOk result (λ m. AllZip is_result groups.entries m.entries) }
+{
+    for group in groups {
+        finish_group(downstream, &mut results, group)?;
+    }
+    Ok(results)
 }
 
 impl<D: Collector, K: Mapping<D::Item>, S: BuildHasher + Copy> Collector for GroupingBy<K, D, S>
@@ -120,34 +215,18 @@ where
         left: &mut Groups<K::Out, D::Acc, S>,
         right: Groups<K::Out, D::Acc, S>,
     ) -> Result<(), NoMemory> {
-        for (key, kept) in right.entries {
-            match left.entries.get_mut(&key) {
-                Some(earlier) => self.downstream.combine(earlier, kept)?,
-                None => {
-                    left.entries.insert(key, kept)?;
-                }
-            }
-        }
-        Ok(())
+        merge_groups(&self.downstream, &mut left.entries, right.entries)
     }
 
     fn finish(
         &self,
         acc: Groups<K::Out, D::Acc, S>,
     ) -> Result<IndexMap<K::Out, D::Out, S>, NoMemory> {
-        let mut results = IndexMap::with_hasher(self.alloc, self.hash_builder);
-        for (key, kept) in acc.entries {
-            let result = self.downstream.finish(kept)?;
-            results.insert(key, result)?;
-        }
-        Ok(results)
+        let results = IndexMap::with_hasher(self.alloc, self.hash_builder);
+        finish_groups(&self.downstream, acc.entries, results)
     }
 
     fn is_light(&self, acc: &Groups<K::Out, D::Acc, S>) -> bool {
-        let entries = &acc.entries;
-        entries.len() <= LIGHT_ENTRIES
-            && entries
-                .iter()
-                .all(|(_, kept)| self.downstream.is_light(kept))
+        acc.entries.len() <= LIGHT_ENTRIES && all_light(&self.downstream, &acc.entries)
     }
 }

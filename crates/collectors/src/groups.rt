@@ -1,8 +1,10 @@
 //! The groups that a grouping keeps.
-ghost use Rattle.std.specs.Prelude.{◌≡◌, true, Some, []};
-ghost use Rattle.indexmap.specs.IndexMap.{index_of};
+ghost use Rattle.std.specs.Prelude.{◌≡◌, true, Some, [], OnOk};
+ghost use Rattle.indexmap.specs.IndexMap.{index_of, insert_entry};
 
+use crate::map_entries::add_entry;
 use indexmap::IndexMap;
+use spliterator::NoMemory;
 use std::alloc::Global;
 use std::hash::{BuildHasher, Hash};
 
@@ -13,6 +15,18 @@ pub struct Groups<K: Eq + Hash, A, S: BuildHasher> {
     // No result depends on these two.
     pub(crate) last: usize,
     pub(crate) expected: Option<usize>,
+}
+
+impl<K: Eq + Hash + Drop, A: Drop, S: BuildHasher> Groups<K, A, S> {
+    /// Adds a group behind the others.
+    pub(crate) fn push(&mut self, key: K, kept: A) -> Result<(), NoMemory>
+        ensures { let added = insert_entry K.eq self.old.entries.entries key kept in
+            OnOk result (self.new.entries.entries ≡ added) }
+    {
+        self.last = self.entries.len();
+        self.expected = Some(0);
+        add_entry(&mut self.entries, key, kept)
+    }
 }
 
 impl<K: Eq + Hash, A, S: BuildHasher> Groups<K, A, S> {

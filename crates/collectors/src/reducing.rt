@@ -1,5 +1,5 @@
 //! Reductions from the first item.
-ghost use Rattle.std.specs.Prelude.{◌≡◌, Option, None, option_map};
+ghost use Rattle.std.specs.Prelude.{◌≡◌, Option, None, option_map, OnOk};
 ghost use Rattle.spliterator.specs.Clones.{ClonesAlike, TestsClonesAlike};
 ghost use Rattle.stages.specs.Operators.{IsAssociative, TestsAssociative, associative-tested};
 ghost use Rattle.collectors.specs.Reductions.{reduced, first, earlier, reduce_add, reduce_merge, reduce_laws, first_laws};
@@ -8,6 +8,20 @@ use crate::Collector;
 use spliterator::{NoMemory, Value};
 use stages::Operator;
 use std::marker::PhantomData;
+
+// Joins a value to those that were joined before.
+pub(crate) fn join_into<T: Value + Drop, O: Operator<T>>(
+    operator: &O,
+    joined: &mut T,
+    x: &T,
+) -> Result<(), NoMemory>
+    requires { O.ready operator.now }
+    ensures { let joins = O.join operator.now in
+        OnOk result (T.content joined.new ≡ joins (T.content joined.old) (T.content x.now)) }
+{
+    *joined = operator.join(joined, x)?;
+    Ok(())
+}
 
 /// The items joined by an associative operator, from the first on. There is none where there are no items.
 ///
@@ -62,21 +76,25 @@ impl<T: Value + Clone, O: Operator<T>> Collector for Reducing<T, O> {
 
     fn accumulate(&self, acc: &mut Option<T>, x: &T) -> Result<(), NoMemory> {
         match acc {
-            Some(joined) => *joined = self.operator.join(joined, x)?,
-            None => *acc = Some(x.clone()?),
+            Some(joined) => join_into(&self.operator, joined, x),
+            None => {
+                *acc = Some(x.clone()?);
+                Ok(())
+            }
         }
-        Ok(())
     }
 
     fn combine(&self, left: &mut Option<T>, right: Option<T>) -> Result<(), NoMemory> {
         match right {
             Some(later) => match left {
-                Some(joined) => *joined = self.operator.join(joined, &later)?,
-                None => *left = Some(later),
+                Some(joined) => join_into(&self.operator, joined, &later),
+                None => {
+                    *left = Some(later);
+                    Ok(())
+                }
             },
-            None => {}
+            None => Ok(()),
         }
-        Ok(())
     }
 
     fn finish(&self, acc: Option<T>) -> Result<Option<T>, NoMemory> {

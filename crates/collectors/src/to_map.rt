@@ -1,12 +1,14 @@
 //! Maps that merge the values of equal keys.
-ghost use Rattle.std.specs.Prelude.{◌≡◌, List, [], Some, map};
+ghost use Rattle.std.specs.Prelude.{◌≡◌, List, [], Some, map, OnOk};
 ghost use Rattle.stages.specs.Operators.{IsAssociative, TestsAssociative, associative-tested};
-ghost use Rattle.collectors.specs.Grouping.{group_merge, contents, IsGrouping};
+ghost use Rattle.collectors.specs.Grouping.{merge_entry, group_merge, contents, IsGrouping};
 ghost use Rattle.collectors.specs.MapLaws.{map_add, map_laws};
 ghost use Rattle.collectors.specs.Reductions.{reduced};
 
 use crate::Collector;
 use crate::collector::LIGHT_ENTRIES;
+use crate::map_entries::{add_entry, entry_of};
+use crate::reducing::join_into;
 use indexmap::IndexMap;
 use spliterator::{NoMemory, Value};
 use stages::{Mapping, Operator};
@@ -65,6 +67,41 @@ impl<T: Value, U: Value, K, V, M: Operator<U>, S> ToMap<T, U, K, V, M, S> {
     }
 }
 
+// Merges a value into that of its key, or adds the entry where the key is new.
+fn merge_value<K: Value + Hash + Drop, U: Value + Drop, M: Operator<U>, S: BuildHasher>(
+    merge: &M,
+    map: &mut IndexMap<K, U, S>,
+    entry: (K, U),
+) -> Result<(), NoMemory>
+    requires { M.ready merge.now }
+    ensures { let seen = contents K.content U.content in
+        let merged = merge_entry K.same (M.join merge.now) (seen map.old.entries) in
+        OnOk result (seen map.new.entries ≡ merged (K.content entry.0, U.content entry.1)) }
+{
+    let (key, value) = entry;
+    if let Some(earlier) = map.get_mut(&key) {
+        return join_into(merge, earlier, &value);
+    }
+    add_entry(map, key, value)
+}
+
+// Merges each entry of the right side, in their order.
+fn merge_values<K: Value + Hash + Drop, U: Value + Drop, M: Operator<U>, S: BuildHasher + Copy>(
+    merge: &M,
+    left: &mut IndexMap<K, U, S>,
+    right: IndexMap<K, U, S>,
+) -> Result<(), NoMemory>
+    requires { M.ready merge.now }
+    ensures { let seen = contents K.content U.content in
+        let merged = group_merge K.same (M.join merge.now) (seen left.old.entries) in
+        OnOk result (seen left.new.entries ≡ merged (seen right.entries)) }
+{
+    for entry in right {
+        merge_value(merge, left, entry)?;
+    }
+    Ok(())
+}
+
 impl<
     T: Value,
     U: Value + Drop,
@@ -103,14 +140,8 @@ where
     }
 
     fn accumulate(&self, acc: &mut IndexMap<K::Out, U, S>, x: &T) -> Result<(), NoMemory> {
-        let key = self.key.image(x)?;
-        let value = self.value.image(x)?;
-        if let Some(earlier) = acc.get_mut(&key) {
-            *earlier = self.merge.join(earlier, &value)?;
-            return Ok(());
-        }
-        acc.insert(key, value)?;
-        Ok(())
+        let entry = entry_of(&self.key, &self.value, x)?;
+        merge_value(&self.merge, acc, entry)
     }
 
     fn combine(
@@ -118,15 +149,7 @@ where
         left: &mut IndexMap<K::Out, U, S>,
         right: IndexMap<K::Out, U, S>,
     ) -> Result<(), NoMemory> {
-        for (key, value) in right {
-            match left.get_mut(&key) {
-                Some(earlier) => *earlier = self.merge.join(earlier, &value)?,
-                None => {
-                    left.insert(key, value)?;
-                }
-            }
-        }
-        Ok(())
+        merge_values(&self.merge, left, right)
     }
 
     fn finish(&self, acc: IndexMap<K::Out, U, S>) -> Result<IndexMap<K::Out, U, S>, NoMemory> {

@@ -1,11 +1,12 @@
 //! Maps that refuse a repeated key.
-ghost use Rattle.std.specs.Prelude.{◌≡◌, List, [], map, Option, None, option_map, IfOk, IfErr, OnOk};
+ghost use Rattle.std.specs.Prelude.{◌≡◌, List, [], map, Option, None, option_map, IfOk, IfErr, OnOk, fold};
 ghost use Rattle.collectors.specs.Grouping.{contents};
 ghost use Rattle.collectors.specs.StrictMaps.{strict_put, strict_add, strict_merge, IsFirstRepeat, IsStrictMap};
 ghost use Rattle.collectors.specs.StrictMapLaws.{strict_map_laws};
 
 use crate::Collector;
 use crate::collector::LIGHT_ENTRIES;
+use crate::map_entries::{add_entry, entry_of};
 use indexmap::IndexMap;
 use spliterator::{NoMemory, Value};
 use stages::Mapping;
@@ -32,16 +33,36 @@ pub struct StrictEntries<K: Eq + Hash, V, S: BuildHasher = BuildHasherDefault<Fo
 
 impl<K: Value + Hash + Drop, V: Value + Drop, S: BuildHasher> StrictEntries<K, V, S> {
     // A key that is there is the repeat, and after a repeat nothing changes.
-    fn put(&mut self, key: K, value: V) -> Result<(), NoMemory>
-        ensures { OnOk result ((contents K.content V.content self.new.entries.entries, option_map K.content self.new.repeated) ≡ strict_put K.same (contents K.content V.content self.old.entries.entries) (option_map K.content self.old.repeated) (K.content key, V.content value)) }
+    fn put(&mut self, entry: (K, V)) -> Result<(), NoMemory>
+        ensures { let seen = contents K.content V.content in
+            let repeat = option_map K.content in
+            let put = strict_put K.same (seen self.old.entries.entries) (repeat self.old.repeated) in
+            OnOk result ((seen self.new.entries.entries, repeat self.new.repeated)
+            ≡ put (K.content entry.0, V.content entry.1)) }
     {
         if self.repeated.is_some() {
             return Ok(());
         }
+        let (key, value) = entry;
         if self.entries.contains_key(&key) {
             self.repeated = Some(key);
-        } else {
-            self.entries.insert(key, value)?;
+            return Ok(());
+        }
+        add_entry(&mut self.entries, key, value)
+    }
+}
+
+impl<K: Value + Hash + Drop, V: Value + Drop, S: BuildHasher + Copy> StrictEntries<K, V, S> {
+    // Each entry is put, in their order.
+    fn put_all(&mut self, entries: IndexMap<K, V, S>) -> Result<(), NoMemory>
+        ensures { let seen = contents K.content V.content in
+            let repeat = option_map K.content in
+            let puts = fold (λ s e. strict_put K.same s.0 s.1 e) in
+            OnOk result ((seen self.new.entries.entries, repeat self.new.repeated)
+            ≡ puts (seen self.old.entries.entries, repeat self.old.repeated) (seen entries.entries)) }
+    {
+        for entry in entries {
+            self.put(entry)?;
         }
         Ok(())
     }
@@ -130,9 +151,8 @@ where
         if acc.repeated.is_some() {
             return Ok(());
         }
-        let key = self.key.image(x)?;
-        let value = self.value.image(x)?;
-        acc.put(key, value)
+        let entry = entry_of(&self.key, &self.value, x)?;
+        acc.put(entry)
     }
 
     fn combine(
@@ -141,9 +161,7 @@ where
         right: StrictEntries<K::Out, V::Out, S>,
     ) -> Result<(), NoMemory> {
         let StrictEntries { entries, repeated } = right;
-        for (key, value) in entries {
-            left.put(key, value)?;
-        }
+        left.put_all(entries)?;
         if left.repeated.is_none() {
             left.repeated = repeated;
         }

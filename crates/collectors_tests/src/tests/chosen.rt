@@ -20,13 +20,16 @@ fn choose(alloc: Global, number: u8) -> Chosen {
 #[test]
 fn collects_on_the_chosen_side(rt: HostRuntime) -> Result<(), Fail> {
     let alloc = rt.alloc();
-    check(&rt, alloc, &choose(alloc, 0), &[5, 2, 7], "3")?;
-    check(&rt, alloc, &choose(alloc, 1), &[5, 2, 7], "14")?;
-    check(&rt, alloc, &choose(alloc, 2), &[5, 2, 7], "[5, 2, 7]")?;
-    check(&rt, alloc, &choose(alloc, 2), &[], "[]")?;
+    check(&rt, alloc, choose(alloc, 0), &[(&[5, 2, 7], "3")])?;
+    check(&rt, alloc, choose(alloc, 1), &[(&[5, 2, 7], "14")])?;
+    check(
+        &rt,
+        alloc,
+        choose(alloc, 2),
+        &[(&[5, 2, 7], "[5, 2, 7]"), (&[], "[]")],
+    )?;
     let groups = GroupingBy::new(alloc, Modulo::new(2), choose(alloc, 1));
-    check(&rt, alloc, &groups, &[5, 2, 7, 4, 5], "{1=17, 0=6}")?;
-    Ok(())
+    check(&rt, alloc, groups, &[(&[5, 2, 7, 4, 5], "{1=17, 0=6}")])
 }
 
 #[test]

@@ -18,17 +18,11 @@ use std::test::Fail;
 fn teeing_feeds_both(rt: HostRuntime) -> Result<(), Fail> {
     let alloc = rt.alloc();
     let totals = Teeing::new(SummingLong::new(Itself), Counting::<i64>::new(), Pair);
-    check(&rt, alloc, &totals, &[1, 2, 3, 4], "(10, 4)")?;
+    check(&rt, alloc, totals, &[(&[1, 2, 3, 4], "(10, 4)")])?;
     let totals = Teeing::new(Counting::<i64>::new(), SummingLong::new(Itself), Pair);
     let groups = GroupingBy::new(alloc, Modulo::new(2), totals);
-    check(
-        &rt,
-        alloc,
-        &groups,
-        &[5, 2, 7, 4, 5],
-        "{1=(3, 17), 0=(2, 6)}",
-    )?;
-    Ok(())
+    let expected = "{1=(3, 17), 0=(2, 6)}";
+    check(&rt, alloc, groups, &[(&[5, 2, 7, 4, 5], expected)])
 }
 
 #[test]
@@ -37,29 +31,36 @@ fn parts_of_groups(rt: HostRuntime) -> Result<(), Fail> {
     let groups = GroupingBy::new(alloc, Modulo::new(2), ToList::<i64>::new(alloc));
     let parts = PartitioningBy::new(Above(3), groups);
     let expected = "{false={0=[2]}, true={1=[5, 7, 5], 0=[4]}}";
-    check(&rt, alloc, &parts, &[5, 2, 7, 4, 5], expected)?;
-    Ok(())
+    check(&rt, alloc, parts, &[(&[5, 2, 7, 4, 5], expected)])
 }
 
 #[test]
-fn three_deep(rt: HostRuntime) -> Result<(), Fail> {
+fn groups_of_parts(rt: HostRuntime) -> Result<(), Fail> {
     let alloc = rt.alloc();
     let tens = MappingTo::<i64, _, _>::new(Times(10), ToList::<i64>::new(alloc));
     let parts = PartitioningBy::new(Above(3), tens);
     let groups = GroupingBy::new(alloc, Modulo::new(2), parts);
     let expected = "{1={false=[10], true=[50, 70]}, 0={false=[20], true=[]}}";
-    check(&rt, alloc, &groups, &[5, 2, 1, 7], expected)?;
+    check(&rt, alloc, groups, &[(&[5, 2, 1, 7], expected)])
+}
+
+#[test]
+fn groups_of_groups(rt: HostRuntime) -> Result<(), Fail> {
+    let alloc = rt.alloc();
     let joined = Joining::<&str>::new(alloc, "+", "", "");
-    let by_text = GroupingBy::new(alloc, Itself, joined);
-    let by_length = GroupingBy::new(alloc, Length, by_text);
+    let by_length = GroupingBy::new(alloc, Length, GroupingBy::new(alloc, Itself, joined));
     let expected = "{2={bb=bb+bb, cc=cc}, 1={a=a}}";
-    check(&rt, alloc, &by_length, &["bb", "a", "cc", "bb"], expected)?;
+    check(
+        &rt,
+        alloc,
+        by_length,
+        &[(&["bb", "a", "cc", "bb"], expected)],
+    )?;
     let large = FilteringTo::new(Above(100), ToList::<i64>::new(alloc));
     let by_six = GroupingBy::new(alloc, Modulo::new(6), large);
     let by_two = GroupingBy::new(alloc, Modulo::new(2), by_six);
     let expected = "{1={1=[], 5=[101]}, 0={2=[200]}}";
-    check(&rt, alloc, &by_two, &[1, 101, 2, 200], expected)?;
-    Ok(())
+    check(&rt, alloc, by_two, &[(&[1, 101, 2, 200], expected)])
 }
 
 // The number of items and their sum.
@@ -101,6 +102,5 @@ fn by_closures(rt: HostRuntime) -> Result<(), Fail> {
         },
         |acc: (i64, i64)| -> Result<(i64, i64), NoMemory> { Ok(acc) },
     );
-    check(&rt, rt.alloc(), &collector, &[5, -2, 9], "(3, 12)")?;
-    Ok(())
+    check(&rt, rt.alloc(), collector, &[(&[5, -2, 9], "(3, 12)")])
 }

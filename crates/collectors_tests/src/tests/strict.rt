@@ -10,32 +10,32 @@ fn strict_maps_of_numbers(rt: HostRuntime) -> Result<(), Fail> {
     let alloc = rt.alloc();
     let itself = ToMapStrict::<i64, _, _>::new(alloc, Itself, Itself);
     // 1 is the first key that is there twice, and 2 the first that comes again
-    check(&rt, alloc, &itself, &[1, 2, 2, 1], "duplicate key 2")?;
-    check(&rt, alloc, &itself, &[2, 2, 1, 1], "duplicate key 2")?;
-    check(&rt, alloc, &itself, &[], "{}")?;
+    let rows: [(&[i64], &str); 3] = [
+        (&[1, 2, 2, 1], "duplicate key 2"),
+        (&[2, 2, 1, 1], "duplicate key 2"),
+        (&[], "{}"),
+    ];
+    check(&rt, alloc, itself, &rows)?;
     let last_digit = ToMapStrict::<i64, _, _>::new(alloc, Modulo::new(10), Itself);
-    check(
-        &rt,
-        alloc,
-        &last_digit,
-        &[1, 2, 3, 4, 3, 1],
-        "duplicate key 3",
-    )?;
+    let expected = "duplicate key 3";
+    check(&rt, alloc, last_digit, &[(&[1, 2, 3, 4, 3, 1], expected)])?;
     let negated = ToMapStrict::<i64, _, _>::new(alloc, Itself, Times(-1));
-    check(&rt, alloc, &negated, &[1, 2], "{1=-1, 2=-2}")?;
-    Ok(())
+    check(&rt, alloc, negated, &[(&[1, 2], "{1=-1, 2=-2}")])
 }
 
 #[test]
 fn strict_maps_of_texts(rt: HostRuntime) -> Result<(), Fail> {
     let alloc = rt.alloc();
     let by_length = ToMapStrict::<&str, _, _>::new(alloc, Length, Itself);
-    check(&rt, alloc, &by_length, &["ab", "cd"], "duplicate key 2")?;
-    check(&rt, alloc, &by_length, &["ab", "c"], "{2=ab, 1=c}")?;
+    let rows: [(&[&str], &str); 2] = [
+        (&["ab", "cd"], "duplicate key 2"),
+        (&["ab", "c"], "{2=ab, 1=c}"),
+    ];
+    check(&rt, alloc, by_length, &rows)?;
     let hashes = RandomState::new(&rt)?;
     let lengths = ToMapStrict::<&str, _, _, _>::with_hasher(alloc, Itself, Length, hashes);
-    check(&rt, alloc, &lengths, &["ab", "c", "ab"], "duplicate key ab")?;
-    Ok(())
+    let expected = "duplicate key ab";
+    check(&rt, alloc, lengths, &[(&["ab", "c", "ab"], expected)])
 }
 
 #[test]
@@ -44,8 +44,7 @@ fn strict_maps_of_groups(rt: HostRuntime) -> Result<(), Fail> {
     let strict = ToMapStrict::<i64, _, _>::new(alloc, Modulo::new(10), Itself);
     let groups = GroupingBy::new(alloc, Modulo::new(2), strict);
     let expected = "{1={1=1, 3=13}, 0=duplicate key 2}";
-    check(&rt, alloc, &groups, &[1, 2, 13, 12, 22], expected)?;
-    Ok(())
+    check(&rt, alloc, groups, &[(&[1, 2, 13, 12, 22], expected)])
 }
 
 #[test]

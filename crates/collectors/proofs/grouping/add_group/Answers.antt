@@ -1,4 +1,5 @@
 use Rattle.std.proofs.Common.{◌∙◌, ◌≡◌, None, ap}
+use Rattle.std.proofs.lemmas.Result.{on_ok_weaker}
 use Rattle.std.specs.Map.{lookup}
 use Rattle.collectors.specs.Grouping.{put, contents}
 use Rattle.collectors.proofs.Entries.{put-insert_entry, absent-place}
@@ -12,8 +13,8 @@ returns g c =
     let kept = g.D.Collector.content d in
     let es = c.args.groups.now.entries.entries in
     let absent : lookup (g.K.PartialEq.eq c.args.key) es ≡ None = absent-place g.K.PartialEq.eq c.args.key es c.requires.absent in
-    let added : kept c.accumulate.new.acc ≡ g.D.Collector.add d (g.D.Collector.empty d) x
-    = c.in_ok-accumulate.ensures ∙ ap (λ a. g.D.Collector.add d a x) c.in_ok-kept.ensures in
-    ap (contents keys kept) c.in_ok-insert.ensures.entries
-    ∙ put-insert_entry g.K.PartialEq.eq g.K.Value.same keys kept g.met.K.Value.eq_is_same c.args.key c.accumulate.new.acc (λ a. g.D.Collector.add d a x) es absent
-    ∙ ap (λ a. put g.K.Value.same (keys c.args.key) a (λ a. g.D.Collector.add d a x) (contents keys kept es)) added
+    on_ok_weaker c.push.result
+    (λ pushed. ap (contents keys kept) pushed
+    ∙ put-insert_entry g.K.PartialEq.eq g.K.Value.same keys kept g.met.K.Value.eq_is_same c.args.key c.in_ok-kept.kept (λ a. g.D.Collector.add d a x) es absent
+    ∙ ap (λ a. put g.K.Value.same (keys c.args.key) a (λ a. g.D.Collector.add d a x) (contents keys kept es)) c.in_ok-kept.ensures)
+    c.push.ensures
