@@ -79,3 +79,32 @@ fn the_largest_board_in_shares_of_1024(rt: HostRuntime) -> Result<(), Fail> {
     }
     own_shares::<Brand, HostRuntime>(&rt, alloc, 65536, 64, starts.as_slice())
 }
+
+// All leaves that the seat of this number gets, where it alone draws.
+fn alone<C: Case, R: Abort>(
+    rt: &R,
+    alloc: Global,
+    leaves: usize,
+    seats: usize,
+    number: usize,
+    expected: &[usize],
+) -> Result<(), Fail>
+    requires { (C.case ≡ case_of leaves [] None seats) × (0 < leaves) × (leaves ≤ 65536) × (number < seats) × (seats ≤ 64) }
+{
+    let (board, mut seats) = Board::<C>::new(alloc, leaves, Need::Never, seats)?;
+    let mut seat = seats.swap_remove(number);
+    for at in expected {
+        let pass = leaf(rt, &board, &mut seat, *at);
+        board.give_up(&mut seat, pass);
+    }
+    assert!(rt; drained(&board, &mut seat));
+    Ok(())
+}
+
+#[test]
+fn a_seat_alone_gets_all_leaves(rt: HostRuntime) -> Result<(), Fail> {
+    alone::<Brand, HostRuntime>(&rt, rt.alloc(), 10, 4, 0, &[0, 1, 2, 3, 4, 5, 6, 7, 8, 9])?;
+    alone::<Brand, HostRuntime>(&rt, rt.alloc(), 10, 4, 2, &[5, 6, 7, 8, 9, 0, 1, 2, 3, 4])?;
+    alone::<Brand, HostRuntime>(&rt, rt.alloc(), 2, 7, 3, &[0, 1])?;
+    alone::<Brand, HostRuntime>(&rt, rt.alloc(), 2, 7, 6, &[1, 0])
+}

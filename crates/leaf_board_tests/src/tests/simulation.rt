@@ -1,4 +1,4 @@
-// Calls of several seats in random orders, each answer compared with the plain rule.
+// Calls of several seats, told or in random orders, each answer compared with the plain rule.
 ghost use Rattle.std.specs.Prelude.{◌≡◌, ℕ, ◌<◌, ◌^◌, length, slice_index, slice_index_or, None, IfOk};
 ghost use Rattle.barriers.specs.Needs.{need_of, IsBelow};
 ghost use Rattle.leaf_board.specs.Case.{IsLawful};
@@ -37,19 +37,40 @@ impl Dice {
         requires { 0 < bound }
         ensures { result < bound }
     {
-        (self.roll() % bound as u64) as usize
+        within(self.roll() as usize, bound)
     }
 }
 
-// The plain rule, and the dice that choose what is called.
-#[derive(Drop)]
-struct World {
-    dice: Dice,
-    plain: Plain,
+fn within(number: usize, bound: usize) -> usize
+    requires { 0 < bound }
+    ensures { result < bound }
+{
+    number % bound
+}
+
+// What a seat does in its turn. With no pass in hand it draws, whatever the act, but for a settle.
+#[derive(Clone, Copy)]
+enum Act {
+    Settle(usize),
+    Draw,
+    GiveUp,
+    Skip,
+    // the full count
+    Publish,
+    // as many as are needed, where the full count is greater
+    PublishEnough,
+}
+
+// One turn of one seat. Where it is told, the leaf in its hand and the board's cut after the turn.
+#[derive(Clone, Copy)]
+struct Step {
+    seat: usize,
+    act: Act,
+    told: Option<(Option<usize>, Option<usize>)>,
 }
 
 // A lawful count of the leaf: the full one, or one that is enough.
-fn lawful_count<R: Abort>(rt: &R, dice: &mut Dice, setting: &Setting, leaf: usize) -> u64
+fn lawful_count<R: Abort>(rt: &R, setting: &Setting, leaf: usize, act: Act) -> u64
     requires { leaf < setting.now.leaves }
     ensures lawful { IsLawful (need_of setting.now.need) (slice_index setting.now.full.items leaf) result }
     ensures small { result < 2 ^ 63 }
@@ -57,7 +78,7 @@ fn lawful_count<R: Abort>(rt: &R, dice: &mut Dice, setting: &Setting, leaf: usiz
     let full = setting.full[leaf];
     assert!(rt; full < 1000);
     match setting.need {
-        Need::Reach(need) if need < full && dice.below(2) == 0 => need,
+        Need::Reach(need) if need < full && matches!(act, Act::PublishEnough) => need,
         _ => full,
     }
 }
@@ -66,17 +87,17 @@ fn draw<C: Case, R: Abort>(
     rt: &R,
     board: &Board<C>,
     setting: &Setting,
-    world: &mut World,
+    plain: &mut Plain,
     seat: &mut BoardSeat<C>,
 ) -> Option<LeafPass>
     requires { seat.old.board ≡ board.now }
     ensures seat { SameSeat seat.old seat.new }
     ensures hand { Holds C.case.leaves seat.new result }
 {
-    let expected = world.plain.draw(setting, seat.number() as usize);
+    let expected = plain.draw(setting, seat.number() as usize);
     match board.draw(seat) {
         Draw::Leaf(pass) => {
-            assert_eq!(rt; expected, Some(pass.leaf()));
+            assert!(rt; expected == Some(pass.leaf()));
             Some(pass)
         }
         Draw::Drained => {
@@ -91,9 +112,10 @@ fn spend<C: Case, R: Abort>(
     rt: &R,
     board: &Board<C>,
     setting: &Setting,
-    world: &mut World,
+    plain: &mut Plain,
     seat: &mut BoardSeat<C>,
     pass: LeafPass,
+    act: Act,
 ) -> Option<LeafPass>
     requires seat { (seat.old.board ≡ board.now) × IsHeld seat.old.knows pass × (pass < C.case.leaves) }
     requires case { C.case ≡ case_of setting.now.leaves setting.now.full.items (need_of setting.now.need) setting.now.seats }
@@ -101,21 +123,23 @@ fn spend<C: Case, R: Abort>(
     ensures hand { Holds C.case.leaves seat.new result }
 {
     let leaf = pass.leaf();
-    let choice = world.dice.below(5);
-    if choice == 0 {
-        board.give_up(seat, pass);
-        return None;
+    match act {
+        Act::Skip => {
+            let told = board.skip(seat, pass);
+            assert!(rt; told.is_ok() == plain.is_cut(leaf));
+            told.err()
+        }
+        Act::Publish | Act::PublishEnough => {
+            let count = lawful_count(rt, setting, leaf, act);
+            plain.publish(leaf, count);
+            board.publish(seat, pass, count);
+            None
+        }
+        Act::Settle(_) | Act::Draw | Act::GiveUp => {
+            board.give_up(seat, pass);
+            None
+        }
     }
-    if choice < 3 {
-        let expected = world.plain.is_cut(leaf);
-        let told = board.skip(seat, pass);
-        assert_eq!(rt; told.is_ok(), expected);
-        return told.err();
-    }
-    let count = lawful_count(rt, &mut world.dice, setting, leaf);
-    world.plain.publish(leaf, count);
-    board.publish(seat, pass, count);
-    None
 }
 
 // Settles up to a leaf, and then asks of each leaf whether it is cut.
@@ -123,18 +147,19 @@ fn settle<C: Case, R: Abort>(
     rt: &R,
     board: &Board<C>,
     setting: &Setting,
-    world: &mut World,
+    plain: &mut Plain,
     seat: &mut BoardSeat<C>,
+    leaf: usize,
 )
     requires { (seat.old.board ≡ board.now) × (setting.now.leaves ≡ C.case.leaves) }
     ensures seat { SameSeat seat.old seat.new }
     ensures leaves { seat.new.knows.leaves ≡ seat.old.knows.leaves }
 {
-    let leaf = world.dice.below(setting.leaves);
-    world.plain.settle(setting, leaf);
-    board.settle(seat, leaf);
+    let last = within(leaf, setting.leaves);
+    plain.settle(setting, last);
+    board.settle(seat, last);
     for leaf in 0..setting.leaves {
-        assert_eq!(rt; board.is_cut(seat, leaf), world.plain.is_cut(leaf));
+        assert!(rt; board.is_cut(seat, leaf) == plain.is_cut(leaf));
     }
 }
 
@@ -143,22 +168,23 @@ fn turn<C: Case, R: Abort>(
     rt: &R,
     board: &Board<C>,
     setting: &Setting,
-    world: &mut World,
+    plain: &mut Plain,
     seat: &mut BoardSeat<C>,
     hand: &mut Option<LeafPass>,
+    act: Act,
 )
     requires seat { (seat.old.board ≡ board.now) × Holds C.case.leaves seat.old hand.old }
     requires case { C.case ≡ case_of setting.now.leaves setting.now.full.items (need_of setting.now.need) setting.now.seats }
     ensures seat { SameSeat seat.old seat.new }
     ensures hand { Holds C.case.leaves seat.new hand.new }
 {
-    if world.dice.below(4) == 0 {
-        settle(rt, board, setting, world, seat);
+    if let Act::Settle(leaf) = act {
+        settle(rt, board, setting, plain, seat, leaf);
         return;
     }
     let next = match hand.take() {
-        None => draw(rt, board, setting, world, seat),
-        Some(pass) => spend(rt, board, setting, world, seat, pass),
+        None => draw(rt, board, setting, plain, seat),
+        Some(pass) => spend(rt, board, setting, plain, seat, pass, act),
     };
     // The hand is empty by now, but a pass is never let go.
     if let Some(pass) = mem::replace(hand, next) {
@@ -185,12 +211,20 @@ fn give_up_all<C: Case>(
     hands.destroy_empty();
 }
 
+// Whether the hand and the cut are what was told.
+fn agrees(step: &Step, hand: &Option<LeafPass>, plain: &Plain) -> bool {
+    match step.told {
+        None => true,
+        Some((leaf, cut)) => hand.as_ref().map(|pass| pass.leaf()) == leaf && plain.cut() == cut,
+    }
+}
+
 fn compare<R: Abort>(rt: &R, setting: &Setting, plain: &Plain, told: &Record)
     requires { told.now.leaves ≡ setting.now.leaves }
 {
-    assert_eq!(rt; told.cut(), plain.cut());
+    assert!(rt; told.cut() == plain.cut());
     for leaf in 0..setting.leaves {
-        assert_eq!(rt; told.count(leaf), plain.count(leaf));
+        assert!(rt; told.count(leaf) == plain.count(leaf));
     }
 }
 
@@ -204,37 +238,35 @@ fn empty_hands(alloc: Global, seats: usize) -> Result<Vec<Option<LeafPass>>, All
     Ok(hands)
 }
 
-// Whether the board was cut.
+// What the plain rule says at the end, as the board does.
 fn simulate<C: Case, R: Abort>(
     rt: &R,
     alloc: Global,
     setting: &Setting,
-    seed: u64,
-) -> Result<bool, Fail>
+    steps: &[Step],
+) -> Result<Plain, Fail>
     requires case { C.case ≡ case_of setting.now.leaves setting.now.full.items (need_of setting.now.need) setting.now.seats }
     requires need { IsBelow (need_of setting.now.need) (2 ^ 63) }
 {
     let (board, mut seats) = Board::<C>::new(alloc, setting.leaves, setting.need, setting.seats)?;
-    let mut world = World {
-        dice: Dice { state: seed },
-        plain: Plain::new(alloc, setting.leaves)?,
-    };
+    let mut plain = Plain::new(alloc, setting.leaves)?;
     let mut hands = empty_hands(alloc, setting.seats)?;
-    for _turn in 0..60 {
-        let at = world.dice.below(setting.seats);
+    for step in steps {
+        let at = within(step.seat, setting.seats);
         turn(
             rt,
             &board,
             setting,
-            &mut world,
+            &mut plain,
             &mut seats[at],
             &mut hands[at],
+            step.act,
         );
+        assert!(rt; agrees(step, &hands[at], &plain));
     }
     give_up_all(&board, &mut seats, hands);
-    let record = LeafBoard::close(board, seats);
-    compare(rt, setting, &world.plain, &record);
-    Ok(record.cut().is_some())
+    compare(rt, setting, &plain, &LeafBoard::close(board, seats));
+    Ok(plain)
 }
 
 // A setting by the dice: few leaves, seats and counts, so that cuts, empty shares and enough leaves of their own are common.
@@ -260,6 +292,23 @@ fn setting(alloc: Global, dice: &mut Dice) -> Result<Setting, AllocError>
     })
 }
 
+// A step by the dice.
+fn any_step(dice: &mut Dice, setting: &Setting) -> Step {
+    let seat = dice.below(setting.seats);
+    let act = match dice.below(20) {
+        0..=4 => Act::Settle(dice.below(setting.leaves)),
+        5..=7 => Act::GiveUp,
+        8..=13 => Act::Skip,
+        14..=16 => Act::Publish,
+        _ => Act::PublishEnough,
+    };
+    Step {
+        seat,
+        act,
+        told: None,
+    }
+}
+
 #[test]
 fn random_orders_answer_as_the_plain_rule(rt: HostRuntime) -> Result<(), Fail> {
     let mut dice = Dice {
@@ -268,12 +317,135 @@ fn random_orders_answer_as_the_plain_rule(rt: HostRuntime) -> Result<(), Fail> {
     let mut cuts: u64 = 0;
     for _run in 0..100_000 {
         let setting = setting(rt.alloc(), &mut dice)?;
-        let seed = dice.roll();
-        if simulate::<Brand, HostRuntime>(&rt, rt.alloc(), &setting, seed)? {
+        let mut steps = Vec::new(rt.alloc());
+        for _turn in 0..60 {
+            steps.push(any_step(&mut dice, &setting))?;
+        }
+        let plain = simulate::<Brand, HostRuntime>(&rt, rt.alloc(), &setting, steps.as_slice())?;
+        if plain.cut().is_some() {
             cuts = cuts.wrapping_add(1);
         }
     }
     // Both kinds of run are common.
     assert!(rt; cuts > 20_000 && cuts < 90_000, "{cuts} runs were cut");
     Ok(())
+}
+
+// A board on which so many items are needed.
+fn needing<R: Abort>(
+    rt: &R,
+    alloc: Global,
+    full: &[u64],
+    need: u8,
+    seats: usize,
+) -> Result<Setting, AllocError>
+    ensures { IfOk result (λ s. IsBelow (need_of s.need) (2 ^ 63)) }
+{
+    let leaves = full.len();
+    assert!(rt; 0 < leaves && leaves <= 65536 && 0 < seats && seats <= 64);
+    let full = full.to_vec(alloc)?;
+    Ok(Setting {
+        leaves,
+        full,
+        need: Need::Reach(u64::from(need)),
+        seats,
+    })
+}
+
+// The seat acts, has this leaf in hand then, and the cut is here.
+fn then(seat: usize, act: Act, hand: Option<usize>, cut: Option<usize>) -> Step {
+    Step {
+        seat,
+        act,
+        told: Some((hand, cut)),
+    }
+}
+
+// The counts at the end are these.
+fn play<R: Abort>(
+    rt: &R,
+    alloc: Global,
+    setting: &Setting,
+    steps: &[Step],
+    counts: &[Option<u64>],
+) -> Result<(), Fail>
+    requires { IsBelow (need_of setting.now.need) (2 ^ 63) }
+{
+    let plain = simulate::<Brand, R>(rt, alloc, setting, steps)?;
+    for (leaf, count) in counts.iter().enumerate() {
+        assert!(rt; plain.count(leaf) == *count, "leaf {leaf}");
+    }
+    Ok(())
+}
+
+#[test]
+fn leaves_right_of_the_cut_are_skipped(rt: HostRuntime) -> Result<(), Fail> {
+    let setting = needing(&rt, rt.alloc(), &[2, 1, 5, 0], 3, 1)?;
+    let steps = [
+        then(0, Act::Draw, Some(0), None),
+        then(0, Act::Publish, None, None),
+        then(0, Act::Settle(0), None, None),
+        then(0, Act::Draw, Some(1), None),
+        then(0, Act::Publish, None, None),
+        then(0, Act::Settle(1), None, Some(1)),
+        then(0, Act::Draw, Some(2), Some(1)),
+        then(0, Act::Skip, None, Some(1)),
+        then(0, Act::Draw, Some(3), Some(1)),
+        then(0, Act::Skip, None, Some(1)),
+        then(0, Act::Draw, None, Some(1)),
+        then(0, Act::Draw, None, Some(1)),
+    ];
+    play(&rt, rt.alloc(), &setting, &steps, &[Some(2), Some(1), None, None])
+}
+
+// A cut is sought though leaves left of it are not finished.
+#[test]
+fn a_gap_is_no_bar_to_a_cut(rt: HostRuntime) -> Result<(), Fail> {
+    let setting = needing(&rt, rt.alloc(), &[2, 1, 5, 0], 3, 4)?;
+    let steps = [
+        then(0, Act::Draw, Some(0), None),
+        then(1, Act::Draw, Some(1), None),
+        then(2, Act::Draw, Some(2), None),
+        then(2, Act::PublishEnough, None, None),
+        then(2, Act::Settle(2), None, Some(2)),
+        then(0, Act::Skip, Some(0), Some(2)),
+        then(0, Act::Publish, None, Some(2)),
+        then(1, Act::Publish, None, Some(2)),
+        then(1, Act::Settle(1), None, Some(1)),
+        then(0, Act::Draw, Some(3), Some(1)),
+        then(0, Act::Skip, None, Some(1)),
+        then(0, Act::Draw, None, Some(1)),
+    ];
+    play(&rt, rt.alloc(), &setting, &steps, &[Some(2), Some(1), Some(3), None])
+}
+
+#[test]
+fn no_items_are_enough_where_none_are_needed(rt: HostRuntime) -> Result<(), Fail> {
+    let setting = needing(&rt, rt.alloc(), &[5, 5], 0, 1)?;
+    let steps = [
+        then(0, Act::Draw, Some(0), None),
+        then(0, Act::PublishEnough, None, None),
+        then(0, Act::Settle(0), None, Some(0)),
+        then(0, Act::Draw, Some(1), Some(0)),
+        then(0, Act::Skip, None, Some(0)),
+        then(0, Act::Draw, None, Some(0)),
+    ];
+    play(&rt, rt.alloc(), &setting, &steps, &[Some(0), None])
+}
+
+// The second seat's settle sees what the first published.
+#[test]
+fn a_settle_sees_other_seats(rt: HostRuntime) -> Result<(), Fail> {
+    let setting = needing(&rt, rt.alloc(), &[1, 1, 1], 2, 2)?;
+    let steps = [
+        then(0, Act::Draw, Some(0), None),
+        then(1, Act::Draw, Some(1), None),
+        then(0, Act::Publish, None, None),
+        then(0, Act::Settle(0), None, None),
+        then(1, Act::Publish, None, None),
+        then(1, Act::Settle(1), None, Some(1)),
+        then(0, Act::Draw, Some(2), Some(1)),
+        then(0, Act::Skip, None, Some(1)),
+    ];
+    play(&rt, rt.alloc(), &setting, &steps, &[Some(1), Some(1), None])
 }

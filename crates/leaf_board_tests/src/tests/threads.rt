@@ -9,7 +9,7 @@ ghost use Rattle.leaf_board.specs.Boards.{largest};
 
 use leaf_board::{Board, BoardSeat, Case, Draw, LeafBoard, LeafPass, Record};
 use barriers::Need;
-use std::alloc::Global;
+use std::alloc::{AllocError, Global};
 use std::marker::Brand;
 use std::process::Abort;
 use std::sync::atomic::{AtomicU64, Ordering};
@@ -50,8 +50,8 @@ fn run_leaf<C: Case>(board: &Board<C>, seat: &mut BoardSeat<C>, pass: LeafPass)
     }
 }
 
-// Draws until all leaves were given out, and adds up how many it got.
-fn work<C: Case>(board: &Board<C>, seat: &mut BoardSeat<C>, drawn: &AtomicU64)
+// Draws until all leaves were given out, and counts at each how often it was drawn.
+fn work<C: Case>(board: &Board<C>, seat: &mut BoardSeat<C>, drawn: &[AtomicU64])
     requires { (seat.old.board ≡ board.now) × (C.case ≡ largest C.case.need) }
     ensures { SameSeat seat.old seat.new }
 {
@@ -59,7 +59,9 @@ fn work<C: Case>(board: &Board<C>, seat: &mut BoardSeat<C>, drawn: &AtomicU64)
         match board.draw(seat) {
             Draw::Drained => return,
             Draw::Leaf(pass) => {
-                drawn.fetch_add(1, Ordering::SeqCst);
+                if let Some(times) = drawn.get(pass.leaf()) {
+                    times.fetch_add(1, Ordering::SeqCst);
+                }
                 match board.skip(seat, pass) {
                     Ok(()) => {}
                     Err(pass) => run_leaf(board, seat, pass),
@@ -74,7 +76,7 @@ fn all_work<C: Case + Send + Sync, R: Threads + Sync>(
     rt: &R,
     board: &Board<C>,
     seats: &mut [BoardSeat<C>],
-    drawn: &AtomicU64,
+    drawn: &[AtomicU64],
 )
     requires seats { AreSeats (IsOn board.now) number_of C.case.seats seats.old }
     requires case { (C.case.seats ≡ 64) × (C.case ≡ largest C.case.need) }
@@ -92,7 +94,16 @@ fn all_work<C: Case + Send + Sync, R: Threads + Sync>(
     board.settle(&mut seats[0], 65535);
 }
 
-// The record after all threads are joined.
+// A zero for each leaf.
+fn zeros(alloc: Global) -> Result<Vec<AtomicU64>, AllocError> {
+    let mut zeros = Vec::new(alloc);
+    for _leaf in 0..65536 {
+        zeros.push(AtomicU64::new(0))?;
+    }
+    Ok(zeros)
+}
+
+// The record after all threads are joined, each leaf drawn once.
 fn in_threads<C: Case + Send + Sync, R: Threads + Abort + Sync>(
     rt: &R,
     alloc: Global,
@@ -101,9 +112,11 @@ fn in_threads<C: Case + Send + Sync, R: Threads + Abort + Sync>(
     requires { (C.case ≡ largest (need_of need)) × IsBelow (need_of need) (2 ^ 63) }
 {
     let (board, mut seats) = Board::<C>::new(alloc, 65536, need, 64)?;
-    let drawn = AtomicU64::new(0);
-    all_work(rt, &board, seats.as_mut_slice(), &drawn);
-    assert_eq!(rt; drawn.load(Ordering::SeqCst), 65536);
+    let drawn = zeros(alloc)?;
+    all_work(rt, &board, seats.as_mut_slice(), drawn.as_slice());
+    for times in &drawn {
+        assert!(rt; times.load(Ordering::SeqCst) == 1);
+    }
     Ok(LeafBoard::close(board, seats))
 }
 

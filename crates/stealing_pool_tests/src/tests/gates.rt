@@ -51,19 +51,28 @@ impl Gate for Meeting {
     fn after_leaf(&self, _worker: u32, _leaf: usize) {}
 }
 
-/// Holds leaf 0 until so many other leaves have ended.
+/// Holds leaf 0 until so many other leaves have begun, and so many have ended, and tells that leaf 0 has ended.
 #[derive(Drop)]
 pub struct HoldsFirst {
-    pub others: u64,
-    pub ended: AtomicU64,
+    wanted_begun: u64,
+    wanted_ended: u64,
+    begun: AtomicU64,
+    ended: AtomicU64,
+    pub first_ended: AtomicU64,
+    // how often `Watched` was asked meanwhile
+    pub asked: AtomicU64,
     pub missed: AtomicU64,
 }
 
 impl HoldsFirst {
-    pub fn until(others: u64) -> HoldsFirst {
+    pub fn until(wanted_begun: u64, wanted_ended: u64) -> HoldsFirst {
         HoldsFirst {
-            others,
+            wanted_begun,
+            wanted_ended,
+            begun: AtomicU64::new(0),
             ended: AtomicU64::new(0),
+            first_ended: AtomicU64::new(0),
+            asked: AtomicU64::new(0),
             missed: AtomicU64::new(0),
         }
     }
@@ -71,7 +80,11 @@ impl HoldsFirst {
 
 impl Gate for HoldsFirst {
     fn before_leaf(&self, _worker: u32, leaf: usize) {
-        if leaf == 0 && !wait_for(&self.ended, self.others) {
+        if leaf > 0 {
+            self.begun.fetch_add(1, Ordering::SeqCst);
+        } else if !wait_for(&self.begun, self.wanted_begun)
+            || !wait_for(&self.ended, self.wanted_ended)
+        {
             self.missed.fetch_add(1, Ordering::SeqCst);
         }
     }
@@ -79,74 +92,8 @@ impl Gate for HoldsFirst {
     fn after_leaf(&self, _worker: u32, leaf: usize) {
         if leaf > 0 {
             self.ended.fetch_add(1, Ordering::SeqCst);
-        }
-    }
-}
-
-/// Holds leaf 0 until leaf 1 has ended.
-#[derive(Drop)]
-pub struct SecondFirst {
-    pub ended: AtomicU64,
-    pub missed: AtomicU64,
-}
-
-impl SecondFirst {
-    pub fn new() -> SecondFirst {
-        SecondFirst {
-            ended: AtomicU64::new(0),
-            missed: AtomicU64::new(0),
-        }
-    }
-}
-
-impl Gate for SecondFirst {
-    fn before_leaf(&self, _worker: u32, leaf: usize) {
-        if leaf == 0 && !wait_for(&self.ended, 1) {
-            self.missed.fetch_add(1, Ordering::SeqCst);
-        }
-    }
-
-    fn after_leaf(&self, _worker: u32, leaf: usize) {
-        if leaf == 1 {
-            self.ended.fetch_add(1, Ordering::SeqCst);
-        }
-    }
-}
-
-/// Holds leaf 0 until leaf 1 was entered, and tells that leaf 0 has ended.
-#[derive(Drop)]
-pub struct FirstWithin {
-    pub entered: AtomicU64,
-    pub ended: AtomicU64,
-    pub missed: AtomicU64,
-    // how often a test was asked meanwhile
-    pub asked: AtomicU64,
-}
-
-impl FirstWithin {
-    pub fn new() -> FirstWithin {
-        FirstWithin {
-            entered: AtomicU64::new(0),
-            ended: AtomicU64::new(0),
-            missed: AtomicU64::new(0),
-            asked: AtomicU64::new(0),
-        }
-    }
-}
-
-impl Gate for FirstWithin {
-    fn before_leaf(&self, _worker: u32, leaf: usize) {
-        if leaf == 1 {
-            self.entered.fetch_add(1, Ordering::SeqCst);
-        }
-        if leaf == 0 && !wait_for(&self.entered, 1) {
-            self.missed.fetch_add(1, Ordering::SeqCst);
-        }
-    }
-
-    fn after_leaf(&self, _worker: u32, leaf: usize) {
-        if leaf == 0 {
-            self.ended.fetch_add(1, Ordering::SeqCst);
+        } else {
+            self.first_ended.fetch_add(1, Ordering::SeqCst);
         }
     }
 }

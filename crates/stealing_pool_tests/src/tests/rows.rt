@@ -1,17 +1,17 @@
 //! What runs answer and report.
 ghost use Rattle.std.specs.Prelude.{◌≤◌};
 
-use super::gates::{FirstWithin, HoldsFirst, Meeting, SecondFirst};
-use super::plan_of;
-use super::watched::{Above, Itself, MeetingLists, RefusesAt, Times, Watched};
-use stealing_pool::{NoGate, RunReport, run_leaves};
-use barriers::{FirstHit, Total, Whole};
-use collectors::{Counting, First, SummingLong, ToList};
+use super::gates::{HoldsFirst, Meeting};
+use super::watched::{Above, Itself, MeetingLists, Times, Watched};
+use stealing_pool::{Gate, Gathered, NoGate, RunEntry, RunReport, run_leaves};
+use barriers::{Demand, FirstHit, Total, Whole};
+use collectors::{Collector, SummingLong, ToList};
 use sources::RangeSplit;
 use split_tree::Plan;
 use spliterator::NoMemory;
-use stages::{Filter, Map, Nothing, Then};
+use stages::{Filter, Map, Nothing, Stage, Then};
 use std::alloc::Global;
+use std::process::Abort;
 use std::sync::atomic::{AtomicU64, Ordering};
 use std::test::Fail;
 use std::thread::Threads;
@@ -25,6 +25,81 @@ fn all_came(missed: &AtomicU64) -> Result<(), NoMemory> {
     }
 }
 
+/// The numbers from 0 up to an end, the greatest size of a leaf, and how many workers run them.
+#[derive(Clone, Copy, Drop)]
+struct Shape {
+    end: i64,
+    target: u64,
+    workers: u32,
+}
+
+/// A run of the numbers of a shape. A plan that finds no memory is a want of memory too.
+fn run<
+    R: Threads + Sync,
+    G: Stage<In = i64> + Sync,
+    D: Demand<G::Out> + Sync,
+    C: Collector<Item = G::Out> + Sync,
+    H: Gate + Sync,
+>(
+    rt: &R,
+    alloc: Global,
+    shape: Shape,
+    stage: &G,
+    demand: &D,
+    collector: &C,
+    gate: &H,
+) -> Result<Gathered<C::Acc>, NoMemory>
+where
+    G::Out: Send,
+    C::Acc: Send,
+    C::Out: Send,
+    requires stage { G.ready stage.now }
+    requires demand { D.ready demand.now }
+    requires collector { C.ready collector.now }
+    requires workers { (1 ≤ shape.workers) × (shape.workers ≤ 64) }
+{
+    let Ok(numbers) = RangeSplit::range(0, shape.end) else {
+        return Err(NoMemory);
+    };
+    let Ok(plan) = Plan::make(alloc, numbers, shape.workers, shape.target) else {
+        return Err(NoMemory);
+    };
+    run_leaves(
+        rt,
+        alloc,
+        &plan,
+        stage,
+        demand,
+        collector,
+        shape.workers,
+        gate,
+    )
+}
+
+/// The count that is told of a leaf.
+fn told(counts: &[(usize, u64)], leaf: usize) -> Option<u64> {
+    for (at, count) in counts {
+        if *at == leaf {
+            return Some(*count);
+        }
+    }
+    None
+}
+
+/// Whether there were so many leaves and this cut, these leaves have these counts, and all others were skipped.
+fn reports(entry: &RunEntry, leaves: usize, cut: usize, counts: &[(usize, u64)]) -> bool {
+    if entry.leaves() != leaves || entry.cut() != Some(cut) {
+        return false;
+    }
+    for leaf in 0..leaves {
+        let count = told(counts, leaf);
+        if entry.count(leaf) != count || entry.was_skipped(leaf) != count.is_none() {
+            return false;
+        }
+    }
+    true
+}
+
 /// The sum of the numbers of a range.
 fn sum<R: Threads + Sync>(
     rt: &R,
@@ -32,10 +107,12 @@ fn sum<R: Threads + Sync>(
     range: RangeSplit,
     workers: u32,
     target: u64,
-) -> Result<i64, Fail>
+) -> Result<i64, NoMemory>
     requires { (1 ≤ workers) × (workers ≤ 64) }
 {
-    let plan = Plan::make(alloc, range, workers, target)?;
+    let Ok(plan) = Plan::make(alloc, range, workers, target) else {
+        return Err(NoMemory);
+    };
     let collector = SummingLong::new(Itself);
     let run = run_leaves(
         rt,
@@ -57,7 +134,7 @@ fn find_sum<R: Threads + Sync>(
     range: RangeSplit,
     workers: u32,
     wanted: i64,
-) -> Result<bool, Fail>
+) -> Result<bool, NoMemory>
     requires { (1 ≤ workers) × (workers ≤ 64) }
 {
     let apart = sum(rt, alloc, range, workers, 1)?;
@@ -71,7 +148,7 @@ fn all_find_sum<R: Threads + Sync>(
     alloc: Global,
     range: RangeSplit,
     wanted: i64,
-) -> Result<bool, Fail> {
+) -> Result<bool, NoMemory> {
     let few = find_sum(rt, alloc, range, 1, wanted)? && find_sum(rt, alloc, range, 2, wanted)?;
     let many = find_sum(rt, alloc, range, 7, wanted)? && find_sum(rt, alloc, range, 64, wanted)?;
     Ok(few && many)
@@ -89,352 +166,244 @@ fn sums_are_those_of_one_thread(rt: HostRuntime) -> Result<(), Fail> {
 }
 
 #[test]
-fn a_count_is_that_of_one_thread(rt: HostRuntime) -> Result<(), Fail> {
-    let alloc = rt.alloc();
-    let plan = plan_of(alloc, 100_000, 4, 0)?;
-    let run = run_leaves(
-        &rt,
-        alloc,
-        &plan,
-        &Nothing::new(),
-        &Whole,
-        &Counting::new(),
-        4,
-        &NoGate,
-    )?;
-    assert_eq!(rt; run.acc, 100_000);
-    assert_eq!(rt; run.entry.leaves(), 16);
-    assert_eq!(rt; run.entry.cut(), None);
-    assert_eq!(rt; run.entry.count(15), Some(0));
+fn a_report_tells_the_leaves_of_a_whole_run(rt: HostRuntime) -> Result<(), Fail> {
+    let shape = Shape {
+        end: 100_000,
+        target: 0,
+        workers: 4,
+    };
+    let stage = Nothing::new();
+    let collector = SummingLong::new(Itself);
+    let run = run(&rt, rt.alloc(), shape, &stage, &Whole, &collector, &NoGate)?;
+    assert!(rt; run.acc == 4_999_950_000);
+    assert!(rt; run.entry.leaves() == 16 && run.entry.cut().is_none());
+    assert!(rt; run.entry.count(15) == Some(0));
     Ok(())
 }
 
 #[test]
 fn sixty_four_workers_share_one_item(rt: HostRuntime) -> Result<(), Fail> {
-    let one = RangeSplit::range(7, 8)?;
-    assert_eq!(rt; sum(&rt, rt.alloc(), one, 64, 1)?, 7);
-    let plan = plan_of(rt.alloc(), 1, 64, 1)?;
-    let run = run_leaves(
-        &rt,
-        rt.alloc(),
-        &plan,
-        &Nothing::new(),
-        &Whole,
-        &Counting::new(),
-        64,
-        &NoGate,
-    )?;
-    assert_eq!(rt; run.acc, 1);
+    assert!(rt; sum(&rt, rt.alloc(), RangeSplit::range(7, 8)?, 64, 1)? == 7);
     Ok(())
+}
+
+/// How often a worker waited in vain for another one at a leaf, where so many sum 100 numbers.
+fn misses<R: Threads + Abort + Sync>(
+    rt: &R,
+    alloc: Global,
+    workers: u32,
+) -> Result<AtomicU64, NoMemory>
+    requires { (1 ≤ workers) × (workers ≤ 64) }
+{
+    let shape = Shape {
+        end: 100,
+        target: 1,
+        workers,
+    };
+    let gate = Meeting::new();
+    let collector = SummingLong::new(Itself);
+    let run = run(rt, alloc, shape, &Nothing::new(), &Whole, &collector, &gate)?;
+    assert!(rt; run.acc == 4950);
+    Ok(gate.missed)
 }
 
 #[test]
 fn two_workers_are_at_work_at_once(rt: HostRuntime) -> Result<(), Fail> {
-    let alloc = rt.alloc();
-    let plan = plan_of(alloc, 100, 2, 1)?;
-    let gate = Meeting::new();
-    let collector = SummingLong::new(Itself);
-    let run = run_leaves(
-        &rt,
-        alloc,
-        &plan,
-        &Nothing::new(),
-        &Whole,
-        &collector,
-        2,
-        &gate,
-    )?;
-    all_came(&gate.missed)?;
-    assert_eq!(rt; run.acc, 4950);
+    all_came(&misses(&rt, rt.alloc(), 2)?)?;
     Ok(())
 }
 
 // With all leaves on the caller's thread the gate waits in vain: it tells the one from the other.
 #[test]
 fn one_worker_meets_no_other(rt: HostRuntime) -> Result<(), Fail> {
-    let alloc = rt.alloc();
-    let plan = plan_of(alloc, 100, 1, 1)?;
-    let gate = Meeting::new();
-    let collector = SummingLong::new(Itself);
-    let run = run_leaves(
-        &rt,
-        alloc,
-        &plan,
-        &Nothing::new(),
-        &Whole,
-        &collector,
-        1,
-        &gate,
-    )?;
-    assert_eq!(rt; run.acc, 4950);
-    assert_eq!(rt; gate.missed.load(Ordering::SeqCst), 1);
+    let missed = misses(&rt, rt.alloc(), 1)?;
+    assert!(rt; missed.load(Ordering::SeqCst) == 1);
     Ok(())
+}
+
+/// How often a call of `combine` waited in vain for another one, where so many workers list four numbers.
+fn misses_in_combining<R: Threads + Abort + Sync>(
+    rt: &R,
+    alloc: Global,
+    workers: u32,
+    light: bool,
+) -> Result<AtomicU64, NoMemory>
+    requires { (1 ≤ workers) × (workers ≤ 64) }
+{
+    let shape = Shape {
+        end: 4,
+        target: 1,
+        workers,
+    };
+    let lists = MeetingLists::new(alloc, light);
+    let run = run(rt, alloc, shape, &Nothing::new(), &Whole, &lists, &NoGate)?;
+    assert!(rt; run.acc.as_slice() == [0, 1, 2, 3].as_slice());
+    Ok(lists.missed)
 }
 
 #[test]
 fn two_children_are_combined_at_once(rt: HostRuntime) -> Result<(), Fail> {
-    let alloc = rt.alloc();
-    let plan = plan_of(alloc, 4, 2, 1)?;
-    let lists = MeetingLists::new(alloc, false);
-    let run = run_leaves(
-        &rt,
-        alloc,
-        &plan,
-        &Nothing::new(),
-        &Whole,
-        &lists,
-        2,
-        &NoGate,
-    )?;
-    all_came(&lists.missed)?;
-    assert_eq!(rt; run.acc.as_slice(), [0, 1, 2, 3].as_slice());
+    all_came(&misses_in_combining(&rt, rt.alloc(), 2, false)?)?;
     Ok(())
 }
 
-// Light containers are combined by one thread, so the first call of `combine` waits in vain.
+// Light containers are combined by one thread, and one worker combines alone, so the first call of `combine` waits in vain.
 #[test]
-fn light_containers_start_no_thread(rt: HostRuntime) -> Result<(), Fail> {
-    let alloc = rt.alloc();
-    let plan = plan_of(alloc, 4, 2, 1)?;
-    let lists = MeetingLists::new(alloc, true);
-    let run = run_leaves(
-        &rt,
-        alloc,
-        &plan,
-        &Nothing::new(),
-        &Whole,
-        &lists,
-        2,
-        &NoGate,
-    )?;
-    assert_eq!(rt; run.acc.as_slice(), [0, 1, 2, 3].as_slice());
-    assert_eq!(rt; lists.missed.load(Ordering::SeqCst), 1);
+fn light_containers_and_one_worker_start_no_thread(rt: HostRuntime) -> Result<(), Fail> {
+    let light = misses_in_combining(&rt, rt.alloc(), 2, true)?;
+    assert!(rt; light.load(Ordering::SeqCst) == 1);
+    let alone = misses_in_combining(&rt, rt.alloc(), 1, false)?;
+    assert!(rt; alone.load(Ordering::SeqCst) == 1);
     Ok(())
 }
 
-// One worker combines alone, so here too.
-#[test]
-fn one_worker_combines_alone(rt: HostRuntime) -> Result<(), Fail> {
-    let alloc = rt.alloc();
-    let plan = plan_of(alloc, 4, 1, 1)?;
-    let lists = MeetingLists::new(alloc, false);
-    let run = run_leaves(
-        &rt,
-        alloc,
-        &plan,
-        &Nothing::new(),
-        &Whole,
-        &lists,
-        1,
-        &NoGate,
-    )?;
-    assert_eq!(rt; run.acc.as_slice(), [0, 1, 2, 3].as_slice());
-    assert_eq!(rt; lists.missed.load(Ordering::SeqCst), 1);
-    Ok(())
+/// The multiples of the numbers of a shape that are above a limit, as many as are needed.
+fn listed<R: Threads + Sync>(
+    rt: &R,
+    alloc: Global,
+    shape: Shape,
+    times: Times,
+    limit: i64,
+    needed: u32,
+    gate: &HoldsFirst,
+) -> Result<Gathered<Vec<i64>>, NoMemory>
+    requires { (1 ≤ shape.workers) × (shape.workers ≤ 64) }
+{
+    let stage = Then::new(Map::new(times), Filter::new(Watched { limit, gate }));
+    let demand = Total::new(u64::from(needed));
+    let run = run(rt, alloc, shape, &stage, &demand, &ToList::new(alloc), gate)?;
+    all_came(&gate.missed)?;
+    Ok(run)
 }
 
 #[test]
 fn a_held_leaf_keeps_its_place(rt: HostRuntime) -> Result<(), Fail> {
-    let alloc = rt.alloc();
-    let plan = plan_of(alloc, 100, 2, 1)?;
-    let gate = HoldsFirst::until(99);
-    let run = run_leaves(
-        &rt,
-        alloc,
-        &plan,
-        &Nothing::new(),
-        &Whole,
-        &ToList::new(alloc),
-        2,
-        &gate,
-    )?;
-    all_came(&gate.missed)?;
-    assert_eq!(rt; run.acc.len(), 100);
+    let shape = Shape {
+        end: 100,
+        target: 1,
+        workers: 2,
+    };
+    // A hundred numbers are not enough, so that all are listed.
+    let gate = HoldsFirst::until(0, 99);
+    let run = listed(&rt, rt.alloc(), shape, Times::new(1), -1, 101, &gate)?;
+    assert!(rt; are_from_zero(run.acc.as_slice(), 100));
+    Ok(())
+}
+
+/// Whether these are so many numbers from 0 on.
+fn are_from_zero(numbers: &[i64], count: usize) -> bool {
     let mut next = 0i64;
-    for x in &run.acc {
-        assert_eq!(rt; *x, next);
+    for x in numbers {
+        if *x != next {
+            return false;
+        }
         next = next.wrapping_add(1);
     }
-    Ok(())
+    numbers.len() == count
 }
 
 #[test]
 fn one_worker_stops_where_enough_is_kept(rt: HostRuntime) -> Result<(), Fail> {
-    let alloc = rt.alloc();
-    let plan = plan_of(alloc, 10, 1, 4)?;
-    let run = run_leaves(
-        &rt,
-        alloc,
-        &plan,
-        &Nothing::new(),
-        &Total::new(3),
-        &ToList::new(alloc),
-        1,
-        &NoGate,
-    )?;
-    assert_eq!(rt; run.acc.as_slice(), [0, 1, 2, 3, 4].as_slice());
-    let mut entries = Vec::new(alloc);
+    let shape = Shape {
+        end: 10,
+        target: 4,
+        workers: 1,
+    };
+    let gate = HoldsFirst::until(0, 0);
+    let run = listed(&rt, rt.alloc(), shape, Times::new(1), -1, 3, &gate)?;
+    assert!(rt; are_from_zero(run.acc.as_slice(), 5));
+    let mut entries = Vec::new(rt.alloc());
     entries.push(run.entry)?;
     let report = RunReport::of(entries);
-    let entry = &report.entries()[0];
-    assert_eq!(rt; entry.leaves(), 4);
-    assert_eq!(rt; entry.count(0), Some(2));
-    assert_eq!(rt; entry.count(1), Some(3));
-    assert_eq!(rt; entry.cut(), Some(1));
-    assert!(rt; entry.was_skipped(2) && entry.was_skipped(3));
-    assert!(rt; !entry.was_skipped(1));
+    assert!(rt; reports(&report.entries()[0], 4, 1, &[(0, 2), (1, 3)]));
     Ok(())
 }
 
 #[test]
 fn one_hit_skips_all_that_follows(rt: HostRuntime) -> Result<(), Fail> {
-    let alloc = rt.alloc();
-    let plan = plan_of(alloc, 100, 1, 10)?;
+    let shape = Shape {
+        end: 100,
+        target: 10,
+        workers: 1,
+    };
     let demand = FirstHit::new(Above { limit: 2 });
-    let run = run_leaves(
-        &rt,
-        alloc,
-        &plan,
-        &Nothing::new(),
-        &demand,
-        &ToList::new(alloc),
-        1,
-        &NoGate,
-    )?;
-    assert_eq!(rt; run.acc.as_slice(), [0, 1, 2, 3].as_slice());
-    let leaves = run.entry.leaves();
-    assert_eq!(rt; leaves, 16);
-    assert_eq!(rt; run.entry.count(0), Some(1));
-    assert_eq!(rt; run.entry.cut(), Some(0));
-    for leaf in 1..leaves {
-        assert!(rt; run.entry.was_skipped(leaf));
-    }
+    let lists = ToList::new(rt.alloc());
+    let run = run(&rt, rt.alloc(), shape, &Nothing::new(), &demand, &lists, &NoGate)?;
+    assert!(rt; are_from_zero(run.acc.as_slice(), 4));
+    assert!(rt; reports(&run.entry, 16, 0, &[(0, 1)]));
     Ok(())
 }
 
+// Leaf 0 is held until the other leaf has begun, which turns at its first number until leaf 0 has ended.
 #[test]
 fn a_leaf_asks_each_1024_items_whether_it_was_cut(rt: HostRuntime) -> Result<(), Fail> {
-    let alloc = rt.alloc();
-    let plan = plan_of(alloc, 8192, 2, 4096)?;
-    let gate = FirstWithin::new();
-    let stage = Filter::new(Watched {
-        from: 4096,
-        ended: &gate.ended,
-        asked: &gate.asked,
-        missed: &gate.missed,
-    });
-    let run = run_leaves(
-        &rt,
-        alloc,
-        &plan,
-        &stage,
-        &Total::new(1),
-        &ToList::new(alloc),
-        2,
-        &gate,
-    )?;
-    all_came(&gate.missed)?;
-    assert_eq!(rt; run.acc.as_slice(), [0].as_slice());
-    assert_eq!(rt; run.entry.leaves(), 2);
-    assert_eq!(rt; run.entry.count(0), Some(1));
-    assert_eq!(rt; run.entry.cut(), Some(0));
-    assert!(rt; run.entry.was_skipped(1));
-    assert_eq!(rt; gate.asked.load(Ordering::SeqCst), 1024);
+    let shape = Shape {
+        end: 8192,
+        target: 4096,
+        workers: 2,
+    };
+    let gate = HoldsFirst::until(1, 0);
+    let run = listed(&rt, rt.alloc(), shape, Times::new(-1), -1, 1, &gate)?;
+    assert!(rt; are_from_zero(run.acc.as_slice(), 1));
+    assert!(rt; reports(&run.entry, 2, 0, &[(0, 1)]));
+    assert!(rt; gate.asked.load(Ordering::SeqCst) == 1024);
     Ok(())
 }
 
+// Leaf 0 is held until the other worker has run leaf 512, where its share begins, and leaf 1, which lies left of that hit.
 #[test]
 fn the_first_of_a_million_is_found(rt: HostRuntime) -> Result<(), Fail> {
-    let alloc = rt.alloc();
-    let plan = plan_of(alloc, 1_000_000, 2, 1000)?;
-    let gate = SecondFirst::new();
-    let stage = Then::new(
-        Map::new(Times { factor: 3 }),
-        Filter::new(Above { limit: 100 }),
-    );
-    let run = run_leaves(
-        &rt,
-        alloc,
-        &plan,
-        &stage,
-        &Total::new(1),
-        &ToList::new(alloc),
-        2,
-        &gate,
-    )?;
-    all_came(&gate.missed)?;
-    assert_eq!(rt; run.acc.as_slice(), [102].as_slice());
-    let leaves = run.entry.leaves();
-    assert_eq!(rt; leaves, 1024);
-    assert_eq!(rt; run.entry.cut(), Some(0));
-    for leaf in 0..leaves {
-        let ran = leaf == 0 || leaf == 1 || leaf == 512;
-        assert_eq!(rt; run.entry.count(leaf), if ran { Some(1) } else { None });
-    }
+    let shape = Shape {
+        end: 1_000_000,
+        target: 1000,
+        workers: 2,
+    };
+    let gate = HoldsFirst::until(0, 2);
+    let run = listed(&rt, rt.alloc(), shape, Times::new(3), 100, 1, &gate)?;
+    assert!(rt; run.acc.as_slice() == [102].as_slice());
+    assert!(rt; reports(&run.entry, 1024, 0, &[(0, 1), (1, 1), (512, 1)]));
     Ok(())
+}
+
+/// A run of ten numbers, at the 7 of which memory is refused.
+fn of_ten<R: Threads + Sync>(
+    rt: &R,
+    alloc: Global,
+    needed: u32,
+    target: u64,
+    workers: u32,
+) -> Result<Gathered<Vec<i64>>, NoMemory>
+    requires { (1 ≤ workers) × (workers ≤ 64) }
+{
+    let shape = Shape {
+        end: 10,
+        target,
+        workers,
+    };
+    let refusing = Times {
+        factor: 1,
+        refused: 7,
+    };
+    listed(rt, alloc, shape, refusing, -1, needed, &HoldsFirst::until(0, 0))
 }
 
 #[test]
 fn one_worker_meets_no_refusal_right_of_what_is_wanted(rt: HostRuntime) -> Result<(), Fail> {
-    let alloc = rt.alloc();
-    let plan = plan_of(alloc, 10, 1, 1)?;
-    let stage = Map::new(RefusesAt { number: 7 });
-    let found = run_leaves(
-        &rt,
-        alloc,
-        &plan,
-        &stage,
-        &Total::new(1),
-        &First::new(),
-        1,
-        &NoGate,
-    )?;
-    assert_eq!(rt; found.acc, Some(0));
-    // All ten stand in one leaf, which reads none behind the item that is enough.
-    let one_leaf = plan_of(alloc, 10, 1, 16)?;
-    let found = run_leaves(
-        &rt,
-        alloc,
-        &one_leaf,
-        &stage,
-        &Total::new(1),
-        &First::new(),
-        1,
-        &NoGate,
-    )?;
-    assert_eq!(rt; found.acc, Some(0));
-    let whole = run_leaves(
-        &rt,
-        alloc,
-        &plan,
-        &stage,
-        &Whole,
-        &ToList::new(alloc),
-        1,
-        &NoGate,
-    );
-    assert!(rt; matches!(whole, Err(NoMemory)));
+    // In the second run all ten stand in one leaf, which reads none behind the item that is enough.
+    for target in [1, 16] {
+        let run = of_ten(&rt, rt.alloc(), 1, target, 1)?;
+        assert!(rt; are_from_zero(run.acc.as_slice(), 1), "at {target}");
+    }
+    // Ten items are not eleven, so that all are wanted.
+    assert!(rt; matches!(of_ten(&rt, rt.alloc(), 11, 1, 1), Err(NoMemory)));
     Ok(())
 }
 
 #[test]
 fn seven_workers_may_meet_a_refusal(rt: HostRuntime) -> Result<(), Fail> {
-    let alloc = rt.alloc();
-    let plan = plan_of(alloc, 10, 7, 1)?;
-    let stage = Map::new(RefusesAt { number: 7 });
-    let found = run_leaves(
-        &rt,
-        alloc,
-        &plan,
-        &stage,
-        &Total::new(1),
-        &First::new(),
-        7,
-        &NoGate,
-    );
     assert!(rt;
-        match found {
-            Ok(run) => run.acc == Some(0),
+        match of_ten(&rt, rt.alloc(), 1, 1, 7) {
+            Ok(run) => are_from_zero(run.acc.as_slice(), 1),
             Err(NoMemory) => true,
         }
     );
@@ -444,22 +413,8 @@ fn seven_workers_may_meet_a_refusal(rt: HostRuntime) -> Result<(), Fail> {
 // Where a request for memory is refused, that of a thread too, the sum is exact or memory is wanted (checks/refused_tests.py).
 #[test]
 fn seven_workers_sum_or_want_memory(rt: HostRuntime) -> Result<(), Fail> {
-    let alloc = rt.alloc();
-    let Ok(plan) = Plan::make(alloc, RangeSplit::range(0, 100)?, 7, 10) else {
-        return Ok(());
-    };
-    let collector = SummingLong::new(Itself);
-    match run_leaves(
-        &rt,
-        alloc,
-        &plan,
-        &Nothing::new(),
-        &Whole,
-        &collector,
-        7,
-        &NoGate,
-    ) {
-        Ok(run) => assert_eq!(rt; run.acc, 4950),
+    match sum(&rt, rt.alloc(), RangeSplit::range(0, 100)?, 7, 10) {
+        Ok(total) => assert!(rt; total == 4950),
         Err(NoMemory) => {}
     }
     Ok(())

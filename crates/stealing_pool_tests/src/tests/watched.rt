@@ -1,10 +1,10 @@
 //! Functions of stages and collectors that tests watch.
-ghost use Rattle.std.specs.Prelude.{◌≡◌, ◌*ℤ◌, ℤ, List, [], ◌++◌, int_lt, pos};
+ghost use Rattle.std.specs.Prelude.{◌≡◌, ◌*ℤ◌, ℤ, List, [], ◌++◌, int_lt};
 ghost use Rattle.collectors.specs.NestedLaws.{push, list_laws};
 ghost use Rattle.spliterator.specs.Values.{IsI64};
 ghost use Rattle.stages.specs.Wrapping.{wrapped, wrapped-value};
 
-use super::gates::wait_for;
+use super::gates::{HoldsFirst, wait_for};
 use collectors::Collector;
 use spliterator::NoMemory;
 use stages::{Mapping, Test};
@@ -27,10 +27,21 @@ impl Mapping<i64> for Itself {
     }
 }
 
-/// A multiple of each number.
+/// A multiple of each number, but memory is refused at one of them.
 #[derive(Drop)]
 pub struct Times {
     pub factor: i64,
+    pub refused: i64,
+}
+
+impl Times {
+    /// None of the numbers of the rows is refused.
+    pub fn new(factor: i64) -> Times {
+        Times {
+            factor,
+            refused: -1,
+        }
+    }
 }
 
 impl Mapping<i64> for Times {
@@ -41,28 +52,10 @@ impl Mapping<i64> for Times {
     ghost images_are_values = { λ m x h. wrapped-value (x *ℤ m.factor) };
 
     fn image(&self, x: &i64) -> Result<i64, NoMemory> {
-        Ok(x.wrapping_mul(self.factor))
-    }
-}
-
-/// Each number as it is, but memory is refused at one of them.
-#[derive(Drop)]
-pub struct RefusesAt {
-    pub number: i64,
-}
-
-impl Mapping<i64> for RefusesAt {
-    type Out = i64;
-
-    ghost image = { λ _ x. x };
-
-    ghost images_are_values = { λ f x h. h };
-
-    fn image(&self, x: &i64) -> Result<i64, NoMemory> {
-        if *x == self.number {
+        if *x == self.refused {
             Err(NoMemory)
         } else {
-            Ok(*x)
+            Ok(x.wrapping_mul(self.factor))
         }
     }
 }
@@ -81,27 +74,27 @@ impl Test<i64> for Above {
     }
 }
 
-/// The numbers below 1. It counts how often it was asked of a number from `from` on, and at `from` it turns until another thread
-/// tells that it has ended.
+/// The number from which on downwards `Watched` counts.
+const WATCHED: i64 = -4096;
+
+/// The numbers above a limit. It counts how often it was asked of -4096 or less, and at -4096 it turns until leaf 0 has ended.
 #[derive(Drop)]
 pub struct Watched<'a> {
-    pub from: i64,
-    pub ended: &'a AtomicU64,
-    pub asked: &'a AtomicU64,
-    pub missed: &'a AtomicU64,
+    pub limit: i64,
+    pub gate: &'a HoldsFirst,
 }
 
 impl Test<i64> for Watched<'_> {
-    ghost holds = { λ _ x. int_lt x (pos 1) };
+    ghost holds = { λ t x. int_lt t.limit x };
 
     fn holds(&self, x: &i64) -> bool {
-        if *x >= self.from {
-            self.asked.fetch_add(1, Ordering::SeqCst);
+        if *x <= WATCHED {
+            self.gate.asked.fetch_add(1, Ordering::SeqCst);
         }
-        if *x == self.from && !wait_for(self.ended, 1) {
-            self.missed.fetch_add(1, Ordering::SeqCst);
+        if *x == WATCHED && !wait_for(&self.gate.first_ended, 1) {
+            self.gate.missed.fetch_add(1, Ordering::SeqCst);
         }
-        *x < 1
+        self.limit < *x
     }
 }
 

@@ -7,8 +7,8 @@ use Rattle.leaf_board.proofs.Handing.{new_seats}
 use Rattle.leaf_board_tests.proofs.Simulated.{seats_set, hold_none, hold_set, same_hand}
 use Rattle.leaf_board_tests.proofs.tests.simulation.simulate.Goals as goal
 
-pub loop-turn-init : goal.loop-turn-init
-loop-turn-init g c =
+pub loop-step-init : goal.loop-step-init
+loop-step-init g c =
     let new = new_seats g.C.Case.case c.in_ok-board.board c.in_ok-board.seats.items c.in_ok-board.ensures in
     let few : g.C.Case.case.seats ≡ c.args.setting.now.seats = ap (λ (x : BoardCase). x.seats) c.requires.case in record {
       seats = new;
@@ -19,21 +19,21 @@ loop-turn-init g c =
 pub turn-requires-clause-seat : goal.turn-requires-clause-seat
 turn-requires-clause-seat g c =
     let few : g.C.Case.case.seats ≡ c.args.setting.now.seats = ap (λ (x : BoardCase). x.seats) c.requires.case in
-    let many = c.loop-turn.invariant.many in
-    let all = c.loop-turn.invariant.seats.all in
-    let at = c.loop-turn.invariant.seats.each c.below-at.result c.index_mut.result.now (omega arith) in
-    let hand = c.loop-turn.invariant.hands.1 c.below-at.result c.index_mut.result.now (omega arith) in (
+    let many = c.loop-step.invariant.many in
+    let all = c.loop-step.invariant.seats.all in
+    let at = c.loop-step.invariant.seats.each c.within-at.result c.index_mut.result.now (omega arith) in
+    let hand = c.loop-step.invariant.hands.1 c.within-at.result c.index_mut.result.now (omega arith) in (
       ap (λ (h : Holder). h.board) c.index_mut.ensures.value ∙ at.0,
-      subst (λ (h : Holder). Holds g.C.Case.case.leaves h c.index_mut-in-loop-turn.result.now) (sym c.index_mut.ensures.value)
-          (subst (Holds g.C.Case.case.leaves (slice_index_or c.loop-turn.seats.items c.below-at.result c.index_mut.result.now)) (same_hand c.loop-turn.hands.items c.below-at.result _ _ (omega arith) ∙ sym c.index_mut-in-loop-turn.ensures.value) hand),
+      subst (λ (h : Holder). Holds g.C.Case.case.leaves h c.index_mut-in-loop-step.result.now) (sym c.index_mut.ensures.value)
+          (subst (Holds g.C.Case.case.leaves (slice_index_or c.loop-step.seats.items c.within-at.result c.index_mut.result.now)) (same_hand c.loop-step.hands.items c.within-at.result _ _ (omega arith) ∙ sym c.index_mut-in-loop-step.ensures.value) hand),
     )
 
-pub loop-turn-preserved : goal.loop-turn-preserved
-loop-turn-preserved g c =
+pub loop-step-preserved : goal.loop-step-preserved
+loop-step-preserved g c =
     let few : g.C.Case.case.seats ≡ c.args.setting.now.seats = ap (λ (x : BoardCase). x.seats) c.requires.case in
-    let many = c.loop-turn.invariant.many in
-    let all = c.loop-turn.invariant.seats.all in record {
-      seats = seats_set c.in_ok-board.board g.C.Case.case.seats c.loop-turn.seats.items c.below-at.result c.index_mut.result.now c.turn.new.seat c.loop-turn.invariant.seats (omega arith) c.index_mut.ensures.value c.turn.ensures.seat;
-      many = length-set c.loop-turn.hands.items c.below-at.result c.turn.new.hand ∙ many;
-      hands = hold_set g.C.Case.case.leaves c.loop-turn.seats.items c.loop-turn.hands.items c.below-at.result c.turn.new.seat c.turn.new.hand c.loop-turn.invariant.hands (omega arith) c.turn.ensures.hand;
+    let many = c.loop-step.invariant.many in
+    let all = c.loop-step.invariant.seats.all in record {
+      seats = seats_set c.in_ok-board.board g.C.Case.case.seats c.loop-step.seats.items c.within-at.result c.index_mut.result.now c.turn.new.seat c.loop-step.invariant.seats (omega arith) c.index_mut.ensures.value c.turn.ensures.seat;
+      many = length-set c.loop-step.hands.items c.within-at.result c.turn.new.hand ∙ many;
+      hands = hold_set g.C.Case.case.leaves c.loop-step.seats.items c.loop-step.hands.items c.within-at.result c.turn.new.seat c.turn.new.hand c.loop-step.invariant.hands (omega arith) c.turn.ensures.hand;
     }
