@@ -1,3 +1,4 @@
+pub mod Arrangements
 pub mod ContentLaws
 pub mod DistinctLaws
 pub mod FitLaws

@@ -13,7 +13,7 @@ use pipeline_language::NumberTerminal;
 use pipeline_meaning::{Itself, NumberWalk};
 use sources::RangeSplit;
 use spliterator::Spliterator;
-use stages::{Max, Min, WrapMul};
+use stages::{Max, Min, Stage, WrapMul};
 use std::alloc::Global;
 use std::thread::Threads;
 use stealing_pool::Gate;
@@ -75,6 +75,26 @@ where
     }
 }
 
+/// The text of a fold's value on a range behind a stage.
+fn staged_value<R, A, H>(
+    rt: &R,
+    alloc: Global,
+    range: RangeSplit,
+    stage: A,
+    fold: Fold,
+    run: &Run<'_, H>,
+) -> Result<String, ValueError>
+where
+    R: Threads + Sync,
+    A: Stage<In = i64, Out = i64> + Drop + Sync,
+    H: Gate + Sync,
+    requires settings { IsLawfulRun run.now.workers run.now.target }
+    requires stage { A.ready stage }
+    ensures { Tells (number_told (fold_terminal fold) (flat_map (A.expand stage) (⟦<RangeSplit as Spliterator>⟧.items range))) result }
+{
+    fold_value(rt, alloc, &of(range).then(stage), fold, run)
+}
+
 /// The text of a fold's value on a range behind a walk. Each small stage is a type of its own here, so that a leaf's loop asks nothing of the
 /// steps.
 pub(crate) fn walk_value<R: Threads + Sync, H: Gate + Sync>(
@@ -88,15 +108,14 @@ pub(crate) fn walk_value<R: Threads + Sync, H: Gate + Sync>(
     requires settings { IsLawfulRun run.now.workers run.now.target }
     ensures { Tells (number_told (fold_terminal fold) (flat_map (walk_images walk) (⟦<RangeSplit as Spliterator>⟧.items range))) result }
 {
-    let range = of(range);
     match walk {
-        NumberWalk::Unchanged => fold_value(rt, alloc, &range, fold, run),
-        NumberWalk::Images(stage) => fold_value(rt, alloc, &range.then(stage), fold, run),
-        NumberWalk::AtLeast(stage) => fold_value(rt, alloc, &range.then(stage), fold, run),
-        NumberWalk::AtMost(stage) => fold_value(rt, alloc, &range.then(stage), fold, run),
-        NumberWalk::Passage(stage) => fold_value(rt, alloc, &range.then(stage), fold, run),
-        NumberWalk::Passages(stage) => fold_value(rt, alloc, &range.then(stage), fold, run),
-        NumberWalk::Remainders(stage) => fold_value(rt, alloc, &range.then(stage), fold, run),
-        NumberWalk::Multiples(stage) => fold_value(rt, alloc, &range.then(stage), fold, run),
+        NumberWalk::Unchanged => fold_value(rt, alloc, &of(range), fold, run),
+        NumberWalk::Images(stage) => staged_value(rt, alloc, range, stage, fold, run),
+        NumberWalk::AtLeast(stage) => staged_value(rt, alloc, range, stage, fold, run),
+        NumberWalk::AtMost(stage) => staged_value(rt, alloc, range, stage, fold, run),
+        NumberWalk::Passage(stage) => staged_value(rt, alloc, range, stage, fold, run),
+        NumberWalk::Passages(stage) => staged_value(rt, alloc, range, stage, fold, run),
+        NumberWalk::Remainders(stage) => staged_value(rt, alloc, range, stage, fold, run),
+        NumberWalk::Multiples(stage) => staged_value(rt, alloc, range, stage, fold, run),
     }
 }

@@ -1,6 +1,7 @@
 //! The value of a pipeline, over the library's streams and pool.
 #![tactic(auto)]
 
+mod arranged;
 mod collected;
 mod distinct_items;
 mod folds;

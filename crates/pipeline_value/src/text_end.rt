@@ -1,18 +1,32 @@
 //! What the terminals make of texts.
 
+ghost use Rattle.std.specs.Prelude.{◌≡◌, List, Ok, bytes_eq, false, option_map};
+ghost use Rattle.collectors.specs.Reductions.{first};
 ghost use Rattle.parallel_streams.specs.Runs.{IsLawfulRun};
+ghost use Rattle.pipeline_meaning.specs.Summaries.{itself};
+ghost use Rattle.pipeline_meaning.specs.Texts.{optional_text};
+ghost use Rattle.pipeline_value.specs.Arrangements.{arranges_texts};
 ghost use Rattle.pipeline_value.specs.Value.{Tells, text_told};
+ghost use Rattle.spliterator.specs.Clones.{ClonesAlike};
 
+use crate::collected::collected;
+use crate::text_groups::text_arrangement;
 use crate::text_maps::{map_value, strict_map_value};
-use crate::text_parts::{Texts, groups_value, pair_value, parts_value};
+use crate::text_parts::arranged_value;
 use crate::told::{ValueError, told};
 use collectors::{Joining, ToList};
-use parallel_streams::{Run, Stream};
+use parallel_streams::{Run, Source, Staged, Stream};
 use pipeline_language::TextTerminal;
-use pipeline_meaning::{SeededHashes, TextCheck};
+use pipeline_meaning::{SeededHashes, Spelled, TextCheck, TextSteps};
+use sources::SliceSplit;
+use spliterator::{OrderedValue, Text};
 use std::alloc::Global;
+use std::hash::Hash;
 use std::thread::Threads;
 use stealing_pool::Gate;
+
+/// The stream of a list's texts through stages.
+pub(crate) type Texts<'s, 'a> = Staged<Source<SliceSplit<'s, &'a str>>, TextSteps<'a>>;
 
 /// The text of a terminal's value on a stream of texts.
 pub(crate) fn text_end<'s, 'a, R: Threads + Sync, H: Gate + Sync>(
@@ -27,10 +41,40 @@ pub(crate) fn text_end<'s, 'a, R: Threads + Sync, H: Gate + Sync>(
     requires stream { ⟦<Texts<'s, 'a> as Stream>⟧.ready stream.now }
     ensures { Tells (text_told terminal.now (⟦<Texts<'s, 'a> as Stream>⟧.value stream.now)) result }
 {
+    match text_arrangement(alloc, hashes, terminal) {
+        Some(arrangement) => arranged_value(rt, alloc, hashes, stream, arrangement, run),
+        None => plain_end(rt, alloc, hashes, stream, terminal, run),
+    }
+}
+
+/// The text of the value of a terminal that arranges nothing, on a stream of texts.
+fn plain_end<T, R, X, H>(
+    rt: &R,
+    alloc: Global,
+    hashes: SeededHashes,
+    stream: &X,
+    terminal: &TextTerminal<'_>,
+    run: &Run<'_, H>,
+) -> Result<String, ValueError>
+where
+    T: Text + OrderedValue + Spelled + Hash + Clone + Copy + Drop + Send + Sync,
+    R: Threads + Sync,
+    X: Stream<Item = T> + Sync,
+    X::Progress: Send + Sync,
+    X::Part: Send,
+    H: Gate + Sync,
+    requires settings { IsLawfulRun run.now.workers run.now.target }
+    requires stream { X.ready stream.now }
+    requires plain { arranges_texts terminal.now ≡ false }
+    requires clones { ClonesAlike T.is_clone T.content }
+    requires spelling { T.spelling ≡ itself }
+    requires same { T.same ≡ bytes_eq }
+    ensures { Tells (text_told terminal.now (X.value stream.now)) result }
+{
     match *terminal {
         TextTerminal::Count => told(alloc, &stream.count(rt, alloc, run)?),
-        TextTerminal::FindFirst => told(alloc, &stream.find_first(rt, alloc, run)?),
-        TextTerminal::ToList => told(alloc, &stream.collect(rt, alloc, run, &ToList::new(alloc))?),
+        TextTerminal::FindFirst => told_first(alloc, &stream.find_first(rt, alloc, run)?),
+        TextTerminal::ToList => collected(rt, alloc, stream, &ToList::new(alloc), run),
         TextTerminal::AllMatch(test) => told(
             alloc,
             &stream.all_match(rt, alloc, run, &TextCheck::of(test))?,
@@ -51,18 +95,18 @@ pub(crate) fn text_end<'s, 'a, R: Threads + Sync, H: Gate + Sync>(
             let joining = Joining::new(alloc, between, front, back);
             Ok(stream.collect(rt, alloc, run, &joining)?)
         }
-        TextTerminal::GroupBy(key, summary) => {
-            groups_value(rt, alloc, hashes, stream, key, summary, run)
-        }
-        TextTerminal::Partition(test, summary) => {
-            parts_value(rt, alloc, hashes, stream, test, summary, run)
-        }
         TextTerminal::ToMap(key, value) => map_value(rt, alloc, hashes, stream, key, value, run),
         TextTerminal::ToMapStrict(key, value) => {
             strict_map_value(rt, alloc, hashes, stream, key, value, run)
         }
-        TextTerminal::Teeing(one, other) => {
-            pair_value(rt, alloc, hashes, stream, one, other, run)
-        }
+        TextTerminal::GroupBy(_, _) | TextTerminal::Partition(_, _) | TextTerminal::Teeing(_, _) =>
+            unreachable!(),
     }
+}
+
+/// The text of a list's first item.
+fn told_first<T: Spelled>(alloc: Global, found: &Option<T>) -> Result<String, ValueError>
+    ensures { (l : List T.Content) → option_map T.content found.now ≡ first l → Tells (Ok (optional_text T.spelling (first l))) result }
+{
+    told(alloc, found)
 }

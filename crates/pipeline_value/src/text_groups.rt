@@ -1,108 +1,56 @@
-//! The collectors of the terminals that part texts, put them under keys, or collect them twice.
+//! The terminals that part texts, put them under keys, or collect them twice, with their collectors.
 
-ghost use Rattle.std.specs.Prelude.{◌≡◌, ℕ, List};
-ghost use Rattle.pipeline_language.specs.declared.pipeline.TextBase.TheVariants as bases;
-ghost use Rattle.pipeline_language.specs.declared.pipeline.TextFunction.TheVariants as keys;
+ghost use Rattle.std.specs.Prelude.{◌≡◌, ℕ, List, IfSome, Ok, is_some, ⊤};
 ghost use Rattle.pipeline_meaning.specs.Functions.{text_holds};
-ghost use Rattle.pipeline_meaning.specs.Summaries.{parts_text, text_base_text, text_groups_text, text_summary_text};
-ghost use Rattle.pipeline_meaning.specs.Texts.{pair_text};
+ghost use Rattle.pipeline_value.specs.Arrangements.{IsReady, arranged_text, arranges_texts};
+ghost use Rattle.pipeline_value.specs.Value.{text_told};
 
-use crate::nested::{paired, parted};
-use collectors::{Collector, Counting, GroupingBy, PartitioningBy, Teeing};
-use pipeline_language::{TextSummary, TextTest};
-use pipeline_meaning::{
-    Both, Itself, SeededHashes, Summarizes, TextCheck, TextLength, TextSummaryCollector, grouped,
-    text_summary,
-};
+use collectors::Collector;
+use pipeline_language::{TextBase, TextFunction, TextSummary, TextTerminal};
+use pipeline_meaning::{SeededHashes, Summarizes, TextCheck, TextSummaryCollector, text_summary};
 use std::alloc::Global;
 
-/// The collector of groups of texts by their lengths.
-pub(crate) type LengthGroups<'a> = GroupingBy<TextLength, TextSummaryCollector<'a>, SeededHashes>;
+/// A terminal that parts texts, puts them under keys, or collects them twice, by tests and collectors.
+#[derive(Drop)]
+pub(crate) enum TextArrangement<P, D> {
+    /// How many texts there are of each key. A group keeps a number, where the groups below keep what is chosen at run time.
+    Counts(TextFunction),
+    Groups(TextFunction, D),
+    /// What is made of the texts that fail a test, and of those that pass.
+    Parts(P, D),
+    Pair(D, D),
+}
 
-/// The collector of groups of equal texts.
-pub(crate) type TextGroups<'a> = GroupingBy<Itself, TextSummaryCollector<'a>, SeededHashes>;
+/// The arrangement of a terminal, by the collectors that its summaries name.
+pub(crate) type NamedArrangement<'a> = TextArrangement<TextCheck<'a>, TextSummaryCollector<'a>>;
 
-/// The collector of how many texts there are of each length. It keeps a number a group, where the groups above keep what is chosen at run time.
-pub(crate) type LengthCounts<'a> = GroupingBy<TextLength, Counting<&'a str>, SeededHashes>;
-
-/// The collector of how often each text comes.
-pub(crate) type TextCounts<'a> = GroupingBy<Itself, Counting<&'a str>, SeededHashes>;
-
-/// The collector of the texts that fail a test and of those that pass.
-pub(crate) type TextParts<'a> = PartitioningBy<TextCheck<'a>, TextSummaryCollector<'a>>;
-
-/// The collector of two results of the same texts.
-pub(crate) type TextPair<'a> = Teeing<TextSummaryCollector<'a>, TextSummaryCollector<'a>, Both>;
-
-/// The groups of texts by their lengths.
-pub(crate) fn length_groups<'a>(
+/// The terminal as an arrangement, if it is one.
+pub(crate) fn text_arrangement<'a>(
     alloc: Global,
     hashes: SeededHashes,
-    summary: TextSummary<'a>,
-) -> LengthGroups<'a>
-    ensures ready { ⟦<LengthGroups<'a> as Collector>⟧.ready result }
-    ensures summary { (l : List (List ℕ)) → ⟦<LengthGroups<'a> as Summarizes>⟧.summary result l ≡ text_groups_text keys.Length (text_summary_text summary.entry) l }
+    terminal: &TextTerminal<'a>,
+) -> Option<NamedArrangement<'a>>
+    ensures ready { IfSome result (IsReady (λ _. ⊤) (λ c. ⟦<TextSummaryCollector<'a> as Collector>⟧.ready c)) }
+    ensures told { IfSome result (λ arranged. (l : List (List ℕ)) → text_told terminal.now l ≡ Ok (arranged_text (λ check. text_holds check.test) (λ c. ⟦<TextSummaryCollector<'a> as Summarizes>⟧.summary c) arranged l)) }
+    ensures known { is_some result ≡ arranges_texts terminal.now }
 {
-    grouped(
-        alloc,
-        TextLength,
-        text_summary(alloc, hashes, summary),
-        hashes,
-    )
-}
-
-/// The groups of equal texts.
-pub(crate) fn text_groups<'a>(
-    alloc: Global,
-    hashes: SeededHashes,
-    summary: TextSummary<'a>,
-) -> TextGroups<'a>
-    ensures ready { ⟦<TextGroups<'a> as Collector>⟧.ready result }
-    ensures summary { (l : List (List ℕ)) → ⟦<TextGroups<'a> as Summarizes>⟧.summary result l ≡ text_groups_text keys.Itself (text_summary_text summary.entry) l }
-{
-    grouped(alloc, Itself, text_summary(alloc, hashes, summary), hashes)
-}
-
-/// How many texts there are of each length.
-pub(crate) fn length_counts<'a>(alloc: Global, hashes: SeededHashes) -> LengthCounts<'a>
-    ensures ready { ⟦<LengthCounts<'a> as Collector>⟧.ready result }
-    ensures summary { (l : List (List ℕ)) → ⟦<LengthCounts<'a> as Summarizes>⟧.summary result l ≡ text_groups_text keys.Length (text_base_text bases.Count) l }
-{
-    grouped(alloc, TextLength, Counting::new(), hashes)
-}
-
-/// How often each text comes.
-pub(crate) fn text_counts<'a>(alloc: Global, hashes: SeededHashes) -> TextCounts<'a>
-    ensures ready { ⟦<TextCounts<'a> as Collector>⟧.ready result }
-    ensures summary { (l : List (List ℕ)) → ⟦<TextCounts<'a> as Summarizes>⟧.summary result l ≡ text_groups_text keys.Itself (text_base_text bases.Count) l }
-{
-    grouped(alloc, Itself, Counting::new(), hashes)
-}
-
-/// The results of the texts that fail a test, and of those that pass.
-pub(crate) fn text_parts<'a>(
-    alloc: Global,
-    hashes: SeededHashes,
-    test: TextTest<'a>,
-    summary: TextSummary<'a>,
-) -> TextParts<'a>
-    ensures ready { ⟦<TextParts<'a> as Collector>⟧.ready result }
-    ensures summary { (l : List (List ℕ)) → ⟦<TextParts<'a> as Summarizes>⟧.summary result l ≡ parts_text (text_holds test.entry) (text_summary_text summary.entry) l }
-{
-    parted(TextCheck::of(test), text_summary(alloc, hashes, summary))
-}
-
-/// Two results of the same texts.
-pub(crate) fn text_pair<'a>(
-    alloc: Global,
-    hashes: SeededHashes,
-    one: TextSummary<'a>,
-    other: TextSummary<'a>,
-) -> TextPair<'a>
-    ensures ready { ⟦<TextPair<'a> as Collector>⟧.ready result }
-    ensures summary { (l : List (List ℕ)) → ⟦<TextPair<'a> as Summarizes>⟧.summary result l ≡ pair_text (text_summary_text one.entry l) (text_summary_text other.entry l) }
-{
-    let first = text_summary(alloc, hashes, one);
-    let second = text_summary(alloc, hashes, other);
-    paired(first, second)
+    match *terminal {
+        TextTerminal::GroupBy(key, TextSummary::Base(TextBase::Count)) => {
+            Some(TextArrangement::Counts(key))
+        }
+        TextTerminal::GroupBy(key, summary) => {
+            let groups = text_summary(alloc, hashes, summary);
+            Some(TextArrangement::Groups(key, groups))
+        }
+        TextTerminal::Partition(test, summary) => {
+            let parts = text_summary(alloc, hashes, summary);
+            Some(TextArrangement::Parts(TextCheck::of(test), parts))
+        }
+        TextTerminal::Teeing(one, other) => {
+            let first = text_summary(alloc, hashes, one);
+            let second = text_summary(alloc, hashes, other);
+            Some(TextArrangement::Pair(first, second))
+        }
+        _ => None,
+    }
 }

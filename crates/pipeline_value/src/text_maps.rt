@@ -1,13 +1,12 @@
 //! The maps whose values are texts or their lengths.
 
-ghost use Rattle.std.specs.Prelude.{◌≡◌, Ok};
+ghost use Rattle.std.specs.Prelude.{◌≡◌, Ok, bytes_eq};
 ghost use Rattle.parallel_streams.specs.Runs.{IsLawfulRun};
 ghost use Rattle.pipeline_meaning.specs.Summaries.{itself};
 ghost use Rattle.pipeline_language.specs.declared.pipeline.TextTerminal.TheVariants as terminals;
 ghost use Rattle.pipeline_value.specs.Value.{Tells, text_map_text, text_strict_told, text_told};
 
 use crate::maps::{merged_value, strict_value};
-use crate::text_parts::Texts;
 use crate::told::ValueError;
 use parallel_streams::{Run, Stream};
 use pipeline_language::{TextFunction, TextValue};
@@ -20,18 +19,27 @@ use std::thread::Threads;
 use stealing_pool::Gate;
 
 /// The text of the map of a stream's keys and values, where values of one key are merged.
-pub(crate) fn map_value<'s, 'a, R: Threads + Sync, H: Gate + Sync>(
+pub(crate) fn map_value<T, R, X, H>(
     rt: &R,
     alloc: Global,
     hashes: SeededHashes,
-    stream: &Texts<'s, 'a>,
+    stream: &X,
     key: TextFunction,
     value: TextValue,
     run: &Run<'_, H>,
 ) -> Result<String, ValueError>
+where
+    T: Text + OrderedValue + Spelled + Hash + Copy + Drop + Send + Sync,
+    R: Threads + Sync,
+    X: Stream<Item = T> + Sync,
+    X::Progress: Send + Sync,
+    X::Part: Send,
+    H: Gate + Sync,
     requires settings { IsLawfulRun run.now.workers run.now.target }
-    requires stream { ⟦<Texts<'s, 'a> as Stream>⟧.ready stream.now }
-    ensures { Tells (text_told (terminals.ToMap key value) (⟦<Texts<'s, 'a> as Stream>⟧.value stream.now)) result }
+    requires stream { X.ready stream.now }
+    requires spelling { T.spelling ≡ itself }
+    requires same { T.same ≡ bytes_eq }
+    ensures { Tells (text_told (terminals.ToMap key value) (X.value stream.now)) result }
 {
     match key {
         TextFunction::Length => text_map(rt, alloc, hashes, stream, TextLength, value, run),
@@ -40,18 +48,27 @@ pub(crate) fn map_value<'s, 'a, R: Threads + Sync, H: Gate + Sync>(
 }
 
 /// The text of the map of a stream's keys and values, or of the first key that comes again.
-pub(crate) fn strict_map_value<'s, 'a, R: Threads + Sync, H: Gate + Sync>(
+pub(crate) fn strict_map_value<T, R, X, H>(
     rt: &R,
     alloc: Global,
     hashes: SeededHashes,
-    stream: &Texts<'s, 'a>,
+    stream: &X,
     key: TextFunction,
     value: TextFunction,
     run: &Run<'_, H>,
 ) -> Result<String, ValueError>
+where
+    T: Text + OrderedValue + Spelled + Hash + Copy + Drop + Send + Sync,
+    R: Threads + Sync,
+    X: Stream<Item = T> + Sync,
+    X::Progress: Send + Sync,
+    X::Part: Send,
+    H: Gate + Sync,
     requires settings { IsLawfulRun run.now.workers run.now.target }
-    requires stream { ⟦<Texts<'s, 'a> as Stream>⟧.ready stream.now }
-    ensures { Tells (text_told (terminals.ToMapStrict key value) (⟦<Texts<'s, 'a> as Stream>⟧.value stream.now)) result }
+    requires stream { X.ready stream.now }
+    requires spelling { T.spelling ≡ itself }
+    requires same { T.same ≡ bytes_eq }
+    ensures { Tells (text_told (terminals.ToMapStrict key value) (X.value stream.now)) result }
 {
     match key {
         TextFunction::Length => text_strict_map(rt, alloc, hashes, stream, TextLength, value, run),

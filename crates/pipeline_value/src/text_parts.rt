@@ -1,126 +1,97 @@
 //! What the terminals make of texts that they part, put under keys, or collect twice.
 
+ghost use Rattle.std.specs.Prelude.{◌≡◌, Ok, bytes_eq, ⊤};
 ghost use Rattle.parallel_streams.specs.Runs.{IsLawfulRun};
-ghost use Rattle.pipeline_language.specs.declared.pipeline.TextFunction.TheVariants as keys;
-ghost use Rattle.pipeline_language.specs.declared.pipeline.TextTerminal.TheVariants as terminals;
-ghost use Rattle.pipeline_value.specs.Value.{Tells, text_told};
+ghost use Rattle.pipeline_meaning.specs.Summaries.{itself, text_groups_text};
+ghost use Rattle.pipeline_value.specs.Arrangements.{IsReady, arranged_text};
+ghost use Rattle.pipeline_value.specs.Value.{Tells};
 
-use crate::collected::collected;
-use crate::text_groups::{
-    length_counts, length_groups, text_counts, text_groups, text_pair, text_parts,
-};
+use crate::arranged::{grouped_value, paired_value, parted_value};
+use crate::text_groups::TextArrangement;
 use crate::told::ValueError;
-use parallel_streams::{Run, Source, Staged, Stream};
-use pipeline_language::{TextBase, TextFunction, TextSummary, TextTest};
-use pipeline_meaning::{SeededHashes, TextSteps};
-use sources::SliceSplit;
+use collectors::{Collector, Counting};
+use parallel_streams::{Run, Stream};
+use pipeline_language::TextFunction;
+use pipeline_meaning::{Itself, SeededHashes, Spelled, Summarizes, TextLength, Written};
+use spliterator::{OrderedValue, Text};
+use stages::Test;
 use std::alloc::Global;
+use std::hash::Hash;
 use std::thread::Threads;
 use stealing_pool::Gate;
 
-/// The stream of a list's texts through stages.
-pub(crate) type Texts<'s, 'a> = Staged<Source<SliceSplit<'s, &'a str>>, TextSteps<'a>>;
-
-/// The text of the groups of a stream's texts by their lengths.
-fn length_groups_value<'s, 'a, R: Threads + Sync, H: Gate + Sync>(
+/// The text of what an arrangement makes of a stream's texts.
+pub(crate) fn arranged_value<T, R, X, P, D, H>(
     rt: &R,
     alloc: Global,
     hashes: SeededHashes,
-    stream: &Texts<'s, 'a>,
-    summary: TextSummary<'a>,
+    stream: &X,
+    arrangement: TextArrangement<P, D>,
     run: &Run<'_, H>,
 ) -> Result<String, ValueError>
+where
+    T: Text + OrderedValue + Spelled + Hash + Copy + Drop + Send + Sync,
+    R: Threads + Sync,
+    X: Stream<Item = T> + Sync,
+    X::Progress: Send + Sync,
+    X::Part: Send,
+    P: Test<T> + Drop + Sync,
+    D: Summarizes + Collector<Item = T> + Drop + Sync,
+    D::Acc: Send,
+    D::Out: Written + Send,
+    H: Gate + Sync,
     requires settings { IsLawfulRun run.now.workers run.now.target }
-    requires stream { ⟦<Texts<'s, 'a> as Stream>⟧.ready stream.now }
-    ensures { Tells (text_told (terminals.GroupBy keys.Length summary.entry) (⟦<Texts<'s, 'a> as Stream>⟧.value stream.now)) result }
+    requires stream { X.ready stream.now }
+    requires arrangement { IsReady P.ready D.ready arrangement }
+    requires spelling { T.spelling ≡ itself }
+    requires same { T.same ≡ bytes_eq }
+    ensures { Tells (Ok (arranged_text P.holds D.summary arrangement (X.value stream.now))) result }
 {
-    match summary {
-        TextSummary::Base(TextBase::Count) => {
-            collected(rt, alloc, stream, &length_counts(alloc, hashes), run)
+    match arrangement {
+        TextArrangement::Counts(key) => {
+            groups_value(rt, alloc, hashes, stream, key, Counting::new(), run)
         }
-        _ => {
-            let groups = length_groups(alloc, hashes, summary);
-            collected(rt, alloc, stream, &groups, run)
+        TextArrangement::Groups(key, summary) => {
+            groups_value(rt, alloc, hashes, stream, key, summary, run)
         }
+        TextArrangement::Parts(test, summary) => {
+            parted_value(rt, alloc, stream, test, summary, run)
+        }
+        TextArrangement::Pair(one, other) => paired_value(rt, alloc, stream, one, other, run),
     }
 }
 
-/// The text of the groups of equal texts of a stream.
-fn text_groups_value<'s, 'a, R: Threads + Sync, H: Gate + Sync>(
+/// The text of what a collector makes of a stream's texts of each key.
+fn groups_value<T, R, X, D, H>(
     rt: &R,
     alloc: Global,
     hashes: SeededHashes,
-    stream: &Texts<'s, 'a>,
-    summary: TextSummary<'a>,
-    run: &Run<'_, H>,
-) -> Result<String, ValueError>
-    requires settings { IsLawfulRun run.now.workers run.now.target }
-    requires stream { ⟦<Texts<'s, 'a> as Stream>⟧.ready stream.now }
-    ensures { Tells (text_told (terminals.GroupBy keys.Itself summary.entry) (⟦<Texts<'s, 'a> as Stream>⟧.value stream.now)) result }
-{
-    match summary {
-        TextSummary::Base(TextBase::Count) => {
-            collected(rt, alloc, stream, &text_counts(alloc, hashes), run)
-        }
-        _ => {
-            let groups = text_groups(alloc, hashes, summary);
-            collected(rt, alloc, stream, &groups, run)
-        }
-    }
-}
-
-/// The text of the groups of a stream's texts by their keys.
-pub(crate) fn groups_value<'s, 'a, R: Threads + Sync, H: Gate + Sync>(
-    rt: &R,
-    alloc: Global,
-    hashes: SeededHashes,
-    stream: &Texts<'s, 'a>,
+    stream: &X,
     key: TextFunction,
-    summary: TextSummary<'a>,
+    downstream: D,
     run: &Run<'_, H>,
 ) -> Result<String, ValueError>
+where
+    T: Text + OrderedValue + Spelled + Hash + Copy + Drop + Send + Sync,
+    R: Threads + Sync,
+    X: Stream<Item = T> + Sync,
+    X::Progress: Send + Sync,
+    X::Part: Send,
+    D: Summarizes + Collector<Item = T> + Drop + Sync,
+    D::Acc: Send,
+    D::Out: Written + Send,
+    H: Gate + Sync,
     requires settings { IsLawfulRun run.now.workers run.now.target }
-    requires stream { ⟦<Texts<'s, 'a> as Stream>⟧.ready stream.now }
-    ensures { Tells (text_told (terminals.GroupBy key summary.entry) (⟦<Texts<'s, 'a> as Stream>⟧.value stream.now)) result }
+    requires stream { X.ready stream.now }
+    requires downstream { D.ready downstream }
+    requires spelling { T.spelling ≡ itself }
+    requires same { T.same ≡ bytes_eq }
+    ensures { Tells (Ok (text_groups_text key (D.summary downstream) (X.value stream.now))) result }
 {
     match key {
-        TextFunction::Length => length_groups_value(rt, alloc, hashes, stream, summary, run),
-        TextFunction::Itself => text_groups_value(rt, alloc, hashes, stream, summary, run),
+        TextFunction::Length => {
+            grouped_value(rt, alloc, hashes, stream, TextLength, downstream, run)
+        }
+        TextFunction::Itself => grouped_value(rt, alloc, hashes, stream, Itself, downstream, run),
     }
-}
-
-/// The text of the results of the texts that fail a test, and of those that pass.
-pub(crate) fn parts_value<'s, 'a, R: Threads + Sync, H: Gate + Sync>(
-    rt: &R,
-    alloc: Global,
-    hashes: SeededHashes,
-    stream: &Texts<'s, 'a>,
-    test: TextTest<'a>,
-    summary: TextSummary<'a>,
-    run: &Run<'_, H>,
-) -> Result<String, ValueError>
-    requires settings { IsLawfulRun run.now.workers run.now.target }
-    requires stream { ⟦<Texts<'s, 'a> as Stream>⟧.ready stream.now }
-    ensures { Tells (text_told (terminals.Partition test.entry summary.entry) (⟦<Texts<'s, 'a> as Stream>⟧.value stream.now)) result }
-{
-    let parts = text_parts(alloc, hashes, test, summary);
-    collected(rt, alloc, stream, &parts, run)
-}
-
-/// The text of two results of a stream's texts.
-pub(crate) fn pair_value<'s, 'a, R: Threads + Sync, H: Gate + Sync>(
-    rt: &R,
-    alloc: Global,
-    hashes: SeededHashes,
-    stream: &Texts<'s, 'a>,
-    one: TextSummary<'a>,
-    other: TextSummary<'a>,
-    run: &Run<'_, H>,
-) -> Result<String, ValueError>
-    requires settings { IsLawfulRun run.now.workers run.now.target }
-    requires stream { ⟦<Texts<'s, 'a> as Stream>⟧.ready stream.now }
-    ensures { Tells (text_told (terminals.Teeing one.entry other.entry) (⟦<Texts<'s, 'a> as Stream>⟧.value stream.now)) result }
-{
-    let pair = text_pair(alloc, hashes, one, other);
-    collected(rt, alloc, stream, &pair, run)
 }

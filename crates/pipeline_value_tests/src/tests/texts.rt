@@ -1,117 +1,63 @@
 //! Every stage over texts, with answers that follow from the language's rules.
 
-ghost use Rattle.parallel_streams.specs.Runs.{IsLawfulRun};
-
-use super::made::{Counts, NumberStages, TextStages, length_answer, text_answer};
-use super::{TARGETS, WORKERS};
-use parallel_streams::Run;
-use pipeline_language::{
-    NumberStage, NumberTerminal, NumberTest, TextStage, TextTerminal, TextTest,
-};
-use std::alloc::Global;
-use std::process::Abort;
-use std::random::RandomSource;
+use super::answers::all_told;
 use std::test::Fail;
-use std::thread::Threads;
 
-const LINES: [&str; 4] = ["a bc", "", "d", "a"];
+const LISTS: [(&str, &str); 7] = [
+    (
+        "lines 4\na bc\n\nd\na\nflatmap words\ntolist",
+        "[a, bc, , d, a]",
+    ),
+    (
+        "lines 4\na bc\n\nd\na\nflatmap words\ndistinct\nmap self\ntolist",
+        "[a, bc, , d]",
+    ),
+    (
+        "lines 4\na bc\n\nd\na\nflatmap words\ndistinct\nmap self\nskip 1\nflatmap repeat 2\ntolist",
+        "[bc, bc, , , d, d]",
+    ),
+    (
+        "lines 4\na bc\n\nd\na\nflatmap words\ndistinct\nmap self\nskip 1\nflatmap repeat 2\n\
+         limit 5\ntolist",
+        "[bc, bc, , , d]",
+    ),
+    (
+        "lines 4\na bc\n\nd\na\nflatmap words\ndistinct\nmap self\nskip 1\nflatmap repeat 2\n\
+         limit 5\ntakewhile longer 0\ntolist",
+        "[bc, bc]",
+    ),
+    (
+        "lines 4\na bc\n\nd\na\ndropwhile starts a\ntolist",
+        "[, d, a]",
+    ),
+    (
+        "lines 4\na bc\n\nd\na\ndropwhile starts a\nfilter empty\ncount",
+        "1",
+    ),
+];
 
-fn lists<R: Threads + RandomSource + Abort + Alloc<A = Global> + Sync>(
-    rt: &R,
-    run: &Run<'_, Counts>,
-) -> Result<(), Fail>
-    requires settings { IsLawfulRun run.now.workers run.now.target }
-{
-    let alloc = rt.alloc();
-    let list = TextTerminal::ToList;
-    let words = TextStages::none(alloc).and(TextStage::Words)?;
-    text_answer(rt, run, &LINES, &words, list, "[a, bc, , d, a]")?;
-    let apart = words.and(TextStage::Distinct)?.and(TextStage::MapItself)?;
-    text_answer(rt, run, &LINES, &apart, list, "[a, bc, , d]")?;
-    let twice = apart.and(TextStage::Skip(1))?.and(TextStage::Repeat(2))?;
-    text_answer(rt, run, &LINES, &twice, list, "[bc, bc, , , d, d]")?;
-    let five = twice.and(TextStage::Limit(5))?;
-    text_answer(rt, run, &LINES, &five, list, "[bc, bc, , , d]")?;
-    let front = five.and(TextStage::TakeWhile(TextTest::Longer(0)))?;
-    text_answer(rt, run, &LINES, &front, list, "[bc, bc]")?;
-    let rest = TextStages::none(alloc).and(TextStage::DropWhile(TextTest::Starts("a")))?;
-    text_answer(rt, run, &LINES, &rest, list, "[, d, a]")?;
-    let empty = rest.and(TextStage::Filter(TextTest::Empty))?;
-    text_answer(rt, run, &LINES, &empty, TextTerminal::Count, "1")?;
-    Ok(())
-}
+const ENDS: [(&str, &str); 6] = [
+    ("lines 4\na bc\n\nd\na\nfindfirst", "Optional[a bc]"),
+    ("lines 4\na bc\n\nd\na\njoining ,", "a bc,,d,a"),
+    ("lines 4\na bc\n\nd\na\njoining , < >", "<a bc,,d,a>"),
+    ("lines 4\na bc\n\nd\na\nallmatch longer 0", "false"),
+    ("lines 4\na bc\n\nd\na\nanymatch empty", "true"),
+    ("lines 4\na bc\n\nd\na\nnonematch starts d", "false"),
+];
 
-fn ends<R: Threads + RandomSource + Abort + Alloc<A = Global> + Sync>(
-    rt: &R,
-    run: &Run<'_, Counts>,
-) -> Result<(), Fail>
-    requires settings { IsLawfulRun run.now.workers run.now.target }
-{
-    let all = TextStages::none(rt.alloc());
-    let first = TextTerminal::FindFirst;
-    text_answer(rt, run, &LINES, &all, first, "Optional[a bc]")?;
-    let joined = TextTerminal::Joining(",");
-    text_answer(rt, run, &LINES, &all, joined, "a bc,,d,a")?;
-    let within = TextTerminal::JoiningWithin(",", "<", ">");
-    text_answer(rt, run, &LINES, &all, within, "<a bc,,d,a>")?;
-    let long = TextTerminal::AllMatch(TextTest::Longer(0));
-    text_answer(rt, run, &LINES, &all, long, "false")?;
-    let empty = TextTerminal::AnyMatch(TextTest::Empty);
-    text_answer(rt, run, &LINES, &all, empty, "true")?;
-    let no_d = TextTerminal::NoneMatch(TextTest::Starts("d"));
-    text_answer(rt, run, &LINES, &all, no_d, "false")?;
-    Ok(())
-}
-
-fn lengths<R: Threads + RandomSource + Abort + Alloc<A = Global> + Sync>(
-    rt: &R,
-    run: &Run<'_, Counts>,
-) -> Result<(), Fail>
-    requires settings { IsLawfulRun run.now.workers run.now.target }
-{
-    let all = TextStages::none(rt.alloc());
-    let each = NumberStages::none(rt.alloc());
-    let list = NumberTerminal::ToList;
-    length_answer(rt, run, &LINES, (&all, &each), list, "[4, 0, 1, 1]")?;
-    length_answer(rt, run, &["é"], (&all, &each), NumberTerminal::Sum, "2")?;
-    let some = each
-        .and(NumberStage::Filter(NumberTest::Greater(0)))?
-        .and(NumberStage::Skip(1))?;
-    length_answer(rt, run, &LINES, (&all, &some), NumberTerminal::Count, "2")?;
-    Ok(())
-}
+const LENGTHS: [(&str, &str); 3] = [
+    ("lines 4\na bc\n\nd\na\nmap length\ntolist", "[4, 0, 1, 1]"),
+    ("lines 1\né\nmap length\nsum", "2"),
+    (
+        "lines 4\na bc\n\nd\na\nmap length\nfilter greater 0\nskip 1\ncount",
+        "2",
+    ),
+];
 
 #[test]
-fn stages_over_texts_follow_one_another(rt: HostRuntime) -> Result<(), Fail> {
-    let gate = Counts::new();
-    for target in TARGETS {
-        for workers in WORKERS {
-            assert!(rt; workers >= 1 && workers <= 64 && target <= 1);
-            let run = Run {
-                workers,
-                target,
-                gate: &gate,
-            };
-            lists(&rt, &run)?;
-        }
-    }
-    Ok(())
-}
-
-#[test]
-fn terminals_end_pipelines_of_texts(rt: HostRuntime) -> Result<(), Fail> {
-    let gate = Counts::new();
-    for target in TARGETS {
-        for workers in WORKERS {
-            assert!(rt; workers >= 1 && workers <= 64 && target <= 1);
-            let run = Run {
-                workers,
-                target,
-                gate: &gate,
-            };
-            ends(&rt, &run)?;
-            lengths(&rt, &run)?;
-        }
+fn stages_and_terminals_over_texts_follow_one_another(rt: HostRuntime) -> Result<(), Fail> {
+    for rows in [LISTS.as_slice(), ENDS.as_slice(), LENGTHS.as_slice()] {
+        all_told(&rt, rt.alloc(), rows)?;
     }
     Ok(())
 }

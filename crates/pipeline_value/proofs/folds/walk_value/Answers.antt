@@ -7,16 +7,14 @@ use Rattle.pipeline_value.proofs.folds.walk_value.Goals as goal
 pub returns-in-Unchanged : goal.returns-in-Unchanged
 returns-in-Unchanged g c =
     unchanged-told (fold_terminal c.args.fold) c.args.walk (integers c.args.range.next c.args.range.left) c.fold_value.result c.in-Unchanged.is
-    (rw c.of-range.ensures at c.fold_value.ensures)
+    (rw c.of.ensures at c.fold_value.ensures)
 
 pub returns-in-Remainders : goal.returns-in-Remainders
 returns-in-Remainders g c =
     walk-told (fold_terminal c.args.fold) c.args.walk (walks.Remainders c.in-Remainders.stage) (integers c.args.range.next c.args.range.left)
-    c.fold_value-in-Remainders.result c.in-Remainders.is
-    (rw (c.then-in-Remainders.ensures.upstream, c.of-range.ensures, c.then-in-Remainders.ensures.stage) at c.fold_value-in-Remainders.ensures)
+    c.staged_value-in-Remainders.result c.in-Remainders.is c.staged_value-in-Remainders.ensures
 
 pub returns-in-Multiples : goal.returns-in-Multiples
 returns-in-Multiples g c =
     walk-told (fold_terminal c.args.fold) c.args.walk (walks.Multiples c.in-Multiples.stage) (integers c.args.range.next c.args.range.left)
-    c.fold_value-in-Multiples.result c.in-Multiples.is
-    (rw (c.then-in-Multiples.ensures.upstream, c.of-range.ensures, c.then-in-Multiples.ensures.stage) at c.fold_value-in-Multiples.ensures)
+    c.staged_value-in-Multiples.result c.in-Multiples.is c.staged_value-in-Multiples.ensures

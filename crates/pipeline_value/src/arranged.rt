@@ -1,0 +1,110 @@
+//! Groups, parts and pairs of a stream's items, told by their texts.
+
+ghost use Rattle.std.specs.Prelude.{Ok};
+ghost use Rattle.parallel_streams.specs.Runs.{IsLawfulRun};
+ghost use Rattle.pipeline_meaning.specs.Summaries.{groups_text, parts_text};
+ghost use Rattle.pipeline_meaning.specs.Texts.{pair_text};
+ghost use Rattle.pipeline_value.specs.Value.{Tells};
+
+use crate::collected::collected;
+use crate::nested::{paired, parted};
+use crate::told::ValueError;
+use collectors::Collector;
+use parallel_streams::{Run, Stream};
+use pipeline_meaning::{SeededHashes, Spelled, Summarizes, Written, grouped};
+use stages::{Mapping, Test};
+use std::alloc::Global;
+use std::hash::Hash;
+use std::thread::Threads;
+use stealing_pool::Gate;
+
+/// The text of what a collector makes of a stream's items of each key.
+pub(crate) fn grouped_value<R, X, K, D, H>(
+    rt: &R,
+    alloc: Global,
+    hashes: SeededHashes,
+    stream: &X,
+    key: K,
+    downstream: D,
+    run: &Run<'_, H>,
+) -> Result<String, ValueError>
+where
+    R: Threads + Sync,
+    X: Stream + Sync,
+    X::Item: Send + Sync,
+    X::Progress: Send + Sync,
+    X::Part: Send,
+    K: Mapping<X::Item> + Drop + Sync,
+    K::Out: Spelled + Hash + Drop + Send,
+    D: Summarizes + Collector<Item = X::Item> + Drop + Sync,
+    D::Acc: Send,
+    D::Out: Written + Send,
+    H: Gate + Sync,
+    requires settings { IsLawfulRun run.now.workers run.now.target }
+    requires stream { X.ready stream.now }
+    requires key { K.ready key }
+    requires downstream { D.ready downstream }
+    ensures { Tells (Ok (groups_text K.Out.spelling K.Out.same (K.image key) (D.summary downstream) (X.value stream.now))) result }
+{
+    let groups = grouped(alloc, key, downstream, hashes);
+    collected(rt, alloc, stream, &groups, run)
+}
+
+/// The text of what a collector makes of a stream's items that fail a test, and of those that pass.
+pub(crate) fn parted_value<R, X, P, D, H>(
+    rt: &R,
+    alloc: Global,
+    stream: &X,
+    test: P,
+    downstream: D,
+    run: &Run<'_, H>,
+) -> Result<String, ValueError>
+where
+    R: Threads + Sync,
+    X: Stream + Sync,
+    X::Item: Send + Sync,
+    X::Progress: Send + Sync,
+    X::Part: Send,
+    P: Test<X::Item> + Drop + Sync,
+    D: Summarizes + Collector<Item = X::Item> + Drop + Sync,
+    D::Acc: Send,
+    D::Out: Written + Send,
+    H: Gate + Sync,
+    requires settings { IsLawfulRun run.now.workers run.now.target }
+    requires stream { X.ready stream.now }
+    requires test { P.ready test }
+    requires downstream { D.ready downstream }
+    ensures { Tells (Ok (parts_text (P.holds test) (D.summary downstream) (X.value stream.now))) result }
+{
+    let parts = parted(test, downstream);
+    collected(rt, alloc, stream, &parts, run)
+}
+
+/// The text of what two collectors make of a stream's items.
+pub(crate) fn paired_value<R, X, D, H>(
+    rt: &R,
+    alloc: Global,
+    stream: &X,
+    first: D,
+    second: D,
+    run: &Run<'_, H>,
+) -> Result<String, ValueError>
+where
+    R: Threads + Sync,
+    X: Stream + Sync,
+    X::Item: Send + Sync,
+    X::Progress: Send + Sync,
+    X::Part: Send,
+    D: Summarizes + Collector<Item = X::Item> + Drop + Sync,
+    D::Acc: Send,
+    D::Out: Written + Send,
+    H: Gate + Sync,
+    requires settings { IsLawfulRun run.now.workers run.now.target }
+    requires stream { X.ready stream.now }
+    requires first { D.ready first }
+    requires second { D.ready second }
+    ensures { Tells (Ok (pair_text (D.summary first (X.value stream.now)) (D.summary second (X.value stream.now)))) result }
+{
+    let pair = paired(first, second);
+    collected(rt, alloc, stream, &pair, run)
+}
