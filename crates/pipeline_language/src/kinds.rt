@@ -5,7 +5,9 @@ ghost use Rattle.pipeline_language.specs.Content.{number_base, number_function, 
 ghost use Rattle.pipeline_language.specs.Kinds.{Takes, number_line_content, text_line_content, text_value_content, value_takes};
 ghost use Rattle.pipeline_language.specs.LineContent.{base_content, body_line_content, condition_content, function_content, inner_content, merge_content, stage_content, summary_content, terminal_content};
 ghost use Rattle.pipeline_language.specs.declared.syntax.BodyLine.TheVariants as body_lines;
-ghost use Rattle.pipeline_language.specs.Syntax.{NumberKind, TextKind, base_takes, body_takes, condition_takes, function_takes, inner_takes, merge_takes, stage_takes, summary_takes, terminal_takes};
+ghost use Rattle.pipeline_language.specs.Reading.{ReadAs, fitting};
+ghost use Rattle.pipeline_language.specs.declared.version.Version.{Version};
+ghost use Rattle.pipeline_language.specs.Syntax.{NumberKind, TextKind, base_takes, bodies, body_takes, condition_takes, function_takes, inner_takes, merge_takes, stage_takes, summary_takes, terminal_takes};
 
 use crate::fault::FileError;
 use crate::pipeline::{
@@ -13,19 +15,20 @@ use crate::pipeline::{
     NumberTerminal, NumberTest, TextBase, TextFunction, TextInner, TextMerge, TextStage,
     TextSummary, TextTerminal, TextTest, TextValue,
 };
+use crate::reading::MOST_STAGES;
 use crate::syntax::{
     Base, BodyLine, Condition, Expansion, Function, Inner, Joint, Merge, Stage, Summary, Terminal,
 };
 
 /// A line over numbers.
-#[derive(Debug, Drop)]
+#[derive(Drop)]
 pub(crate) enum NumberLine {
     Stage(NumberStage),
     Terminal(NumberTerminal),
 }
 
 /// A line over texts.
-#[derive(Debug, Drop)]
+#[derive(Drop)]
 pub(crate) enum TextLine<'a> {
     Stage(TextStage<'a>),
     /// `map length`.
@@ -33,20 +36,36 @@ pub(crate) enum TextLine<'a> {
     Terminal(TextTerminal<'a>),
 }
 
-pub(crate) fn number_line(line: BodyLine<'_>) -> Result<NumberLine, FileError>
-    ensures { Takes number_line_content (body_takes NumberKind) (body_line_content line.entry) result }
+/// A line over numbers, with so many stages before it.
+pub(crate) fn number_line(line: BodyLine<'_>, before: usize) -> Result<NumberLine, FileError>
+    ensures { (version : Version) → ReadAs number_line_content (fitting (bodies (record { version = version; kind = NumberKind; stages = before })) (body_line_content line.entry)) result }
 {
     match line {
-        BodyLine::Stage(stage) => Ok(NumberLine::Stage(over_numbers(stage)?)),
+        BodyLine::Stage(stage) => {
+            let stage = over_numbers(stage)?;
+            if before < MOST_STAGES {
+                Ok(NumberLine::Stage(stage))
+            } else {
+                Err(FileError::TooManyStages)
+            }
+        }
         BodyLine::Terminal(terminal) => Ok(NumberLine::Terminal(of_numbers(terminal)?)),
     }
 }
 
-pub(crate) fn text_line(line: BodyLine<'_>) -> Result<TextLine<'_>, FileError>
-    ensures { Takes text_line_content (body_takes TextKind) (body_line_content line.entry) result }
+/// A line over texts, with so many stages before it.
+pub(crate) fn text_line(line: BodyLine<'_>, before: usize) -> Result<TextLine<'_>, FileError>
+    ensures { (version : Version) → ReadAs text_line_content (fitting (bodies (record { version = version; kind = TextKind; stages = before })) (body_line_content line.entry)) result }
 {
     match line {
-        BodyLine::Stage(stage) => over_texts(stage),
+        BodyLine::Stage(stage) => {
+            let line = over_texts(stage)?;
+            if before < MOST_STAGES {
+                Ok(line)
+            } else {
+                Err(FileError::TooManyStages)
+            }
+        }
         BodyLine::Terminal(terminal) => Ok(TextLine::Terminal(of_texts(terminal)?)),
     }
 }

@@ -7,7 +7,7 @@ ghost use Rattle.pipeline_language.specs.FileReading.{IfFault, LineGets, LineRea
 ghost use Rattle.pipeline_language.specs.Kinds.{number_line_content, text_line_content, source_content};
 ghost use Rattle.pipeline_language.specs.Language.{HasFault, Means};
 ghost use Rattle.pipeline_language.specs.Pieces.{piece_bytes};
-ghost use Rattle.pipeline_language.specs.Reading.{line_of};
+ghost use Rattle.pipeline_language.specs.Reading.{ReadAs, form_of, line_of};
 ghost use Rattle.pipeline_language.specs.Syntax.{NumberKind, Program, TextKind, bodies, origins};
 ghost use Rattle.pipeline_language.specs.SyntaxReading.{body_of, origin_words};
 ghost use Rattle.pipeline_language.specs.Words.{lines_of};
@@ -16,7 +16,7 @@ use crate::fault::{FileError, FileFault, LineError, ReadError};
 use crate::kinds::{NumberLine, TextLine, number_line, text_line};
 use crate::lines::{Lines, Piece, first_of_text, words};
 use crate::pipeline::{NumberBody, NumberSource, Pipeline, TextBody, TextEnd};
-use crate::syntax::read_body;
+use crate::syntax::read_line;
 use crate::version::Version;
 use crate::words::Words;
 use std::alloc::Global;
@@ -60,7 +60,7 @@ fn read_bytes(alloc: Global, file: &[u8]) -> Result<Pipeline<'_>, ReadError>
 }
 
 /// Where items come from: numbers of their own, or so many lines.
-#[derive(Debug, Drop)]
+#[derive(Drop)]
 pub(crate) enum Source {
     Numbers(NumberSource),
     Lines(u64),
@@ -312,7 +312,7 @@ fn read_number_first(
 }
 
 /// A line over texts with so many stages before it.
-#[tactic(auto, unfolding(crate::specs::Reading::line_of, crate::specs::Reading::whole))]
+#[tactic(auto, unfolding(crate::specs::Reading::line_of))]
 fn read_text_line<'a>(
     alloc: Global,
     version: Version,
@@ -322,18 +322,22 @@ fn read_text_line<'a>(
     ensures { LineReads text_line_content result (line_of (bodies (record { version = version; kind = TextKind; stages = before })) (body_of version) (piece_bytes line.entry)) }
 {
     let all = words(alloc, line.text()?)?;
-    let mut words = Words::new(all.as_slice());
-    let body = read_body(version, &mut words)?;
-    words.end()?;
-    match text_line(body)? {
-        TextLine::Terminal(terminal) => Ok(TextLine::Terminal(terminal)),
-        _ if before >= MOST_STAGES => Err(LineError::Fault(FileError::TooManyStages)),
-        body => Ok(body),
-    }
+    Ok(read_text_words(version, all.as_slice(), before)?)
+}
+
+/// All the words of such a line.
+fn read_text_words<'a>(
+    version: Version,
+    line: &[&'a str],
+    before: usize,
+) -> Result<TextLine<'a>, FileError>
+    ensures { ReadAs text_line_content (form_of (bodies (record { version = version; kind = TextKind; stages = before })) (body_of version) (map (λ word. word.now) line.now)) result }
+{
+    text_line(read_line(version, line)?, before)
 }
 
 /// The same over numbers.
-#[tactic(auto, unfolding(crate::specs::Reading::line_of, crate::specs::Reading::whole))]
+#[tactic(auto, unfolding(crate::specs::Reading::line_of))]
 fn read_number_line(
     alloc: Global,
     version: Version,
@@ -343,15 +347,18 @@ fn read_number_line(
     ensures { LineReads number_line_content result (line_of (bodies (record { version = version; kind = NumberKind; stages = before })) (body_of version) (piece_bytes line.entry)) }
 {
     let all = words(alloc, line.text()?)?;
-    let mut words = Words::new(all.as_slice());
-    let body = read_body(version, &mut words)?;
-    words.end()?;
-    match number_line(body)? {
-        NumberLine::Stage(_) if before >= MOST_STAGES => Err(LineError::Fault(
-            FileError::TooManyStages,
-        )),
-        body => Ok(body),
-    }
+    Ok(read_number_words(version, all.as_slice(), before)?)
+}
+
+/// All the words of such a line.
+fn read_number_words(
+    version: Version,
+    line: &[&str],
+    before: usize,
+) -> Result<NumberLine, FileError>
+    ensures { ReadAs number_line_content (form_of (bodies (record { version = version; kind = NumberKind; stages = before })) (body_of version) (map (λ word. word.now) line.now)) result }
+{
+    number_line(read_line(version, line)?, before)
 }
 
 /// No line follows the terminal line; the first that does would have the number.
