@@ -137,6 +137,10 @@ fitting forms x = if forms.takes_kind x then (if forms.in_limits x then Ok x els
 abbrev pub form_of : {X : Type 0} → Forms X → Reader X → List (List ℕ) → Result X FileError
 form_of forms read words = whole read words >>= fitting forms
 
+-- the words of a line, which is a text
+unfoldable pub line_words : List ℕ → Result (List (List ℕ)) FileError
+line_words line = if is_utf8 line then Ok (words_of line) else Err BadText
+
 -- a line
 unfoldable pub line_of : {X : Type 0} → Forms X → Reader X → List ℕ → Result X FileError
 line_of forms read line = if is_utf8 line then form_of forms read (words_of line) else Err BadText

@@ -21,14 +21,14 @@ use crate::syntax::{
 };
 
 /// A line over numbers.
-#[derive(Drop)]
+#[derive(Clone, Copy)]
 pub(crate) enum NumberLine {
     Stage(NumberStage),
     Terminal(NumberTerminal),
 }
 
 /// A line over texts.
-#[derive(Drop)]
+#[derive(Clone, Copy)]
 pub(crate) enum TextLine<'a> {
     Stage(TextStage<'a>),
     /// `map length`.
@@ -42,14 +42,16 @@ pub(crate) fn number_line(line: BodyLine<'_>, before: usize) -> Result<NumberLin
 {
     match line {
         BodyLine::Stage(stage) => {
-            let stage = over_numbers(stage)?;
-            if before < MOST_STAGES {
-                Ok(NumberLine::Stage(stage))
-            } else {
-                Err(FileError::TooManyStages)
+            match over_numbers(stage) {
+                Ok(_) if before >= MOST_STAGES => Err(FileError::TooManyStages),
+                Ok(stage) => Ok(NumberLine::Stage(stage)),
+                Err(e) => Err(e),
             }
         }
-        BodyLine::Terminal(terminal) => Ok(NumberLine::Terminal(of_numbers(terminal)?)),
+        BodyLine::Terminal(terminal) => match of_numbers(terminal) {
+            Ok(terminal) => Ok(NumberLine::Terminal(terminal)),
+            Err(e) => Err(e),
+        },
     }
 }
 
@@ -59,14 +61,15 @@ pub(crate) fn text_line(line: BodyLine<'_>, before: usize) -> Result<TextLine<'_
 {
     match line {
         BodyLine::Stage(stage) => {
-            let line = over_texts(stage)?;
-            if before < MOST_STAGES {
-                Ok(line)
-            } else {
-                Err(FileError::TooManyStages)
+            match over_texts(stage) {
+                Ok(_) if before >= MOST_STAGES => Err(FileError::TooManyStages),
+                line => line,
             }
         }
-        BodyLine::Terminal(terminal) => Ok(TextLine::Terminal(of_texts(terminal)?)),
+        BodyLine::Terminal(terminal) => match of_texts(terminal) {
+            Ok(terminal) => Ok(TextLine::Terminal(terminal)),
+            Err(e) => Err(e),
+        },
     }
 }
 
@@ -165,14 +168,14 @@ fn of_texts(terminal: Terminal<'_>) -> Result<TextTerminal<'_>, FileError>
         Terminal::Joining(Joint::Within(between, front, back)) => Ok(TextTerminal::JoiningWithin(
             between, front, back,
         )),
-        Terminal::GroupBy(key, collector) => Ok(TextTerminal::GroupBy(
-            text_function(key)?,
-            text_summary(collector)?,
-        )),
-        Terminal::Partition(test, collector) => Ok(TextTerminal::Partition(
-            text_test(test)?,
-            text_summary(collector)?,
-        )),
+        Terminal::GroupBy(key, collector) => match (text_function(key), text_summary(collector)) {
+            (Ok(key), Ok(collector)) => Ok(TextTerminal::GroupBy(key, collector)),
+            _ => Err(FileError::WrongKind),
+        },
+        Terminal::Partition(test, collector) => match (text_test(test), text_summary(collector)) {
+            (Ok(test), Ok(collector)) => Ok(TextTerminal::Partition(test, collector)),
+            _ => Err(FileError::WrongKind),
+        },
         Terminal::ToMap(key, value, merge) => Ok(TextTerminal::ToMap(
             text_function(key)?,
             text_value(value, merge)?,
@@ -180,10 +183,10 @@ fn of_texts(terminal: Terminal<'_>) -> Result<TextTerminal<'_>, FileError>
         Terminal::ToMapStrict(key, value) => {
             Ok(TextTerminal::ToMapStrict(text_function(key)?, text_function(value)?))
         }
-        Terminal::Teeing(one, other) => Ok(TextTerminal::Teeing(
-            text_summary(one)?,
-            text_summary(other)?,
-        )),
+        Terminal::Teeing(one, other) => match (text_summary(one), text_summary(other)) {
+            (Ok(one), Ok(other)) => Ok(TextTerminal::Teeing(one, other)),
+            _ => Err(FileError::WrongKind),
+        },
     }
 }
 

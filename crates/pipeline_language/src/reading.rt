@@ -7,7 +7,7 @@ ghost use Rattle.pipeline_language.specs.FileReading.{IfFault, LineGets, LineRea
 ghost use Rattle.pipeline_language.specs.Kinds.{number_line_content, text_line_content, source_content};
 ghost use Rattle.pipeline_language.specs.Language.{HasFault, Means};
 ghost use Rattle.pipeline_language.specs.Pieces.{piece_bytes};
-ghost use Rattle.pipeline_language.specs.Reading.{ReadAs, form_of, line_of};
+ghost use Rattle.pipeline_language.specs.Reading.{ReadAs, form_of, line_of, line_words};
 ghost use Rattle.pipeline_language.specs.Syntax.{NumberKind, Program, TextKind, bodies, origins};
 ghost use Rattle.pipeline_language.specs.SyntaxReading.{body_of, origin_words};
 ghost use Rattle.pipeline_language.specs.Words.{lines_of};
@@ -105,11 +105,11 @@ fn read_version(line: Piece<'_>) -> Result<Version, FileError>
 }
 
 /// A source line.
-#[tactic(auto, unfolding(crate::specs::Reading::line_of, crate::specs::Reading::whole))]
+#[tactic(auto, unfolding(crate::specs::Reading::line_of, crate::specs::Reading::line_words, crate::specs::Reading::whole))]
 fn read_source(alloc: Global, line: Piece<'_>) -> Result<Source, LineError>
     ensures { LineReads source_content result (line_of origins origin_words (piece_bytes line.entry)) }
 {
-    let all = words(alloc, line.text()?)?;
+    let all = line_words(alloc, line)?;
     let mut words = Words::new(all.as_slice());
     let source = read_source_words(alloc, &mut words)?;
     words.end()?;
@@ -119,6 +119,14 @@ fn read_source(alloc: Global, line: Piece<'_>) -> Result<Source, LineError>
         }
         source => Ok(source),
     }
+}
+
+/// The words of a line, which is a text.
+#[tactic(auto, unfolding(crate::specs::Reading::line_words))]
+fn line_words<'a>(alloc: Global, line: Piece<'a>) -> Result<Vec<&'a str>, LineError>
+    ensures { LineReads (λ words. map (λ word. word.now) words.items) result (line_words (piece_bytes line.entry)) }
+{
+    Ok(words(alloc, line.text()?)?)
 }
 
 /// The words of a source.
@@ -280,11 +288,14 @@ fn read_text_first<'a>(
     let Some(line) = lines.next() else {
         return Err(LineError::Fault(FileError::MissingTerminal).at(number));
     };
-    let body = read_text_line(alloc, version, line, before).map_err(|e| e.at(number))?;
-    if let TextLine::Terminal(_) = body {
-        no_more(lines, number + 1)?;
+    match read_text_line(alloc, version, line, before) {
+        Ok(TextLine::Terminal(terminal)) => {
+            no_more(lines, number + 1)?;
+            Ok(TextLine::Terminal(terminal))
+        }
+        Ok(line) => Ok(line),
+        Err(e) => Err(e.at(number)),
     }
-    Ok(body)
 }
 
 /// The same over numbers.
@@ -304,15 +315,18 @@ fn read_number_first(
     let Some(line) = lines.next() else {
         return Err(LineError::Fault(FileError::MissingTerminal).at(number));
     };
-    let body = read_number_line(alloc, version, line, before).map_err(|e| e.at(number))?;
-    if let NumberLine::Terminal(_) = body {
-        no_more(lines, number + 1)?;
+    match read_number_line(alloc, version, line, before) {
+        Ok(NumberLine::Terminal(terminal)) => {
+            no_more(lines, number + 1)?;
+            Ok(NumberLine::Terminal(terminal))
+        }
+        Ok(line) => Ok(line),
+        Err(e) => Err(e.at(number)),
     }
-    Ok(body)
 }
 
 /// A line over texts with so many stages before it.
-#[tactic(auto, unfolding(crate::specs::Reading::line_of))]
+#[tactic(auto, unfolding(crate::specs::Reading::line_of, crate::specs::Reading::line_words))]
 fn read_text_line<'a>(
     alloc: Global,
     version: Version,
@@ -321,8 +335,8 @@ fn read_text_line<'a>(
 ) -> Result<TextLine<'a>, LineError>
     ensures { LineReads text_line_content result (line_of (bodies (record { version = version; kind = TextKind; stages = before })) (body_of version) (piece_bytes line.entry)) }
 {
-    let all = words(alloc, line.text()?)?;
-    Ok(read_text_words(version, all.as_slice(), before)?)
+    let all = line_words(alloc, line)?;
+    read_text_words(version, all.as_slice(), before).map_err(LineError::Fault)
 }
 
 /// All the words of such a line.
@@ -333,11 +347,14 @@ fn read_text_words<'a>(
 ) -> Result<TextLine<'a>, FileError>
     ensures { ReadAs text_line_content (form_of (bodies (record { version = version; kind = TextKind; stages = before })) (body_of version) (map (λ word. word.now) line.now)) result }
 {
-    text_line(read_line(version, line)?, before)
+    match read_line(version, line) {
+        Ok(line) => text_line(line, before),
+        Err(e) => Err(e),
+    }
 }
 
 /// The same over numbers.
-#[tactic(auto, unfolding(crate::specs::Reading::line_of))]
+#[tactic(auto, unfolding(crate::specs::Reading::line_of, crate::specs::Reading::line_words))]
 fn read_number_line(
     alloc: Global,
     version: Version,
@@ -346,8 +363,8 @@ fn read_number_line(
 ) -> Result<NumberLine, LineError>
     ensures { LineReads number_line_content result (line_of (bodies (record { version = version; kind = NumberKind; stages = before })) (body_of version) (piece_bytes line.entry)) }
 {
-    let all = words(alloc, line.text()?)?;
-    Ok(read_number_words(version, all.as_slice(), before)?)
+    let all = line_words(alloc, line)?;
+    read_number_words(version, all.as_slice(), before).map_err(LineError::Fault)
 }
 
 /// All the words of such a line.
@@ -358,7 +375,10 @@ fn read_number_words(
 ) -> Result<NumberLine, FileError>
     ensures { ReadAs number_line_content (form_of (bodies (record { version = version; kind = NumberKind; stages = before })) (body_of version) (map (λ word. word.now) line.now)) result }
 {
-    number_line(read_line(version, line)?, before)
+    match read_line(version, line) {
+        Ok(line) => number_line(line, before),
+        Err(e) => Err(e),
+    }
 }
 
 /// No line follows the terminal line; the first that does would have the number.

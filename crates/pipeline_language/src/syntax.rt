@@ -246,9 +246,11 @@ pub(crate) fn read_line<'a>(version: Version, line: &[&'a str]) -> Result<BodyLi
     ensures { ReadAs body_line_content (whole (body_of version) (map (λ word. word.now) line.now)) result }
 {
     let mut words = Words::new(line);
-    let body = read_body(version, &mut words)?;
-    words.end()?;
-    Ok(body)
+    match (read_body(version, &mut words), words.end()) {
+        (Ok(body), Ok(())) => Ok(body),
+        (Ok(_), Err(e)) => Err(e),
+        (Err(e), _) => Err(e),
+    }
 }
 
 /// A line after the source: a stage, or the terminal.
@@ -257,9 +259,13 @@ fn read_body<'a>(version: Version, words: &mut Words<'_, 'a>) -> Result<BodyLine
     ensures { GetsAs body_line_content (body_of version words.old) result words.new }
 {
     let name = words.any()?;
-    match read_stage(name, words)? {
-        Some(stage) => Ok(BodyLine::Stage(stage)),
-        None => Ok(BodyLine::Terminal(read_terminal(version, name, words)?)),
+    match read_stage(name, words) {
+        Ok(Some(stage)) => Ok(BodyLine::Stage(stage)),
+        Ok(None) => match read_terminal(version, name, words) {
+            Ok(terminal) => Ok(BodyLine::Terminal(terminal)),
+            Err(e) => Err(e),
+        },
+        Err(e) => Err(e),
     }
 }
 
