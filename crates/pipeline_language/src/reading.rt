@@ -234,17 +234,18 @@ fn read_text_body<'a>(
     'lines: loop {
         let before = stages.len();
         let at = number + before as u64;
-        match read_text_first(alloc, version, lines, before, at)? {
-            TextLine::Stage(stage) => stages.push(stage)?,
-            TextLine::Lengths => {
+        match read_text_first(alloc, version, lines, before, at) {
+            Ok(TextLine::Stage(stage)) => stages.push(stage)?,
+            Ok(TextLine::Lengths) => {
                 let body = read_number_body(alloc, version, lines, before + 1, at + 1)?;
                 let end = TextEnd::Lengths(body);
                 return Ok(TextBody { stages, end });
             }
-            TextLine::Terminal(terminal) => {
+            Ok(TextLine::Terminal(terminal)) => {
                 let end = TextEnd::Terminal(terminal);
                 return Ok(TextBody { stages, end });
             }
+            Err(e) => return Err(e),
         }
     }
 }
