@@ -8,7 +8,7 @@ use Rattle.pipeline_language.specs.declared.version.Version.TheVariants.{One, Tw
 use Rattle.pipeline_language.specs.Form.{Name, EitherName, Number, AnyWord, number, divisor, natural, lowest, highest, all_known}
 use Rattle.pipeline_language.specs.Syntax.{Function, Add, Mul, Negate, Mod, Length, Itself, Condition, Less, Greater, Equals, Divisible, Empty, Starts, Longer, Base, CountItems, SumItems, Greatest, Least, FirstItem, ItemList, Joined, Inner, InnerBase, InnerMapped, InnerFiltered, Summary, OfBase, Mapped, Filtered, Grouped, Merge, KeepFirst, KeepLast, AddUp, KeepGreatest, KeepLeast, Expansion, Copies, Pieces, MapBy, FilterBy, ExpandBy, Distinct, Limit, Skip, TakeWhile, DropWhile, Sum, Product, Max, Min, Count, FindFirst, ToList, AllMatch, AnyMatch, NoneMatch, Joining, GroupBy, Partition, ToMap, ToMapStrict, Teeing, Origin, Range, Closed, Numbers, Lines, BodyLine, StageLine, TerminalLine, function_slots, condition_slots, base_slots, inner_slots, summary_slots, merge_slots, expansion_slots, body_slots, origin_slots, has_new_names, summary_known, body_known}
 use Rattle.pipeline_language.specs.Reading.{Left, ByName, next_number, next_natural, nothing, both, made_of, by_name}
-use Rattle.pipeline_language.specs.SyntaxReading.{function_names, function_of, condition_names, condition_of, base_names, base_of, inner_names, inner_of, nesting_summary_names, nesting_summary_of, summary_of, merge_names, merge_of, expansion_names, expansion_of, body_names, new_terminal_names, terminal_names, body_of, origin_names, origin_words}
+use Rattle.pipeline_language.specs.SyntaxReading.{function_names, function_of, condition_names, condition_of, base_names, base_of, inner_names, inner_of, nesting_summary_names, nesting_summary_of, summary_of, merge_names, merge_of, expansion_names, expansion_of, body_names, new_terminal_names, terminal_names, body_of, origin_names, origin_words, asking_names, collecting_names, stage_names}
 use Rattle.pipeline_language.proofs.PhraseLemmas.{Anything, AtEnd, Phrase, Knows, FoundAfter, nothing_phrase, both_phrase, unknown_found, name_found, either_found, made_of_found, name_knows, either_knows, by_one, by_either, made_of_knows, made_reader_knows, carried, by_name_phrase, at_end}
 use Rattle.pipeline_language.proofs.NumberPhrases.{number_phrase, natural_phrase, all_numbers_phrase}
 use Rattle.pipeline_language.proofs.WordPhrases.{word_phrase, joint_phrase}
@@ -239,7 +239,7 @@ new_terminal_found Two = name_found body_slots (codes "tomapstrict") (λ p. Term
     (unknown_found (body_known Two) body_slots)
 
 terminal_found : (version : Version) → FoundAfter (body_known version) body_slots (terminal_names version)
-unfolding terminal_names
+unfolding terminal_names asking_names collecting_names
 terminal_found version = name_found body_slots (codes "sum") (λ _. TerminalLine Sum) (λ _. refl) (λ _ _. refl) alone
     (name_found body_slots (codes "product") (λ _. TerminalLine Product) (λ _. refl) (λ _ _. refl) alone
     (name_found body_slots (codes "max") (λ _. TerminalLine Max) (λ _. refl) (λ _ _. refl) alone
@@ -258,6 +258,7 @@ terminal_found version = name_found body_slots (codes "sum") (λ _. TerminalLine
     (new_terminal_found version)))))))))))))))
 
 body_found : (version : Version) → FoundAfter (body_known version) body_slots (body_names version)
+unfolding stage_names
 body_found version = name_found body_slots (codes "map") (λ f. StageLine (MapBy f)) (λ _. refl) (λ _ _. refl) function_phrase
     (name_found body_slots (codes "filter") (λ p. StageLine (FilterBy p)) (λ _. refl) (λ _ _. refl) condition_phrase
     (name_found body_slots (codes "flatmap") (λ e. StageLine (ExpandBy e)) (λ _. refl) (λ _ _. refl) expansion_phrase
@@ -269,12 +270,12 @@ body_found version = name_found body_slots (codes "map") (λ f. StageLine (MapBy
     (terminal_found version))))))))
 
 strict_knows : (version : Version) (key value : Function) → has_new_names version ≡ true → Knows AtEnd (by_name (body_names version)) (body_slots (TerminalLine (ToMapStrict key value))) (TerminalLine (ToMapStrict key value))
-unfolding terminal_names new_terminal_names
+unfolding stage_names terminal_names asking_names collecting_names new_terminal_names
 strict_knows One key value known = absurd (false≢true known)
 strict_knows Two key value known = name_knows (body_names Two) (codes "tomapstrict") (λ p. TerminalLine (ToMapStrict p.0 p.1)) (at_end two_functions) (λ left. refl) (key, value) refl
 
 body_knows : (version : Version) (x : BodyLine) → body_known version x ≡ true → Knows AtEnd (by_name (body_names version)) (body_slots x) x
-unfolding terminal_names
+unfolding stage_names terminal_names asking_names collecting_names
 body_knows version (StageLine (MapBy f)) known = name_knows (body_names version) (codes "map") (λ f. StageLine (MapBy f)) (at_end function_phrase) (λ left. refl) f refl
 body_knows version (StageLine (FilterBy p)) known = name_knows (body_names version) (codes "filter") (λ p. StageLine (FilterBy p)) (at_end condition_phrase) (λ left. refl) p refl
 body_knows version (StageLine (ExpandBy e)) known = name_knows (body_names version) (codes "flatmap") (λ e. StageLine (ExpandBy e)) (at_end expansion_phrase) (λ left. refl) e refl

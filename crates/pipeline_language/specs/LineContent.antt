@@ -103,6 +103,9 @@ terminal_content (terminals.ToMap key value merge) = syntax.ToMap (function_cont
 terminal_content (terminals.ToMapStrict key value) = syntax.ToMapStrict (function_content key) (function_content value)
 terminal_content (terminals.Teeing one other) = syntax.Teeing (summary_content one) (summary_content other)
 
+abbrev pub stage_line_content : Stage → syntax.BodyLine
+stage_line_content stage = syntax.StageLine (stage_content stage)
+
 abbrev pub terminal_line_content : Terminal → syntax.BodyLine
 terminal_line_content terminal = syntax.TerminalLine (terminal_content terminal)
 

@@ -109,6 +109,17 @@ GetsAs content read (Err e) left = read ≡ Err e
 abbrev pub Gets : {X : Type 0} → Result (X × Left) FileError → Result X FileError → Left → Type 0
 Gets read result left = GetsAs (λ x. x) read result left
 
+-- The same where what is read has a name of its own; behind any other name nothing is read yet.
+abbrev pub GetsNamed : {X Y : Type 0} → (X → Y) → (ByName Y → ByName Y) → List ℕ → Left → Result (Option X) FileError → Left → Type 0
+GetsNamed {X} {Y} content names found read (Ok (Some x)) left = (others : ByName Y) → names others found read ≡ Ok (content x, left)
+GetsNamed {X} {Y} content names found read (Ok None) left = (others : ByName Y) → names others found read ≡ others found left
+GetsNamed {X} {Y} content names found read (Err e) left = (others : ByName Y) → names others found read ≡ Err e
+
+-- The same of all there is.
+abbrev pub ReadAs : {X Y : Type 0} → (X → Y) → Result Y FileError → Result X FileError → Type 0
+ReadAs content read (Ok x) = read ≡ Ok (content x)
+ReadAs content read (Err e) = read ≡ Err e
+
 -- Where a line ends: no words are left over, and each number is one.
 abbrev pub ended : List (List ℕ) → Bool → Result (Unit {0}) FileError
 ended [] good = if good then Ok tt else Err BadNumber
@@ -122,6 +133,14 @@ whole read words = read (record { words = words; good = true }) >>= λ x. ended 
 abbrev pub fitting : {X : Type 0} → Forms X → X → Result X FileError
 fitting forms x = if forms.takes_kind x then (if forms.in_limits x then Ok x else Err forms.limit_fault) else Err WrongKind
 
+-- all the words of a line, with the kinds and the limits
+abbrev pub form_of : {X : Type 0} → Forms X → Reader X → List (List ℕ) → Result X FileError
+form_of forms read words = whole read words >>= fitting forms
+
+-- the words of a line, which is a text
+unfoldable pub line_words : List ℕ → Result (List (List ℕ)) FileError
+line_words line = if is_utf8 line then Ok (words_of line) else Err BadText
+
 -- a line
 unfoldable pub line_of : {X : Type 0} → Forms X → Reader X → List ℕ → Result X FileError
-line_of forms read line = if is_utf8 line then (whole read (words_of line) >>= fitting forms) else Err BadText
+line_of forms read line = if is_utf8 line then form_of forms read (words_of line) else Err BadText

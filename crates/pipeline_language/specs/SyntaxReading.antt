@@ -110,11 +110,26 @@ joint_after between left = if is_done left.words then (let found : Joint × Left
 unfoldable pub joint_of : Reader Joint
 joint_of left = next_word left >>= λ between. joint_after between.0 between.1
 
--- the names of terminals that the first version has not, those of all terminals, and those of stages before them
+-- The names of terminals that the first version has not; before them those of terminals with collectors or maps, of those
+-- with a test or texts between, and of those that stand alone. Before them all stand the names of stages.
 unfoldable pub new_terminal_names : Version → ByName BodyLine
 new_terminal_names One = unknown
 new_terminal_names Two = named (codes "tomapstrict") (λ p. TerminalLine (ToMapStrict p.0 p.1)) (both function_of function_of)
     unknown
+
+unfoldable pub collecting_names : Version → ByName BodyLine
+collecting_names version = named (codes "groupby") (λ p. TerminalLine (GroupBy p.0 p.1)) (both function_of (summary_of version))
+    (named (codes "partition") (λ p. TerminalLine (Partition p.0 p.1)) (both condition_of (summary_of version))
+    (named (codes "tomap") (λ p. TerminalLine (ToMap p.0 p.1.0 p.1.1)) (both function_of (both function_of merge_of))
+    (named (codes "teeing") (λ p. TerminalLine (Teeing p.0 p.1)) (both (summary_of version) (summary_of version))
+    (new_terminal_names version))))
+
+unfoldable pub asking_names : Version → ByName BodyLine
+asking_names version = named (codes "allmatch") (λ p. TerminalLine (AllMatch p)) condition_of
+    (named (codes "anymatch") (λ p. TerminalLine (AnyMatch p)) condition_of
+    (named (codes "nonematch") (λ p. TerminalLine (NoneMatch p)) condition_of
+    (named (codes "joining") (λ j. TerminalLine (Joining j)) joint_of
+    (collecting_names version))))
 
 unfoldable pub terminal_names : Version → ByName BodyLine
 terminal_names version = named (codes "sum") (λ _. TerminalLine Sum) nothing
@@ -124,18 +139,10 @@ terminal_names version = named (codes "sum") (λ _. TerminalLine Sum) nothing
     (named (codes "count") (λ _. TerminalLine Count) nothing
     (named (codes "findfirst") (λ _. TerminalLine FindFirst) nothing
     (named (codes "tolist") (λ _. TerminalLine ToList) nothing
-    (named (codes "allmatch") (λ p. TerminalLine (AllMatch p)) condition_of
-    (named (codes "anymatch") (λ p. TerminalLine (AnyMatch p)) condition_of
-    (named (codes "nonematch") (λ p. TerminalLine (NoneMatch p)) condition_of
-    (named (codes "joining") (λ j. TerminalLine (Joining j)) joint_of
-    (named (codes "groupby") (λ p. TerminalLine (GroupBy p.0 p.1)) (both function_of (summary_of version))
-    (named (codes "partition") (λ p. TerminalLine (Partition p.0 p.1)) (both condition_of (summary_of version))
-    (named (codes "tomap") (λ p. TerminalLine (ToMap p.0 p.1.0 p.1.1)) (both function_of (both function_of merge_of))
-    (named (codes "teeing") (λ p. TerminalLine (Teeing p.0 p.1)) (both (summary_of version) (summary_of version))
-    (new_terminal_names version)))))))))))))))
+    (asking_names version)))))))
 
-abbrev pub body_names : Version → ByName BodyLine
-body_names version = named (codes "map") (λ f. StageLine (MapBy f)) function_of
+unfoldable pub stage_names : ByName BodyLine → ByName BodyLine
+stage_names others = named (codes "map") (λ f. StageLine (MapBy f)) function_of
     (named (codes "filter") (λ p. StageLine (FilterBy p)) condition_of
     (named (codes "flatmap") (λ e. StageLine (ExpandBy e)) expansion_of
     (named (codes "distinct") (λ _. StageLine Distinct) nothing
@@ -143,7 +150,10 @@ body_names version = named (codes "map") (λ f. StageLine (MapBy f)) function_of
     (named (codes "skip") (λ n. StageLine (Skip n)) any_natural
     (named (codes "takewhile") (λ p. StageLine (TakeWhile p)) condition_of
     (named (codes "dropwhile") (λ p. StageLine (DropWhile p)) condition_of
-    (terminal_names version))))))))
+    others)))))))
+
+abbrev pub body_names : Version → ByName BodyLine
+body_names version = stage_names (terminal_names version)
 
 unfoldable pub body_of : Version → Reader BodyLine
 body_of version = by_name (body_names version)

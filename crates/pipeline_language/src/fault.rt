@@ -115,7 +115,7 @@ impl<T: Drop> From<AllocFailed<T>> for ReadError {
 }
 
 /// Why no line was read.
-#[derive(Debug, Drop)]
+#[derive(Clone, Copy)]
 pub(crate) enum LineError {
     Fault(FileError),
     NoMemory,

@@ -5,7 +5,9 @@ ghost use Rattle.pipeline_language.specs.Content.{number_base, number_function, 
 ghost use Rattle.pipeline_language.specs.Kinds.{Takes, number_line_content, text_line_content, text_value_content, value_takes};
 ghost use Rattle.pipeline_language.specs.LineContent.{base_content, body_line_content, condition_content, function_content, inner_content, merge_content, stage_content, summary_content, terminal_content};
 ghost use Rattle.pipeline_language.specs.declared.syntax.BodyLine.TheVariants as body_lines;
-ghost use Rattle.pipeline_language.specs.Syntax.{NumberKind, TextKind, base_takes, body_takes, condition_takes, function_takes, inner_takes, merge_takes, stage_takes, summary_takes, terminal_takes};
+ghost use Rattle.pipeline_language.specs.Reading.{ReadAs, fitting};
+ghost use Rattle.pipeline_language.specs.declared.version.Version.{Version};
+ghost use Rattle.pipeline_language.specs.Syntax.{NumberKind, TextKind, base_takes, bodies, body_takes, condition_takes, function_takes, inner_takes, merge_takes, stage_takes, summary_takes, terminal_takes};
 
 use crate::fault::FileError;
 use crate::pipeline::{
@@ -13,19 +15,20 @@ use crate::pipeline::{
     NumberTerminal, NumberTest, TextBase, TextFunction, TextInner, TextMerge, TextStage,
     TextSummary, TextTerminal, TextTest, TextValue,
 };
+use crate::reading::MOST_STAGES;
 use crate::syntax::{
     Base, BodyLine, Condition, Expansion, Function, Inner, Joint, Merge, Stage, Summary, Terminal,
 };
 
 /// A line over numbers.
-#[derive(Debug, Drop)]
+#[derive(Clone, Copy)]
 pub(crate) enum NumberLine {
     Stage(NumberStage),
     Terminal(NumberTerminal),
 }
 
 /// A line over texts.
-#[derive(Debug, Drop)]
+#[derive(Clone, Copy)]
 pub(crate) enum TextLine<'a> {
     Stage(TextStage<'a>),
     /// `map length`.
@@ -33,21 +36,40 @@ pub(crate) enum TextLine<'a> {
     Terminal(TextTerminal<'a>),
 }
 
-pub(crate) fn number_line(line: BodyLine<'_>) -> Result<NumberLine, FileError>
-    ensures { Takes number_line_content (body_takes NumberKind) (body_line_content line.entry) result }
+/// A line over numbers, with so many stages before it.
+pub(crate) fn number_line(line: BodyLine<'_>, before: usize) -> Result<NumberLine, FileError>
+    ensures { (version : Version) → ReadAs number_line_content (fitting (bodies (record { version = version; kind = NumberKind; stages = before })) (body_line_content line.entry)) result }
 {
     match line {
-        BodyLine::Stage(stage) => Ok(NumberLine::Stage(over_numbers(stage)?)),
-        BodyLine::Terminal(terminal) => Ok(NumberLine::Terminal(of_numbers(terminal)?)),
+        BodyLine::Stage(stage) => {
+            match over_numbers(stage) {
+                Ok(_) if before >= MOST_STAGES => Err(FileError::TooManyStages),
+                Ok(stage) => Ok(NumberLine::Stage(stage)),
+                Err(e) => Err(e),
+            }
+        }
+        BodyLine::Terminal(terminal) => match of_numbers(terminal) {
+            Ok(terminal) => Ok(NumberLine::Terminal(terminal)),
+            Err(e) => Err(e),
+        },
     }
 }
 
-pub(crate) fn text_line(line: BodyLine<'_>) -> Result<TextLine<'_>, FileError>
-    ensures { Takes text_line_content (body_takes TextKind) (body_line_content line.entry) result }
+/// A line over texts, with so many stages before it.
+pub(crate) fn text_line(line: BodyLine<'_>, before: usize) -> Result<TextLine<'_>, FileError>
+    ensures { (version : Version) → ReadAs text_line_content (fitting (bodies (record { version = version; kind = TextKind; stages = before })) (body_line_content line.entry)) result }
 {
     match line {
-        BodyLine::Stage(stage) => over_texts(stage),
-        BodyLine::Terminal(terminal) => Ok(TextLine::Terminal(of_texts(terminal)?)),
+        BodyLine::Stage(stage) => {
+            match over_texts(stage) {
+                Ok(_) if before >= MOST_STAGES => Err(FileError::TooManyStages),
+                line => line,
+            }
+        }
+        BodyLine::Terminal(terminal) => match of_texts(terminal) {
+            Ok(terminal) => Ok(TextLine::Terminal(terminal)),
+            Err(e) => Err(e),
+        },
     }
 }
 
@@ -146,14 +168,14 @@ fn of_texts(terminal: Terminal<'_>) -> Result<TextTerminal<'_>, FileError>
         Terminal::Joining(Joint::Within(between, front, back)) => Ok(TextTerminal::JoiningWithin(
             between, front, back,
         )),
-        Terminal::GroupBy(key, collector) => Ok(TextTerminal::GroupBy(
-            text_function(key)?,
-            text_summary(collector)?,
-        )),
-        Terminal::Partition(test, collector) => Ok(TextTerminal::Partition(
-            text_test(test)?,
-            text_summary(collector)?,
-        )),
+        Terminal::GroupBy(key, collector) => match (text_function(key), text_summary(collector)) {
+            (Ok(key), Ok(collector)) => Ok(TextTerminal::GroupBy(key, collector)),
+            _ => Err(FileError::WrongKind),
+        },
+        Terminal::Partition(test, collector) => match (text_test(test), text_summary(collector)) {
+            (Ok(test), Ok(collector)) => Ok(TextTerminal::Partition(test, collector)),
+            _ => Err(FileError::WrongKind),
+        },
         Terminal::ToMap(key, value, merge) => Ok(TextTerminal::ToMap(
             text_function(key)?,
             text_value(value, merge)?,
@@ -161,10 +183,10 @@ fn of_texts(terminal: Terminal<'_>) -> Result<TextTerminal<'_>, FileError>
         Terminal::ToMapStrict(key, value) => {
             Ok(TextTerminal::ToMapStrict(text_function(key)?, text_function(value)?))
         }
-        Terminal::Teeing(one, other) => Ok(TextTerminal::Teeing(
-            text_summary(one)?,
-            text_summary(other)?,
-        )),
+        Terminal::Teeing(one, other) => match (text_summary(one), text_summary(other)) {
+            (Ok(one), Ok(other)) => Ok(TextTerminal::Teeing(one, other)),
+            _ => Err(FileError::WrongKind),
+        },
     }
 }
 

@@ -7,7 +7,7 @@ ghost use Rattle.pipeline_language.specs.FileReading.{IfFault, LineGets, LineRea
 ghost use Rattle.pipeline_language.specs.Kinds.{number_line_content, text_line_content, source_content};
 ghost use Rattle.pipeline_language.specs.Language.{HasFault, Means};
 ghost use Rattle.pipeline_language.specs.Pieces.{piece_bytes};
-ghost use Rattle.pipeline_language.specs.Reading.{line_of};
+ghost use Rattle.pipeline_language.specs.Reading.{ReadAs, form_of, line_of, line_words};
 ghost use Rattle.pipeline_language.specs.Syntax.{NumberKind, Program, TextKind, bodies, origins};
 ghost use Rattle.pipeline_language.specs.SyntaxReading.{body_of, origin_words};
 ghost use Rattle.pipeline_language.specs.Words.{lines_of};
@@ -16,7 +16,7 @@ use crate::fault::{FileError, FileFault, LineError, ReadError};
 use crate::kinds::{NumberLine, TextLine, number_line, text_line};
 use crate::lines::{Lines, Piece, first_of_text, words};
 use crate::pipeline::{NumberBody, NumberSource, Pipeline, TextBody, TextEnd};
-use crate::syntax::read_body;
+use crate::syntax::read_line;
 use crate::version::Version;
 use crate::words::Words;
 use std::alloc::Global;
@@ -60,7 +60,7 @@ fn read_bytes(alloc: Global, file: &[u8]) -> Result<Pipeline<'_>, ReadError>
 }
 
 /// Where items come from: numbers of their own, or so many lines.
-#[derive(Debug, Drop)]
+#[derive(Drop)]
 pub(crate) enum Source {
     Numbers(NumberSource),
     Lines(u64),
@@ -105,11 +105,11 @@ fn read_version(line: Piece<'_>) -> Result<Version, FileError>
 }
 
 /// A source line.
-#[tactic(auto, unfolding(crate::specs::Reading::line_of, crate::specs::Reading::whole))]
+#[tactic(auto, unfolding(crate::specs::Reading::line_of, crate::specs::Reading::line_words, crate::specs::Reading::whole))]
 fn read_source(alloc: Global, line: Piece<'_>) -> Result<Source, LineError>
     ensures { LineReads source_content result (line_of origins origin_words (piece_bytes line.entry)) }
 {
-    let all = words(alloc, line.text()?)?;
+    let all = line_words(alloc, line)?;
     let mut words = Words::new(all.as_slice());
     let source = read_source_words(alloc, &mut words)?;
     words.end()?;
@@ -119,6 +119,14 @@ fn read_source(alloc: Global, line: Piece<'_>) -> Result<Source, LineError>
         }
         source => Ok(source),
     }
+}
+
+/// The words of a line, which is a text.
+#[tactic(auto, unfolding(crate::specs::Reading::line_words))]
+fn line_words<'a>(alloc: Global, line: Piece<'a>) -> Result<Vec<&'a str>, LineError>
+    ensures { LineReads (λ words. map (λ word. word.now) words.items) result (line_words (piece_bytes line.entry)) }
+{
+    Ok(words(alloc, line.text()?)?)
 }
 
 /// The words of a source.
@@ -226,17 +234,18 @@ fn read_text_body<'a>(
     'lines: loop {
         let before = stages.len();
         let at = number + before as u64;
-        match read_text_first(alloc, version, lines, before, at)? {
-            TextLine::Stage(stage) => stages.push(stage)?,
-            TextLine::Lengths => {
+        match read_text_first(alloc, version, lines, before, at) {
+            Ok(TextLine::Stage(stage)) => stages.push(stage)?,
+            Ok(TextLine::Lengths) => {
                 let body = read_number_body(alloc, version, lines, before + 1, at + 1)?;
                 let end = TextEnd::Lengths(body);
                 return Ok(TextBody { stages, end });
             }
-            TextLine::Terminal(terminal) => {
+            Ok(TextLine::Terminal(terminal)) => {
                 let end = TextEnd::Terminal(terminal);
                 return Ok(TextBody { stages, end });
             }
+            Err(e) => return Err(e),
         }
     }
 }
@@ -280,11 +289,14 @@ fn read_text_first<'a>(
     let Some(line) = lines.next() else {
         return Err(LineError::Fault(FileError::MissingTerminal).at(number));
     };
-    let body = read_text_line(alloc, version, line, before).map_err(|e| e.at(number))?;
-    if let TextLine::Terminal(_) = body {
-        no_more(lines, number + 1)?;
+    match read_text_line(alloc, version, line, before) {
+        Ok(TextLine::Terminal(terminal)) => {
+            no_more(lines, number + 1)?;
+            Ok(TextLine::Terminal(terminal))
+        }
+        Ok(line) => Ok(line),
+        Err(e) => Err(e.at(number)),
     }
-    Ok(body)
 }
 
 /// The same over numbers.
@@ -304,15 +316,18 @@ fn read_number_first(
     let Some(line) = lines.next() else {
         return Err(LineError::Fault(FileError::MissingTerminal).at(number));
     };
-    let body = read_number_line(alloc, version, line, before).map_err(|e| e.at(number))?;
-    if let NumberLine::Terminal(_) = body {
-        no_more(lines, number + 1)?;
+    match read_number_line(alloc, version, line, before) {
+        Ok(NumberLine::Terminal(terminal)) => {
+            no_more(lines, number + 1)?;
+            Ok(NumberLine::Terminal(terminal))
+        }
+        Ok(line) => Ok(line),
+        Err(e) => Err(e.at(number)),
     }
-    Ok(body)
 }
 
 /// A line over texts with so many stages before it.
-#[tactic(auto, unfolding(crate::specs::Reading::line_of, crate::specs::Reading::whole))]
+#[tactic(auto, unfolding(crate::specs::Reading::line_of, crate::specs::Reading::line_words))]
 fn read_text_line<'a>(
     alloc: Global,
     version: Version,
@@ -321,19 +336,26 @@ fn read_text_line<'a>(
 ) -> Result<TextLine<'a>, LineError>
     ensures { LineReads text_line_content result (line_of (bodies (record { version = version; kind = TextKind; stages = before })) (body_of version) (piece_bytes line.entry)) }
 {
-    let all = words(alloc, line.text()?)?;
-    let mut words = Words::new(all.as_slice());
-    let body = read_body(version, &mut words)?;
-    words.end()?;
-    match text_line(body)? {
-        TextLine::Terminal(terminal) => Ok(TextLine::Terminal(terminal)),
-        _ if before >= MOST_STAGES => Err(LineError::Fault(FileError::TooManyStages)),
-        body => Ok(body),
+    let all = line_words(alloc, line)?;
+    read_text_words(version, all.as_slice(), before).map_err(LineError::Fault)
+}
+
+/// All the words of such a line.
+fn read_text_words<'a>(
+    version: Version,
+    line: &[&'a str],
+    before: usize,
+) -> Result<TextLine<'a>, FileError>
+    ensures { ReadAs text_line_content (form_of (bodies (record { version = version; kind = TextKind; stages = before })) (body_of version) (map (λ word. word.now) line.now)) result }
+{
+    match read_line(version, line) {
+        Ok(line) => text_line(line, before),
+        Err(e) => Err(e),
     }
 }
 
 /// The same over numbers.
-#[tactic(auto, unfolding(crate::specs::Reading::line_of, crate::specs::Reading::whole))]
+#[tactic(auto, unfolding(crate::specs::Reading::line_of, crate::specs::Reading::line_words))]
 fn read_number_line(
     alloc: Global,
     version: Version,
@@ -342,15 +364,21 @@ fn read_number_line(
 ) -> Result<NumberLine, LineError>
     ensures { LineReads number_line_content result (line_of (bodies (record { version = version; kind = NumberKind; stages = before })) (body_of version) (piece_bytes line.entry)) }
 {
-    let all = words(alloc, line.text()?)?;
-    let mut words = Words::new(all.as_slice());
-    let body = read_body(version, &mut words)?;
-    words.end()?;
-    match number_line(body)? {
-        NumberLine::Stage(_) if before >= MOST_STAGES => Err(LineError::Fault(
-            FileError::TooManyStages,
-        )),
-        body => Ok(body),
+    let all = line_words(alloc, line)?;
+    read_number_words(version, all.as_slice(), before).map_err(LineError::Fault)
+}
+
+/// All the words of such a line.
+fn read_number_words(
+    version: Version,
+    line: &[&str],
+    before: usize,
+) -> Result<NumberLine, FileError>
+    ensures { ReadAs number_line_content (form_of (bodies (record { version = version; kind = NumberKind; stages = before })) (body_of version) (map (λ word. word.now) line.now)) result }
+{
+    match read_line(version, line) {
+        Ok(line) => number_line(line, before),
+        Err(e) => Err(e),
     }
 }
 

@@ -1,16 +1,16 @@
 //! What a line says, name by name, before the kind of the items is asked for.
 
-ghost use Rattle.std.specs.Prelude.{Result};
-ghost use Rattle.pipeline_language.specs.LineContent.{base_content, body_line_content, condition_content, expansion_content, function_content, inner_content, joint_content, merge_content, summary_content, terminal_line_content};
-ghost use Rattle.pipeline_language.specs.Reading.{GetsAs};
-ghost use Rattle.pipeline_language.specs.SyntaxReading.{base_names, base_of, body_of, condition_of, expansion_of, function_of, inner_of, joint_of, merge_of, nesting_summary_of, new_terminal_names, summary_of, terminal_names};
+ghost use Rattle.std.specs.Prelude.{Result, map};
+ghost use Rattle.pipeline_language.specs.LineContent.{base_content, body_line_content, condition_content, expansion_content, function_content, inner_content, joint_content, merge_content, stage_line_content, summary_content, terminal_line_content};
+ghost use Rattle.pipeline_language.specs.Reading.{GetsAs, GetsNamed, ReadAs, whole};
+ghost use Rattle.pipeline_language.specs.SyntaxReading.{asking_names, base_names, base_of, body_of, collecting_names, condition_of, expansion_of, function_of, inner_of, joint_of, merge_of, nesting_summary_of, new_terminal_names, stage_names, summary_of, terminal_names};
 
 use crate::fault::FileError;
 use crate::version::Version;
 use crate::words::Words;
 
 /// A function of either kind.
-#[derive(Clone, Copy, Debug)]
+#[derive(Clone, Copy)]
 pub(crate) enum Function {
     Add(i64),
     Mul(i64),
@@ -21,7 +21,7 @@ pub(crate) enum Function {
 }
 
 /// A test of either kind.
-#[derive(Clone, Copy, Debug)]
+#[derive(Clone, Copy)]
 pub(crate) enum Condition<'a> {
     Less(i64),
     Greater(i64),
@@ -33,7 +33,7 @@ pub(crate) enum Condition<'a> {
 }
 
 /// What is made at once of items of either kind.
-#[derive(Clone, Copy, Debug)]
+#[derive(Clone, Copy)]
 pub(crate) enum Base<'a> {
     Count,
     Sum,
@@ -45,7 +45,7 @@ pub(crate) enum Base<'a> {
 }
 
 /// A collector of either kind that stands inside another.
-#[derive(Clone, Copy, Debug)]
+#[derive(Clone, Copy)]
 pub(crate) enum Inner<'a> {
     Base(Base<'a>),
     Mapping(Function, Base<'a>),
@@ -53,7 +53,7 @@ pub(crate) enum Inner<'a> {
 }
 
 /// A collector of either kind.
-#[derive(Clone, Copy, Debug)]
+#[derive(Clone, Copy)]
 pub(crate) enum Summary<'a> {
     Base(Base<'a>),
     Mapping(Function, Inner<'a>),
@@ -62,7 +62,7 @@ pub(crate) enum Summary<'a> {
 }
 
 /// A merge function of either kind.
-#[derive(Clone, Copy, Debug)]
+#[derive(Clone, Copy)]
 pub(crate) enum Merge {
     First,
     Last,
@@ -72,14 +72,14 @@ pub(crate) enum Merge {
 }
 
 /// What `flatmap` puts in an item's place.
-#[derive(Clone, Copy, Debug)]
+#[derive(Clone, Copy)]
 pub(crate) enum Expansion {
     Repeat(u64),
     Words,
 }
 
 /// A stage of either kind.
-#[derive(Clone, Copy, Debug)]
+#[derive(Clone, Copy)]
 pub(crate) enum Stage<'a> {
     Map(Function),
     Filter(Condition<'a>),
@@ -92,14 +92,14 @@ pub(crate) enum Stage<'a> {
 }
 
 /// What stands between texts, and also in front of them and behind them.
-#[derive(Clone, Copy, Debug)]
+#[derive(Clone, Copy)]
 pub(crate) enum Joint<'a> {
     Plain(&'a str),
     Within(&'a str, &'a str, &'a str),
 }
 
 /// A terminal of either kind.
-#[derive(Clone, Copy, Debug)]
+#[derive(Clone, Copy)]
 pub(crate) enum Terminal<'a> {
     Sum,
     Product,
@@ -120,7 +120,7 @@ pub(crate) enum Terminal<'a> {
 }
 
 /// A line after the source.
-#[derive(Clone, Copy, Debug)]
+#[derive(Clone, Copy)]
 pub(crate) enum BodyLine<'a> {
     Stage(Stage<'a>),
     Terminal(Terminal<'a>),
@@ -240,16 +240,41 @@ fn read_expansion(words: &mut Words<'_, '_>) -> Result<Expansion, FileError>
     }
 }
 
+/// All the words of a line after the source.
+#[tactic(auto, unfolding(crate::specs::Reading::whole))]
+pub(crate) fn read_line<'a>(version: Version, line: &[&'a str]) -> Result<BodyLine<'a>, FileError>
+    ensures { ReadAs body_line_content (whole (body_of version) (map (λ word. word.now) line.now)) result }
+{
+    let mut words = Words::new(line);
+    match (read_body(version, &mut words), words.end()) {
+        (Ok(body), Ok(())) => Ok(body),
+        (Ok(_), Err(e)) => Err(e),
+        (Err(e), _) => Err(e),
+    }
+}
+
 /// A line after the source: a stage, or the terminal.
 #[tactic(auto, unfolding(crate::specs::SyntaxReading::body_of))]
-pub(crate) fn read_body<'a>(
-    version: Version,
-    words: &mut Words<'_, 'a>,
-) -> Result<BodyLine<'a>, FileError>
+fn read_body<'a>(version: Version, words: &mut Words<'_, 'a>) -> Result<BodyLine<'a>, FileError>
     ensures { GetsAs body_line_content (body_of version words.old) result words.new }
 {
     let name = words.any()?;
-    Ok(BodyLine::Stage(match name {
+    match read_stage(name, words) {
+        Ok(Some(stage)) => Ok(BodyLine::Stage(stage)),
+        Ok(None) => match read_terminal(version, name, words) {
+            Ok(terminal) => Ok(BodyLine::Terminal(terminal)),
+            Err(e) => Err(e),
+        },
+        Err(e) => Err(e),
+    }
+}
+
+/// A stage, behind its name, and none behind any other name.
+#[tactic(auto, unfolding(crate::specs::SyntaxReading::stage_names))]
+fn read_stage<'a>(name: &str, words: &mut Words<'_, 'a>) -> Result<Option<Stage<'a>>, FileError>
+    ensures { GetsNamed stage_line_content stage_names name.now words.old result words.new }
+{
+    Ok(Some(match name {
         "map" => Stage::Map(read_function(words)?),
         "filter" => Stage::Filter(read_condition(words)?),
         "flatmap" => Stage::FlatMap(read_expansion(words)?),
@@ -258,7 +283,7 @@ pub(crate) fn read_body<'a>(
         "skip" => Stage::Skip(words.natural(i64::MAX)?),
         "takewhile" => Stage::TakeWhile(read_condition(words)?),
         "dropwhile" => Stage::DropWhile(read_condition(words)?),
-        _ => return Ok(BodyLine::Terminal(read_terminal(version, name, words)?)),
+        _ => return Ok(None),
     }))
 }
 
@@ -279,10 +304,38 @@ fn read_terminal<'a>(
         "count" => Ok(Terminal::Count),
         "findfirst" => Ok(Terminal::FindFirst),
         "tolist" => Ok(Terminal::ToList),
+        _ => read_asking_terminal(version, name, words),
+    }
+}
+
+/// A terminal that does not stand alone, behind its name.
+#[tactic(auto, unfolding(crate::specs::SyntaxReading::asking_names))]
+fn read_asking_terminal<'a>(
+    version: Version,
+    name: &str,
+    words: &mut Words<'_, 'a>,
+) -> Result<Terminal<'a>, FileError>
+    ensures { GetsAs terminal_line_content (asking_names version name.now words.old) result words.new }
+{
+    match name {
         "allmatch" => Ok(Terminal::AllMatch(read_condition(words)?)),
         "anymatch" => Ok(Terminal::AnyMatch(read_condition(words)?)),
         "nonematch" => Ok(Terminal::NoneMatch(read_condition(words)?)),
         "joining" => Ok(Terminal::Joining(read_joint(words)?)),
+        _ => read_collecting_terminal(version, name, words),
+    }
+}
+
+/// A terminal with a collector or a map, behind its name.
+#[tactic(auto, unfolding(crate::specs::SyntaxReading::collecting_names))]
+fn read_collecting_terminal<'a>(
+    version: Version,
+    name: &str,
+    words: &mut Words<'_, 'a>,
+) -> Result<Terminal<'a>, FileError>
+    ensures { GetsAs terminal_line_content (collecting_names version name.now words.old) result words.new }
+{
+    match name {
         "groupby" => Ok(Terminal::GroupBy(read_function(words)?, read_summary(version, words)?)),
         "partition" => Ok(Terminal::Partition(
             read_condition(words)?,

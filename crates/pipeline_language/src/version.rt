@@ -1,7 +1,7 @@
 //! Versions of the language.
 
 /// A version of the language. The second has all forms of the first, and some more.
-#[derive(Clone, Copy, Debug, PartialEq, Eq)]
+#[derive(Clone, Copy)]
 pub(crate) enum Version {
     One,
     Two,
