@@ -2,7 +2,7 @@
 ghost use Rattle.either.specs.Either.{either};
 ghost use Rattle.std.specs.Prelude.{◌≡◌, ◌++◌, ℕ, List, OnOk, string_bytes};
 ghost use Rattle.std.specs.Fmt.{signed_decimal};
-ghost use Rattle.pipeline_meaning.specs.Texts.{truth_text, optional_text, list_text, map_text, partition_text, pair_text};
+ghost use Rattle.pipeline_meaning.specs.Texts.{truth_text, optional_text, list_text, entry_text, map_text, partition_text, pair_text};
 
 use collectors::Partition;
 use either::{Either, Left, Right};
@@ -98,6 +98,22 @@ impl<T: Written> Written for Vec<T> {
     }
 }
 
+// Writes an entry of a map behind what separates it from the last.
+fn write_entry<K: Written, V: Written>(
+    separator: &str,
+    key: &K,
+    value: &V,
+    out: &mut String,
+) -> Result<(), NoMemory>
+    ensures { OnOk result (string_bytes out.new ≡ string_bytes out.old
+        ++ separator.now ++ entry_text K.text V.text (key.now, value.now)) }
+{
+    out.push_str(separator)?;
+    key.write_to(out)?;
+    out.push_str("=")?;
+    value.write_to(out)
+}
+
 /// `{k=v, k=v}`, in the order of the entries.
 impl<K: Written + Eq + Hash, V: Written, S: BuildHasher> Written for IndexMap<K, V, S> {
     ghost text = { λ m. map_text K.text V.text m.entries };
@@ -106,10 +122,7 @@ impl<K: Written + Eq + Hash, V: Written, S: BuildHasher> Written for IndexMap<K,
         out.push_str("{")?;
         let mut separator = "";
         for (key, value) in self.iter() {
-            out.push_str(separator)?;
-            key.write_to(out)?;
-            out.push_str("=")?;
-            value.write_to(out)?;
+            write_entry(separator, key, value, out)?;
             separator = ", ";
         }
         out.push_str("}")?;
@@ -117,17 +130,32 @@ impl<K: Written + Eq + Hash, V: Written, S: BuildHasher> Written for IndexMap<K,
     }
 }
 
+// Writes two values with what stands before, between and behind them.
+fn write_two<A: Written, B: Written>(
+    front: &str,
+    first: &A,
+    between: &str,
+    second: &B,
+    end: &str,
+    out: &mut String,
+) -> Result<(), NoMemory>
+    ensures { OnOk result (string_bytes out.new ≡ string_bytes out.old
+        ++ front.now ++ A.text first.now ++ between.now ++ B.text second.now ++ end.now) }
+{
+    out.push_str(front)?;
+    first.write_to(out)?;
+    out.push_str(between)?;
+    second.write_to(out)?;
+    out.push_str(end)?;
+    Ok(())
+}
+
 /// `{false=x, true=y}`.
 impl<R: Written> Written for Partition<R> {
     ghost text = { λ p. partition_text (R.text p.no) (R.text p.yes) };
 
     fn write_to(&self, out: &mut String) -> Result<(), NoMemory> {
-        out.push_str("{false=")?;
-        self.no.write_to(out)?;
-        out.push_str(", true=")?;
-        self.yes.write_to(out)?;
-        out.push_str("}")?;
-        Ok(())
+        write_two("{false=", &self.no, ", true=", &self.yes, "}", out)
     }
 }
 
@@ -136,12 +164,7 @@ impl<A: Written, B: Written> Written for (A, B) {
     ghost text = { λ p. pair_text (A.text p.0) (B.text p.1) };
 
     fn write_to(&self, out: &mut String) -> Result<(), NoMemory> {
-        out.push_str("[")?;
-        self.0.write_to(out)?;
-        out.push_str(", ")?;
-        self.1.write_to(out)?;
-        out.push_str("]")?;
-        Ok(())
+        write_two("[", &self.0, ", ", &self.1, "]", out)
     }
 }
 

@@ -1,5 +1,5 @@
 -- One more entry was written behind its separator.
-use Rattle.std.proofs.Common.{rules, ◌≡◌, ◌++◌, ◌∷◌, map, sym, ap, ◌∙◌, append_assoc, codes}
+use Rattle.std.proofs.Common.{rules, ◌≡◌, ◌++◌, ◌∷◌, map, sym, ap, ◌∙◌}
 use Rattle.std.specs.Prelude.{string_bytes}
 use Rattle.pipeline_meaning.specs.Texts.{entry_text}
 use Rattle.pipeline_meaning.proofs.Separated.{behind, behind-next}
@@ -11,9 +11,5 @@ loop-key-preserved g c =
     let done = string_bytes c.loop-key.out in
     let entry : g.row.K.Denot × g.row.V.Denot = (c.in-Some.key.now, c.in-Some.value.now) in
     let left : c.loop-key.key-iterator ≡ entry ∷ c.next.new.self = c.in-Some.ensures.steps in
-    let now : string_bytes c.write_to-in-loop-key.new.out ≡ done ++ c.loop-key.separator.now ++ (g.K.Written.text entry.0 ++ codes "=" ++ g.V.Written.text entry.1) =
-    (c.in_ok-write_to-2.ensures
-    ∙ ap (λ b. b ++ g.V.Written.text entry.1) (c.in_ok-push_str-3.ensures.bytes
-    ∙ ap (λ b. b ++ codes "=") (c.in_ok-write_to.ensures ∙ ap (λ b. b ++ g.K.Written.text entry.0) c.in_ok-push_str-2.ensures.bytes)))
-    ∙ simp append_assoc in
+    let now : string_bytes c.write_entry.new.out ≡ done ++ c.loop-key.separator.now ++ text entry = c.in_ok-write_entry.ensures in
     (tt, tt, search rules, behind-next done _ _ _ _ now ∙ ap (λ es. done ++ behind c.loop-key.separator.now (map text es)) (sym left) ∙ c.loop-key.invariant.3)
