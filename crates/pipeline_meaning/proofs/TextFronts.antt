@@ -1,9 +1,9 @@
 -- Prepared stages over texts, and words of texts.
-use Rattle.std.specs.Prelude.{◌≡◌, ◌==◌, ℕ, List, [], ◌∷◌, Option, Some, None, MatchOption, filter, refl}
-use Rattle.std.proofs.Common.{Bor, arith, lit<, ap, ap₂, sym, subst, ◌∙◌}
+use Rattle.std.specs.Prelude.{◌≡◌, ◌≤◌, ◌+◌, ◌==◌, ⊤, ℕ, List, [], ◌∷◌, Option, Some, None, MatchOption, filter, length, refl}
+use Rattle.std.proofs.Common.{Bor, arith, lit<, ap, ap₂, sym, subst, ◌∙◌, length-append}
 use Rattle.std.proofs.lemmas.List.Splits.{slice_split_first, slice_split_none}
 use Rattle.std.proofs.lemmas.List.Sums.{fails_before_first}
-use Rattle.std.proofs.lemmas.Str.Pattern.{split_once_first, IsSplitOnceResult}
+use Rattle.std.proofs.lemmas.Str.Pattern.{split_once_first, split_parts, IsSplitOnceResult}
 use Rattle.pipeline_language.specs.Words.{words_of}
 use Rattle.pipeline_language.specs.declared.pipeline.TextTest.{TextTest}
 use Rattle.pipeline_language.specs.declared.pipeline.TextStage.{TextStage}
@@ -24,6 +24,14 @@ first-words bs None h =
 first-words bs (Some x) h =
     let cut = split_once_first 32 bs (Some x) h (lit< tt) in
     slice_split_first (λ b. b == 32) bs 0 cut.0 ∙ ap₂ (λ (a b : List ℕ). a ∷ words_of b) (sym cut.1) (sym cut.2)
+
+-- what follows the cut is shorter
+pub later-shorter : (bs : List ℕ) (r : Option (Bor (List ℕ) × Bor (List ℕ))) → IsSplitOnceResult 32 bs r
+    → MatchOption r ⊤ (λ x. length x.1.now + 1 ≤ length bs)
+later-shorter bs None h = tt
+later-shorter bs (Some x) h =
+    let parts = split_parts 32 bs (Some x) h (lit< tt) in
+    omega (arith, ap length parts.0, length-append x.0.now (32 ∷ x.1.now))
 
 -- a prepared map or filter is its stage
 pub itself-step : (stage : TextStage) → stage ≡ stages.MapItself → IsStep text_step_images text_stage is_map_step is_text_map Itself stage
