@@ -24,14 +24,24 @@ KINDS = ("proof", "tests", "must-fail", "wrong bodies")
 TICKS = os.sysconf("SC_CLK_TCK")
 
 
+def parents_of(number):
+    """The numbers of the processes above one."""
+    above = []
+    while number not in ("0", "1"):
+        number = pathlib.Path("/proc", number, "stat").read_text().rpartition(")")[2].split()[1]
+        above.append(number)
+    return above
+
+
 def check_of(process):
-    """The crate and the kind of the check that this process is, and the seconds that it took until now; None of any other process."""
+    """The crate and the kind of the check of this run that a process is, and the seconds that it took until now; None of any other process."""
     words = (process / "cmdline").read_bytes().decode(errors="replace").split("\0")
     if not words[0].endswith("/rattle") or "--crate-name" not in words:
         return None
     stat = (process / "stat").read_text().rpartition(")")[2].split()
-    if pathlib.Path("/proc", stat[1], "cmdline").read_bytes().startswith(words[0].encode()):
-        # (a copy that a check made of itself: its time comes to the check's own)
+    above = parents_of(process.name)
+    if str(os.getpid()) not in above or pathlib.Path("/proc", stat[1], "cmdline").read_bytes().startswith(words[0].encode()):
+        # (another's, or a copy that a check made of itself: its time comes to the check's own)
         return None
     folder = os.path.basename(os.readlink(process / "cwd"))
     kept = words[words.index("--incremental") + 1] if "--incremental" in words else ""
