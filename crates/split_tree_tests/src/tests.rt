@@ -1,5 +1,5 @@
-use split_tree::{DEPTH_LIMIT, MAX_TARGET, Plan, PlanError, Tree};
 use sources::{Concat, LinesSplit, RangeSplit};
+use split_tree::{DEPTH_LIMIT, MAX_TARGET, Plan, PlanError, Tree};
 use spliterator::{NoMemory, Spliterator};
 use std::alloc::Global;
 use std::process::Abort;

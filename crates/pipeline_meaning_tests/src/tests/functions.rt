@@ -1,9 +1,9 @@
 //! Functions of numbers and texts, made of what a file names.
 
+use pipeline_language::{NumberFunction, NumberMerge, NumberTest, TextMerge, TextTest};
 use pipeline_meaning::{
     Divisor, Itself, NumberCheck, NumberMapping, NumberMerging, TextCheck, TextLength, TextMerging,
 };
-use pipeline_language::{NumberFunction, NumberMerge, NumberTest, TextMerge, TextTest};
 use spliterator::{NoMemory, Text, Value};
 use stages::{Mapping, Operator, Test};
 use std::test::Fail;

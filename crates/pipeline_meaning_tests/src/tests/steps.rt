@@ -1,6 +1,6 @@
 //! Stages as steps, fed item by item.
-use pipeline_meaning::{NumberSteps, TextSteps};
 use pipeline_language::{NumberFunction, NumberStage, NumberTest, TextStage, TextTest};
+use pipeline_meaning::{NumberSteps, TextSteps};
 use spliterator::NoMemory;
 use stages::{Operation, Stage};
 use std::alloc::Global;

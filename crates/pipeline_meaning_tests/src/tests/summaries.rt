@@ -1,14 +1,14 @@
 //! The texts of values, and of what the language's collectors make.
-use pipeline_meaning::{
-    Both, NumberCheck, NumberMapping, NumberMerging, SeededHashes, Summarizes, Written,
-    number_summary, text_inner, text_lengths, text_summary, write_result,
-};
 use collectors::{
     Collector, GroupingBy, Joining, PartitioningBy, Teeing, ToMap, ToMapStrict, collect,
 };
 use pipeline_language::{
     NumberBase, NumberFunction, NumberInner, NumberMerge, NumberSummary, NumberTest, TextBase,
     TextFunction, TextInner, TextSummary,
+};
+use pipeline_meaning::{
+    Both, NumberCheck, NumberMapping, NumberMerging, SeededHashes, Summarizes, Written,
+    number_summary, text_inner, text_lengths, text_summary, write_result,
 };
 use spliterator::NoMemory;
 use std::alloc::Global;

@@ -1,6 +1,6 @@
 //! Few steps as a small stage.
-use pipeline_meaning::{NumberSteps, NumberWalk, Passage};
 use pipeline_language::{NumberFunction, NumberStage, NumberTest};
+use pipeline_meaning::{NumberSteps, NumberWalk, Passage};
 use spliterator::NoMemory;
 use stages::{Mapping, Nothing, Operation, Stage};
 use std::alloc::Global;

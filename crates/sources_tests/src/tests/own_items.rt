@@ -4,8 +4,8 @@ ghost use Rattle.std.specs.Ordering.{int_eq, int_cmp};
 ghost use Rattle.spliterator.specs.Values.{IsI64, int_eq-decides, int_cmp-total, int_cmp-ties};
 
 use super::read;
-use sources::{Concat, DequeSplit, SliceSplit};
 use either::{Either, Right};
+use sources::{Concat, DequeSplit, SliceSplit};
 use spliterator::{NoMemory, OrderedValue, Spliterator, Value};
 use std::alloc::{AllocError, Global};
 use std::collections::VecDeque;

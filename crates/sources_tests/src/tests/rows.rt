@@ -1,6 +1,6 @@
 use super::{read, wrapped};
-use sources::{Concat, DequeSplit, LinesSplit, MAX_RANGE, RangeSplit, RangeTooLong, SliceSplit};
 use either::{Either, Left, Right};
+use sources::{Concat, DequeSplit, LinesSplit, MAX_RANGE, RangeSplit, RangeTooLong, SliceSplit};
 use spliterator::{MAX_ESTIMATE, NoMemory, Spliterator};
 use std::alloc::Global;
 use std::process::Abort;

@@ -1,6 +1,6 @@
 use super::{read, wrapped};
-use sources::{Concat, DequeSplit, LinesSplit, RangeSplit, SliceSplit};
 use either::{Either, Left, Right};
+use sources::{Concat, DequeSplit, LinesSplit, RangeSplit, SliceSplit};
 use spliterator::{NoMemory, Spliterator};
 use std::alloc::Global;
 use std::process::Abort;

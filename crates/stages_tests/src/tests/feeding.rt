@@ -5,10 +5,10 @@ ghost use Rattle.spliterator.specs.Values.{IsI64};
 ghost use Rattle.stages.specs.Products.{wrapped_product};
 ghost use Rattle.stages.specs.Wrapping.{wrapped_sum, wrapped-value};
 
+use spliterator::NoMemory;
 use stages::{
     Filter, FlatMap, Map, Mapping, Nothing, Operation, Operator, Sink, Stage, Test, Then, WrapAdd,
 };
-use spliterator::NoMemory;
 use std::alloc::Global;
 use std::process::Abort;
 use std::test::Fail;

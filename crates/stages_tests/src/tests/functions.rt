@@ -3,11 +3,11 @@ ghost use Rattle.std.specs.Prelude.{◌≡◌, pos, ◌+ℤ◌, ◌*ℤ◌, IfOk
 ghost use Rattle.stages.specs.Products.{wrapped_product};
 ghost use Rattle.stages.specs.Wrapping.{wrapped_sum, wrapped-value};
 
+use spliterator::{NoMemory, Value};
 use stages::{
     FirstOf, FromFn, LastOf, Mapping, MappingDefinition, Max, Min, Operator, OperatorDefinition,
     OperatorFn, Test, TestDefinition, TestFn, WrapAdd, WrapMul,
 };
-use spliterator::{NoMemory, Value};
 use std::test::Fail;
 
 struct Tenfold;
