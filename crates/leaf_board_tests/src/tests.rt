@@ -10,8 +10,8 @@ mod shares;
 mod simulation;
 mod threads;
 
-use leaf_board::{Board, BoardSeat, Case, Draw, LeafBoard, LeafPass};
 use barriers::Need;
+use leaf_board::{Board, BoardSeat, Case, Draw, LeafBoard, LeafPass};
 use std::alloc::Global;
 use std::marker::Brand;
 use std::process::Abort;

@@ -4,8 +4,8 @@ ghost use Rattle.leaf_board.specs.Seats.{SameSeat};
 ghost use Rattle.leaf_board.specs.Boards.{case_of};
 
 use super::{drained, leaf};
-use leaf_board::{Board, BoardSeat, Case, LeafBoard};
 use barriers::Need;
+use leaf_board::{Board, BoardSeat, Case, LeafBoard};
 use std::alloc::Global;
 use std::marker::Brand;
 use std::process::Abort;

@@ -9,8 +9,8 @@ ghost use Rattle.leaf_board.specs.Hands.{IsOn, number_of};
 ghost use Rattle.leaf_board.specs.Boards.{case_of, Holds, AllHold};
 
 use super::plain::{Plain, Setting};
-use leaf_board::{Board, BoardSeat, Case, Draw, LeafBoard, LeafPass, Record};
 use barriers::Need;
+use leaf_board::{Board, BoardSeat, Case, Draw, LeafBoard, LeafPass, Record};
 use std::alloc::{AllocError, Global};
 use std::marker::Brand;
 use std::mem;
@@ -395,7 +395,13 @@ fn leaves_right_of_the_cut_are_skipped(rt: HostRuntime) -> Result<(), Fail> {
         then(0, Act::Draw, None, Some(1)),
         then(0, Act::Draw, None, Some(1)),
     ];
-    play(&rt, rt.alloc(), &setting, &steps, &[Some(2), Some(1), None, None])
+    play(
+        &rt,
+        rt.alloc(),
+        &setting,
+        &steps,
+        &[Some(2), Some(1), None, None],
+    )
 }
 
 // A cut is sought though leaves left of it are not finished.
@@ -416,7 +422,13 @@ fn a_gap_is_no_bar_to_a_cut(rt: HostRuntime) -> Result<(), Fail> {
         then(0, Act::Skip, None, Some(1)),
         then(0, Act::Draw, None, Some(1)),
     ];
-    play(&rt, rt.alloc(), &setting, &steps, &[Some(2), Some(1), Some(3), None])
+    play(
+        &rt,
+        rt.alloc(),
+        &setting,
+        &steps,
+        &[Some(2), Some(1), Some(3), None],
+    )
 }
 
 #[test]

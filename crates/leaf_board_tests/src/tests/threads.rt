@@ -7,8 +7,8 @@ ghost use Rattle.leaf_board.specs.Statuses.{AreSeats};
 ghost use Rattle.leaf_board.specs.Hands.{IsOn, number_of};
 ghost use Rattle.leaf_board.specs.Boards.{largest};
 
-use leaf_board::{Board, BoardSeat, Case, Draw, LeafBoard, LeafPass, Record};
 use barriers::Need;
+use leaf_board::{Board, BoardSeat, Case, Draw, LeafBoard, LeafPass, Record};
 use std::alloc::{AllocError, Global};
 use std::marker::Brand;
 use std::process::Abort;

@@ -1,9 +1,9 @@
 //! Gates that hold a worker until another has come so far.
 
 use super::TURNS;
-use stealing_pool::Gate;
 use std::hint;
 use std::sync::atomic::{AtomicU64, Ordering};
+use stealing_pool::Gate;
 
 /// Turns until the number is as great as is wanted, and says whether it came to be.
 pub fn wait_for(number: &AtomicU64, wanted: u64) -> bool {

@@ -3,7 +3,6 @@ ghost use Rattle.std.specs.Prelude.{◌≤◌};
 
 use super::gates::{HoldsFirst, Meeting};
 use super::watched::{Above, Itself, MeetingLists, Times, Watched};
-use stealing_pool::{Gate, Gathered, NoGate, RunEntry, RunReport, run_leaves};
 use barriers::{Demand, FirstHit, Total, Whole};
 use collectors::{Collector, SummingLong, ToList};
 use sources::RangeSplit;
@@ -15,6 +14,7 @@ use std::process::Abort;
 use std::sync::atomic::{AtomicU64, Ordering};
 use std::test::Fail;
 use std::thread::Threads;
+use stealing_pool::{Gate, Gathered, NoGate, RunEntry, RunReport, run_leaves};
 
 /// Whether nobody waited in vain. Where one did, no second thread came: its start wanted memory.
 fn all_came(missed: &AtomicU64) -> Result<(), NoMemory> {
@@ -100,21 +100,21 @@ fn reports(entry: &RunEntry, leaves: usize, cut: usize, counts: &[(usize, u64)])
     true
 }
 
-/// The sum of the numbers of a range.
+/// A run that sums the numbers of a range.
 fn sum<R: Threads + Sync>(
     rt: &R,
     alloc: Global,
     range: RangeSplit,
     workers: u32,
     target: u64,
-) -> Result<i64, NoMemory>
+) -> Result<Gathered<i64>, NoMemory>
     requires { (1 ≤ workers) × (workers ≤ 64) }
 {
     let Ok(plan) = Plan::make(alloc, range, workers, target) else {
         return Err(NoMemory);
     };
     let collector = SummingLong::new(Itself);
-    let run = run_leaves(
+    run_leaves(
         rt,
         alloc,
         &plan,
@@ -123,58 +123,48 @@ fn sum<R: Threads + Sync>(
         &collector,
         workers,
         &NoGate,
-    )?;
-    Ok(run.acc)
+    )
 }
 
-/// Whether so many workers find this sum, at a target of 1 and at the default.
-fn find_sum<R: Threads + Sync>(
-    rt: &R,
-    alloc: Global,
-    range: RangeSplit,
-    workers: u32,
-    wanted: i64,
-) -> Result<bool, NoMemory>
-    requires { (1 ≤ workers) × (workers ≤ 64) }
-{
-    let apart = sum(rt, alloc, range, workers, 1)?;
-    let by_default = sum(rt, alloc, range, workers, 0)?;
-    Ok(apart == wanted && by_default == wanted)
-}
-
-/// Whether 1, 2, 7 and 64 workers all find this sum.
+/// Whether 1, 2, 7 and 64 workers all find this sum, at a target of 1 and at the default.
 fn all_find_sum<R: Threads + Sync>(
     rt: &R,
     alloc: Global,
     range: RangeSplit,
     wanted: i64,
 ) -> Result<bool, NoMemory> {
-    let few = find_sum(rt, alloc, range, 1, wanted)? && find_sum(rt, alloc, range, 2, wanted)?;
-    let many = find_sum(rt, alloc, range, 7, wanted)? && find_sum(rt, alloc, range, 64, wanted)?;
-    Ok(few && many)
+    for target in [1, 0] {
+        let few = sum(rt, alloc, range, 1, target)?.acc == wanted
+            && sum(rt, alloc, range, 2, target)?.acc == wanted;
+        let many = sum(rt, alloc, range, 7, target)?.acc == wanted
+            && sum(rt, alloc, range, 64, target)?.acc == wanted;
+        if !few || !many {
+            return Ok(false);
+        }
+    }
+    Ok(true)
 }
 
 #[test]
 fn sums_are_those_of_one_thread(rt: HostRuntime) -> Result<(), Fail> {
-    let alloc = rt.alloc();
-    assert!(rt; all_find_sum(&rt, alloc, RangeSplit::range(1, 6)?, 15)?);
-    assert!(rt; all_find_sum(&rt, alloc, RangeSplit::range(5, 5)?, 0)?);
     let greatest = RangeSplit::closed(9_223_372_036_854_775_806, 9_223_372_036_854_775_807)?;
-    assert!(rt; all_find_sum(&rt, alloc, greatest, -3)?);
-    assert!(rt; all_find_sum(&rt, alloc, RangeSplit::range(0, 100)?, 4950)?);
+    for (range, wanted) in [
+        (RangeSplit::range(1, 6)?, 15),
+        (RangeSplit::range(5, 5)?, 0),
+        (greatest, -3),
+        (RangeSplit::range(0, 100)?, 4950),
+    ] {
+        assert!(rt;
+            all_find_sum(&rt, rt.alloc(), range, wanted)?,
+            "the sum {wanted}"
+        );
+    }
     Ok(())
 }
 
 #[test]
 fn a_report_tells_the_leaves_of_a_whole_run(rt: HostRuntime) -> Result<(), Fail> {
-    let shape = Shape {
-        end: 100_000,
-        target: 0,
-        workers: 4,
-    };
-    let stage = Nothing::new();
-    let collector = SummingLong::new(Itself);
-    let run = run(&rt, rt.alloc(), shape, &stage, &Whole, &collector, &NoGate)?;
+    let run = sum(&rt, rt.alloc(), RangeSplit::range(0, 100_000)?, 4, 0)?;
     assert!(rt; run.acc == 4_999_950_000);
     assert!(rt; run.entry.leaves() == 16 && run.entry.cut().is_none());
     assert!(rt; run.entry.count(15) == Some(0));
@@ -183,7 +173,7 @@ fn a_report_tells_the_leaves_of_a_whole_run(rt: HostRuntime) -> Result<(), Fail>
 
 #[test]
 fn sixty_four_workers_share_one_item(rt: HostRuntime) -> Result<(), Fail> {
-    assert!(rt; sum(&rt, rt.alloc(), RangeSplit::range(7, 8)?, 64, 1)? == 7);
+    assert!(rt; sum(&rt, rt.alloc(), RangeSplit::range(7, 8)?, 64, 1)?.acc == 7);
     Ok(())
 }
 
@@ -328,7 +318,15 @@ fn one_hit_skips_all_that_follows(rt: HostRuntime) -> Result<(), Fail> {
     };
     let demand = FirstHit::new(Above { limit: 2 });
     let lists = ToList::new(rt.alloc());
-    let run = run(&rt, rt.alloc(), shape, &Nothing::new(), &demand, &lists, &NoGate)?;
+    let run = run(
+        &rt,
+        rt.alloc(),
+        shape,
+        &Nothing::new(),
+        &demand,
+        &lists,
+        &NoGate,
+    )?;
     assert!(rt; are_from_zero(run.acc.as_slice(), 4));
     assert!(rt; reports(&run.entry, 16, 0, &[(0, 1)]));
     Ok(())
@@ -384,7 +382,15 @@ fn of_ten<R: Threads + Sync>(
         factor: 1,
         refused: 7,
     };
-    listed(rt, alloc, shape, refusing, -1, needed, &HoldsFirst::until(0, 0))
+    listed(
+        rt,
+        alloc,
+        shape,
+        refusing,
+        -1,
+        needed,
+        &HoldsFirst::until(0, 0),
+    )
 }
 
 #[test]
@@ -414,7 +420,7 @@ fn seven_workers_may_meet_a_refusal(rt: HostRuntime) -> Result<(), Fail> {
 #[test]
 fn seven_workers_sum_or_want_memory(rt: HostRuntime) -> Result<(), Fail> {
     match sum(&rt, rt.alloc(), RangeSplit::range(0, 100)?, 7, 10) {
-        Ok(total) => assert!(rt; total == 4950),
+        Ok(run) => assert!(rt; run.acc == 4950),
         Err(NoMemory) => {}
     }
     Ok(())

@@ -6,7 +6,6 @@ ghost use Rattle.stealing_pool.specs.Fronts.{folding, EndsList, IsFront, joined,
 
 use super::plan_of;
 use super::watched::Itself;
-use stealing_pool::{Gathered, LeafEnd, LeafJob, NoGate, run_job, run_leaf};
 use barriers::{Demand, Need, Whole};
 use collectors::{Collector, SummingLong, combine_containers};
 use leaf_board::Handout;
@@ -17,6 +16,7 @@ use stages::Nothing;
 use std::alloc::Global;
 use std::test::Fail;
 use std::thread::Threads;
+use stealing_pool::{Gathered, LeafEnd, LeafJob, NoGate, run_job, run_leaf};
 
 /// A stream, as far as its last run goes: it hands the items of each leaf to a demand and a collector.
 trait LastRun {
