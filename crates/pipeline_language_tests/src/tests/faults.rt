@@ -64,17 +64,6 @@ const SOURCES: [(&[u8], &str); 20] = [
     (b"lines 1\n\xc3\xa9\nmap length\nsum\n", "read"),
 ];
 
-#[test]
-fn tells_the_faults_of_a_source(rt: HostRuntime) -> Result<(), Fail> {
-    for first_line in VERSIONS {
-        assert_eq!(rt;
-            first_wrong(rt.alloc(), first_line, SOURCES.as_slice())?,
-            None
-        );
-    }
-    Ok(())
-}
-
 /// Files with a fault in their stages or their terminal, and the fault.
 const BODY_FAULTS: [(&[u8], &str); 24] = [
     (b"range 0 10\nmap mull 3\nsum\n", "line 3: UNKNOWN_WORD"),
@@ -122,8 +111,12 @@ const BODY_FAULTS: [(&[u8], &str); 24] = [
 ];
 
 #[test]
-fn tells_the_faults_of_a_body(rt: HostRuntime) -> Result<(), Fail> {
+fn tells_the_faults_of_a_source_and_of_a_body(rt: HostRuntime) -> Result<(), Fail> {
     for first_line in VERSIONS {
+        assert_eq!(rt;
+            first_wrong(rt.alloc(), first_line, SOURCES.as_slice())?,
+            None
+        );
         assert_eq!(rt;
             first_wrong(rt.alloc(), first_line, BODY_FAULTS.as_slice())?,
             None
@@ -132,26 +125,40 @@ fn tells_the_faults_of_a_body(rt: HostRuntime) -> Result<(), Fail> {
     Ok(())
 }
 
+/// Numbers of stages and a line behind them, with what is told of such a file.
+const STAGES: [(usize, &str, &str); 6] = [
+    (32, "", "read"),
+    (33, "", "line 35: TOO_MANY_STAGES"),
+    (32, "map mul 03\n", "line 35: BAD_NUMBER"),
+    (32, "map mul\n", "line 35: BAD_ARITY"),
+    (32, "map length\n", "line 35: WRONG_KIND"),
+    (32, "map size\n", "line 35: UNKNOWN_WORD"),
+];
+
+/// What is told of a file of a version with so many stages and a line behind them.
+fn told_of_stages(
+    alloc: Global,
+    first_line: &[u8],
+    count: usize,
+    line: &str,
+) -> Result<String, AllocError> {
+    let mut file = Vec::new(alloc);
+    file.extend_from_slice(first_line)?;
+    file.extend_from_slice(b"range 0 1\n")?;
+    for _ in 0..count {
+        file.extend_from_slice(b"map self\n")?;
+    }
+    file.extend_from_slice(line.as_bytes())?;
+    file.extend_from_slice(b"sum\n")?;
+    told(alloc, file.as_slice())
+}
+
 #[test]
 fn counts_the_stages(rt: HostRuntime) -> Result<(), Fail> {
-    let alloc = rt.alloc();
-    let rows = [
-        (32, "", "read"),
-        (33, "", "line 35: TOO_MANY_STAGES"),
-        (32, "map mul 03\n", "line 35: BAD_NUMBER"),
-        (32, "map mul\n", "line 35: BAD_ARITY"),
-        (32, "map length\n", "line 35: WRONG_KIND"),
-        (32, "map size\n", "line 35: UNKNOWN_WORD"),
-    ];
-    for (count, line, wanted) in rows {
-        for version in [1, 2] {
-            let mut file = format!(in alloc; "pipeline {version}\nrange 0 1\n")?;
-            for _ in 0..count {
-                file.push_str("map self\n")?;
-            }
-            file.push_str(line)?;
-            file.push_str("sum\n")?;
-            assert_eq!(rt; told(alloc, file.as_bytes())?.as_str(), wanted);
+    for first_line in VERSIONS {
+        for (count, line, wanted) in STAGES {
+            let told = told_of_stages(rt.alloc(), first_line, count, line)?;
+            assert_eq!(rt; told.as_str(), wanted);
         }
     }
     Ok(())

@@ -60,7 +60,7 @@ fn reads_stages_over_numbers(rt: HostRuntime) -> Result<(), Fail> {
 }
 
 /// The terminal of a pipeline over no numbers, of a version, whose last line is the given one.
-pub(super) fn number_terminal(
+fn number_terminal(
     alloc: Global,
     version: u64,
     line: &str,
@@ -74,67 +74,77 @@ pub(super) fn number_terminal(
     }
 }
 
-#[test]
-fn reads_terminals_of_numbers(rt: HostRuntime) -> Result<(), Fail> {
-    let below = NumberTest::Less(3);
-    let rows: [(&str, NumberTerminal); 10] = [
-        ("sum", NumberTerminal::Sum),
-        ("product", NumberTerminal::Product),
-        ("max", NumberTerminal::Max),
-        ("min", NumberTerminal::Min),
-        ("count", NumberTerminal::Count),
-        ("findfirst", NumberTerminal::FindFirst),
-        ("tolist", NumberTerminal::ToList),
-        ("allmatch less 3", NumberTerminal::AllMatch(below)),
-        ("anymatch less 3", NumberTerminal::AnyMatch(below)),
-        ("nonematch less 3", NumberTerminal::NoneMatch(below)),
-    ];
-    for (line, wanted) in rows {
-        assert_eq!(rt; number_terminal(rt.alloc(), 1, line)?, Some(wanted));
-        assert_eq!(rt; number_terminal(rt.alloc(), 2, line)?, Some(wanted));
+/// The first of the rows whose line isn't read as its terminal, or is read at all in a version that doesn't know it, by its place.
+pub(super) fn first_other(
+    alloc: Global,
+    version: u64,
+    is_known: bool,
+    rows: &[(&str, NumberTerminal)],
+) -> Result<Option<usize>, AllocError> {
+    for (index, (line, wanted)) in rows.iter().enumerate() {
+        let terminal = number_terminal(alloc, version, line)?;
+        if terminal != is_known.then_some(*wanted) {
+            return Ok(Some(index));
+        }
     }
-    Ok(())
+    Ok(None)
 }
 
+const BELOW: NumberTest = NumberTest::Less(3);
+
+const ODD: NumberFunction = NumberFunction::Mod(2);
+
+/// Terminals that both versions have.
+const TERMINALS: [(&str, NumberTerminal); 16] = [
+    ("sum", NumberTerminal::Sum),
+    ("product", NumberTerminal::Product),
+    ("max", NumberTerminal::Max),
+    ("min", NumberTerminal::Min),
+    ("count", NumberTerminal::Count),
+    ("findfirst", NumberTerminal::FindFirst),
+    ("tolist", NumberTerminal::ToList),
+    ("allmatch less 3", NumberTerminal::AllMatch(BELOW)),
+    ("anymatch less 3", NumberTerminal::AnyMatch(BELOW)),
+    ("nonematch less 3", NumberTerminal::NoneMatch(BELOW)),
+    (
+        "groupby mod 2 counting",
+        NumberTerminal::GroupBy(ODD, NumberSummary::Base(NumberBase::Count)),
+    ),
+    (
+        "groupby mod 2 count",
+        NumberTerminal::GroupBy(ODD, NumberSummary::Base(NumberBase::Count)),
+    ),
+    (
+        "partition less 3 tolist",
+        NumberTerminal::Partition(BELOW, NumberSummary::Base(NumberBase::ToList)),
+    ),
+    (
+        "teeing sum first",
+        NumberTerminal::Teeing(
+            NumberSummary::Base(NumberBase::Sum),
+            NumberSummary::Base(NumberBase::First),
+        ),
+    ),
+    (
+        "teeing max min",
+        NumberTerminal::Teeing(
+            NumberSummary::Base(NumberBase::Max),
+            NumberSummary::Base(NumberBase::Min),
+        ),
+    ),
+    (
+        "tomap mod 2 mod 2 sum",
+        NumberTerminal::ToMap(ODD, ODD, NumberMerge::Sum),
+    ),
+];
+
 #[test]
-fn reads_terminals_with_collectors(rt: HostRuntime) -> Result<(), Fail> {
-    let below = NumberTest::Less(3);
-    let odd = NumberFunction::Mod(2);
-    let rows: [(&str, NumberTerminal); 6] = [
-        (
-            "groupby mod 2 counting",
-            NumberTerminal::GroupBy(odd, NumberSummary::Base(NumberBase::Count)),
-        ),
-        (
-            "groupby mod 2 count",
-            NumberTerminal::GroupBy(odd, NumberSummary::Base(NumberBase::Count)),
-        ),
-        (
-            "partition less 3 tolist",
-            NumberTerminal::Partition(below, NumberSummary::Base(NumberBase::ToList)),
-        ),
-        (
-            "teeing sum first",
-            NumberTerminal::Teeing(
-                NumberSummary::Base(NumberBase::Sum),
-                NumberSummary::Base(NumberBase::First),
-            ),
-        ),
-        (
-            "teeing max min",
-            NumberTerminal::Teeing(
-                NumberSummary::Base(NumberBase::Max),
-                NumberSummary::Base(NumberBase::Min),
-            ),
-        ),
-        (
-            "tomap mod 2 mod 2 sum",
-            NumberTerminal::ToMap(odd, odd, NumberMerge::Sum),
-        ),
-    ];
-    for (line, wanted) in rows {
-        assert_eq!(rt; number_terminal(rt.alloc(), 1, line)?, Some(wanted));
-        assert_eq!(rt; number_terminal(rt.alloc(), 2, line)?, Some(wanted));
+fn reads_terminals_of_numbers(rt: HostRuntime) -> Result<(), Fail> {
+    for version in [1, 2] {
+        assert_eq!(rt;
+            first_other(rt.alloc(), version, true, TERMINALS.as_slice())?,
+            None
+        );
     }
     Ok(())
 }

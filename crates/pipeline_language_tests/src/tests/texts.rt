@@ -59,7 +59,7 @@ fn reads_stages_over_texts(rt: HostRuntime) -> Result<(), Fail> {
 }
 
 /// Whether a file is a pipeline of no texts with the terminal.
-pub(super) fn ends_with<'a>(
+fn ends_with<'a>(
     alloc: Global,
     file: &'a [u8],
     wanted: TextTerminal<'a>,
@@ -74,42 +74,55 @@ pub(super) fn ends_with<'a>(
     }
 }
 
+/// The first of the files that isn't a pipeline of no texts with its terminal, by its place.
+pub(super) fn first_other_end(
+    alloc: Global,
+    rows: &[(&[u8], TextTerminal<'static>)],
+) -> Result<Option<usize>, AllocError> {
+    for (index, (file, wanted)) in rows.iter().enumerate() {
+        if !ends_with(alloc, file, *wanted)? {
+            return Ok(Some(index));
+        }
+    }
+    Ok(None)
+}
+
+/// Files over texts, with their terminals.
+const TERMINALS: [(&[u8], TextTerminal<'static>); 9] = [
+    (b"pipeline 1\nlines 0\ncount", TextTerminal::Count),
+    (b"pipeline 1\nlines 0\nfindfirst", TextTerminal::FindFirst),
+    (b"pipeline 1\nlines 0\ntolist", TextTerminal::ToList),
+    (
+        b"pipeline 1\nlines 0\nallmatch longer 2",
+        TextTerminal::AllMatch(TextTest::Longer(2)),
+    ),
+    (b"pipeline 1\nlines 0\njoining ", TextTerminal::Joining("")),
+    (
+        b"pipeline 1\nlines 0\njoining - < >",
+        TextTerminal::JoiningWithin("-", "<", ">"),
+    ),
+    (
+        b"pipeline 1\nlines 0\ngroupby length joining +",
+        TextTerminal::GroupBy(
+            TextFunction::Length,
+            TextSummary::Base(TextBase::Joining("+")),
+        ),
+    ),
+    (
+        b"pipeline 1\nlines 0\ntomap self length sum",
+        TextTerminal::ToMap(TextFunction::Itself, TextValue::Length(NumberMerge::Sum)),
+    ),
+    (
+        b"pipeline 1\nlines 0\nteeing first tolist",
+        TextTerminal::Teeing(
+            TextSummary::Base(TextBase::First),
+            TextSummary::Base(TextBase::ToList),
+        ),
+    ),
+];
+
 #[test]
 fn reads_terminals_of_texts(rt: HostRuntime) -> Result<(), Fail> {
-    let rows: [(&[u8], TextTerminal<'_>); 9] = [
-        (b"pipeline 1\nlines 0\ncount", TextTerminal::Count),
-        (b"pipeline 1\nlines 0\nfindfirst", TextTerminal::FindFirst),
-        (b"pipeline 1\nlines 0\ntolist", TextTerminal::ToList),
-        (
-            b"pipeline 1\nlines 0\nallmatch longer 2",
-            TextTerminal::AllMatch(TextTest::Longer(2)),
-        ),
-        (b"pipeline 1\nlines 0\njoining ", TextTerminal::Joining("")),
-        (
-            b"pipeline 1\nlines 0\njoining - < >",
-            TextTerminal::JoiningWithin("-", "<", ">"),
-        ),
-        (
-            b"pipeline 1\nlines 0\ngroupby length joining +",
-            TextTerminal::GroupBy(
-                TextFunction::Length,
-                TextSummary::Base(TextBase::Joining("+")),
-            ),
-        ),
-        (
-            b"pipeline 1\nlines 0\ntomap self length sum",
-            TextTerminal::ToMap(TextFunction::Itself, TextValue::Length(NumberMerge::Sum)),
-        ),
-        (
-            b"pipeline 1\nlines 0\nteeing first tolist",
-            TextTerminal::Teeing(
-                TextSummary::Base(TextBase::First),
-                TextSummary::Base(TextBase::ToList),
-            ),
-        ),
-    ];
-    for (file, wanted) in rows {
-        assert!(rt; ends_with(rt.alloc(), file, wanted)?);
-    }
+    assert_eq!(rt; first_other_end(rt.alloc(), TERMINALS.as_slice())?, None);
     Ok(())
 }

@@ -1,178 +1,156 @@
 //! The words of the second version: collectors in collectors, and a map that refuses a repeated key.
 
 use super::first_wrong;
-use super::numbers::number_terminal;
-use super::texts::ends_with;
+use super::numbers::first_other;
+use super::texts::first_other_end;
 use pipeline_language::{
     NumberBase, NumberFunction, NumberInner, NumberSummary, NumberTerminal, NumberTest, TextBase,
     TextFunction, TextInner, TextSummary, TextTerminal, TextTest,
 };
-use std::alloc::Global;
-use std::process::Abort;
 use std::test::Fail;
 
-/// The terminal of a file of the second version, which the first does not have.
-fn is_of_second_version(
-    rt: &(impl Abort + Alloc<A = Global>),
-    rows: &[(&str, NumberTerminal)],
-) -> Result<(), Fail> {
-    for (line, wanted) in rows {
-        assert_eq!(rt; number_terminal(rt.alloc(), 2, line)?, Some(*wanted));
-        assert_eq!(rt; number_terminal(rt.alloc(), 1, line)?, None);
-    }
-    Ok(())
-}
+const ODD: NumberFunction = NumberFunction::Mod(2);
+
+const THIRDS: NumberFunction = NumberFunction::Mod(3);
+
+const COUNT: NumberInner = NumberInner::Base(NumberBase::Count);
+
+/// Terminals of numbers that the first version does not have.
+const NEW_TERMINALS: [(&str, NumberTerminal); 8] = [
+    (
+        "tomapstrict mod 10 self",
+        NumberTerminal::ToMapStrict(NumberFunction::Mod(10), NumberFunction::Itself),
+    ),
+    (
+        "tomapstrict self negate",
+        NumberTerminal::ToMapStrict(NumberFunction::Itself, NumberFunction::Negate),
+    ),
+    (
+        "groupby mod 2 groupby mod 3 counting",
+        NumberTerminal::GroupBy(ODD, NumberSummary::GroupBy(THIRDS, COUNT)),
+    ),
+    (
+        "partition less 3 mapping mul 10 tolist",
+        NumberTerminal::Partition(
+            NumberTest::Less(3),
+            NumberSummary::Mapping(
+                NumberFunction::Mul(10),
+                NumberInner::Base(NumberBase::ToList),
+            ),
+        ),
+    ),
+    (
+        "groupby mod 2 filtering greater 2 count",
+        NumberTerminal::GroupBy(ODD, NumberSummary::Filtering(NumberTest::Greater(2), COUNT)),
+    ),
+    (
+        "groupby mod 2 groupby mod 3 mapping negate max",
+        NumberTerminal::GroupBy(
+            ODD,
+            NumberSummary::GroupBy(
+                THIRDS,
+                NumberInner::Mapping(NumberFunction::Negate, NumberBase::Max),
+            ),
+        ),
+    ),
+    (
+        "partition equals 1 filtering divisible 2 filtering less 3 sum",
+        NumberTerminal::Partition(
+            NumberTest::Equals(1),
+            NumberSummary::Filtering(
+                NumberTest::Divisible(2),
+                NumberInner::Filtering(NumberTest::Less(3), NumberBase::Sum),
+            ),
+        ),
+    ),
+    (
+        "teeing mapping self mapping add 1 first groupby mod 2 min",
+        NumberTerminal::Teeing(
+            NumberSummary::Mapping(
+                NumberFunction::Itself,
+                NumberInner::Mapping(NumberFunction::Add(1), NumberBase::First),
+            ),
+            NumberSummary::GroupBy(ODD, NumberInner::Base(NumberBase::Min)),
+        ),
+    ),
+];
 
 #[test]
 fn reads_strict_maps_and_nested_collectors_of_numbers(rt: HostRuntime) -> Result<(), Fail> {
-    let odd = NumberFunction::Mod(2);
-    let thirds = NumberFunction::Mod(3);
-    let count = NumberInner::Base(NumberBase::Count);
-    let rows: [(&str, NumberTerminal); 5] = [
-        (
-            "tomapstrict mod 10 self",
-            NumberTerminal::ToMapStrict(NumberFunction::Mod(10), NumberFunction::Itself),
-        ),
-        (
-            "tomapstrict self negate",
-            NumberTerminal::ToMapStrict(NumberFunction::Itself, NumberFunction::Negate),
-        ),
-        (
-            "groupby mod 2 groupby mod 3 counting",
-            NumberTerminal::GroupBy(odd, NumberSummary::GroupBy(thirds, count)),
-        ),
-        (
-            "partition less 3 mapping mul 10 tolist",
-            NumberTerminal::Partition(
-                NumberTest::Less(3),
-                NumberSummary::Mapping(
-                    NumberFunction::Mul(10),
-                    NumberInner::Base(NumberBase::ToList),
-                ),
-            ),
-        ),
-        (
-            "groupby mod 2 filtering greater 2 count",
-            NumberTerminal::GroupBy(odd, NumberSummary::Filtering(NumberTest::Greater(2), count)),
-        ),
-    ];
-    is_of_second_version(&rt, &rows)
-}
-
-#[test]
-fn reads_collectors_of_numbers_in_two_levels(rt: HostRuntime) -> Result<(), Fail> {
-    let odd = NumberFunction::Mod(2);
-    let thirds = NumberFunction::Mod(3);
-    let rows: [(&str, NumberTerminal); 3] = [
-        (
-            "groupby mod 2 groupby mod 3 mapping negate max",
-            NumberTerminal::GroupBy(
-                odd,
-                NumberSummary::GroupBy(
-                    thirds,
-                    NumberInner::Mapping(NumberFunction::Negate, NumberBase::Max),
-                ),
-            ),
-        ),
-        (
-            "partition equals 1 filtering divisible 2 filtering less 3 sum",
-            NumberTerminal::Partition(
-                NumberTest::Equals(1),
-                NumberSummary::Filtering(
-                    NumberTest::Divisible(2),
-                    NumberInner::Filtering(NumberTest::Less(3), NumberBase::Sum),
-                ),
-            ),
-        ),
-        (
-            "teeing mapping self mapping add 1 first groupby mod 2 min",
-            NumberTerminal::Teeing(
-                NumberSummary::Mapping(
-                    NumberFunction::Itself,
-                    NumberInner::Mapping(NumberFunction::Add(1), NumberBase::First),
-                ),
-                NumberSummary::GroupBy(odd, NumberInner::Base(NumberBase::Min)),
-            ),
-        ),
-    ];
-    is_of_second_version(&rt, &rows)
-}
-
-#[test]
-fn reads_nested_collectors_of_texts(rt: HostRuntime) -> Result<(), Fail> {
-    let rows: [(&[u8], TextTerminal<'_>); 4] = [
-        (
-            b"pipeline 2\nlines 0\ntomapstrict self length",
-            TextTerminal::ToMapStrict(TextFunction::Itself, TextFunction::Length),
-        ),
-        (
-            b"pipeline 2\nlines 0\ngroupby length mapping length sum",
-            TextTerminal::GroupBy(
-                TextFunction::Length,
-                TextSummary::MappingLength(NumberInner::Base(NumberBase::Sum)),
-            ),
-        ),
-        (
-            b"pipeline 2\nlines 0\ngroupby self mapping length filtering less 3 max",
-            TextTerminal::GroupBy(
-                TextFunction::Itself,
-                TextSummary::MappingLength(NumberInner::Filtering(
-                    NumberTest::Less(3),
-                    NumberBase::Max,
-                )),
-            ),
-        ),
-        (
-            b"pipeline 2\nlines 0\npartition empty mapping self joining +",
-            TextTerminal::Partition(
-                TextTest::Empty,
-                TextSummary::MappingItself(TextInner::Base(TextBase::Joining("+"))),
-            ),
-        ),
-    ];
-    for (file, wanted) in rows {
-        assert!(rt; ends_with(rt.alloc(), file, wanted)?);
-    }
+    let rows = NEW_TERMINALS.as_slice();
+    assert_eq!(rt; first_other(rt.alloc(), 2, true, rows)?, None);
+    assert_eq!(rt; first_other(rt.alloc(), 1, false, rows)?, None);
     Ok(())
 }
 
-#[test]
-fn reads_collectors_of_texts_in_two_levels(rt: HostRuntime) -> Result<(), Fail> {
-    let rows: [(&[u8], TextTerminal<'_>); 3] = [
-        (
-            b"pipeline 2\nlines 0\npartition empty filtering starts a mapping length min",
-            TextTerminal::Partition(
-                TextTest::Empty,
-                TextSummary::Filtering(
-                    TextTest::Starts("a"),
-                    TextInner::MappingLength(NumberBase::Min),
-                ),
+/// Files of the second version over texts, with their terminals.
+const NEW_TEXT_TERMINALS: [(&[u8], TextTerminal<'static>); 7] = [
+    (
+        b"pipeline 2\nlines 0\ntomapstrict self length",
+        TextTerminal::ToMapStrict(TextFunction::Itself, TextFunction::Length),
+    ),
+    (
+        b"pipeline 2\nlines 0\ngroupby length mapping length sum",
+        TextTerminal::GroupBy(
+            TextFunction::Length,
+            TextSummary::MappingLength(NumberInner::Base(NumberBase::Sum)),
+        ),
+    ),
+    (
+        b"pipeline 2\nlines 0\ngroupby self mapping length filtering less 3 max",
+        TextTerminal::GroupBy(
+            TextFunction::Itself,
+            TextSummary::MappingLength(NumberInner::Filtering(
+                NumberTest::Less(3),
+                NumberBase::Max,
+            )),
+        ),
+    ),
+    (
+        b"pipeline 2\nlines 0\npartition empty mapping self joining +",
+        TextTerminal::Partition(
+            TextTest::Empty,
+            TextSummary::MappingItself(TextInner::Base(TextBase::Joining("+"))),
+        ),
+    ),
+    (
+        b"pipeline 2\nlines 0\npartition empty filtering starts a mapping length min",
+        TextTerminal::Partition(
+            TextTest::Empty,
+            TextSummary::Filtering(
+                TextTest::Starts("a"),
+                TextInner::MappingLength(NumberBase::Min),
             ),
         ),
-        (
-            b"pipeline 2\nlines 0\ngroupby length groupby self mapping self tolist",
-            TextTerminal::GroupBy(
+    ),
+    (
+        b"pipeline 2\nlines 0\ngroupby length groupby self mapping self tolist",
+        TextTerminal::GroupBy(
+            TextFunction::Length,
+            TextSummary::GroupBy(
+                TextFunction::Itself,
+                TextInner::MappingItself(TextBase::ToList),
+            ),
+        ),
+    ),
+    (
+        b"pipeline 2\nlines 0\nteeing groupby length filtering longer 1 first count",
+        TextTerminal::Teeing(
+            TextSummary::GroupBy(
                 TextFunction::Length,
-                TextSummary::GroupBy(
-                    TextFunction::Itself,
-                    TextInner::MappingItself(TextBase::ToList),
-                ),
+                TextInner::Filtering(TextTest::Longer(1), TextBase::First),
             ),
+            TextSummary::Base(TextBase::Count),
         ),
-        (
-            b"pipeline 2\nlines 0\nteeing groupby length filtering longer 1 first count",
-            TextTerminal::Teeing(
-                TextSummary::GroupBy(
-                    TextFunction::Length,
-                    TextInner::Filtering(TextTest::Longer(1), TextBase::First),
-                ),
-                TextSummary::Base(TextBase::Count),
-            ),
-        ),
-    ];
-    for (file, wanted) in rows {
-        assert!(rt; ends_with(rt.alloc(), file, wanted)?);
-    }
+    ),
+];
+
+#[test]
+fn reads_strict_maps_and_nested_collectors_of_texts(rt: HostRuntime) -> Result<(), Fail> {
+    assert_eq!(rt;
+        first_other_end(rt.alloc(), NEW_TEXT_TERMINALS.as_slice())?,
+        None
+    );
     Ok(())
 }
 
@@ -247,15 +225,6 @@ const MISPLACED: [(&[u8], &str); 9] = [
     ),
 ];
 
-#[test]
-fn new_words_have_their_places(rt: HostRuntime) -> Result<(), Fail> {
-    assert_eq!(rt;
-        first_wrong(rt.alloc(), b"pipeline 2\n", MISPLACED.as_slice())?,
-        None
-    );
-    Ok(())
-}
-
 /// Lines with too few or too many words, or a bad number, behind new words.
 const MISCOUNTED: [(&[u8], &str); 11] = [
     (b"numbers\ntomapstrict", "line 3: BAD_ARITY"),
@@ -288,15 +257,6 @@ const MISCOUNTED: [(&[u8], &str); 11] = [
     ),
     (b"numbers\ntomapstrict mul 03 length", "line 3: BAD_NUMBER"),
 ];
-
-#[test]
-fn counts_the_words_behind_new_words(rt: HostRuntime) -> Result<(), Fail> {
-    assert_eq!(rt;
-        first_wrong(rt.alloc(), b"pipeline 2\n", MISCOUNTED.as_slice())?,
-        None
-    );
-    Ok(())
-}
 
 /// Lines that don't take the items that come to a collector.
 const MISTAKEN: [(&[u8], &str); 13] = [
@@ -346,10 +306,13 @@ const MISTAKEN: [(&[u8], &str); 13] = [
 ];
 
 #[test]
-fn collectors_take_what_comes_to_them(rt: HostRuntime) -> Result<(), Fail> {
-    assert_eq!(rt;
-        first_wrong(rt.alloc(), b"pipeline 2\n", MISTAKEN.as_slice())?,
-        None
-    );
+fn new_words_have_their_places_their_words_and_their_items(rt: HostRuntime) -> Result<(), Fail> {
+    for rows in [
+        MISPLACED.as_slice(),
+        MISCOUNTED.as_slice(),
+        MISTAKEN.as_slice(),
+    ] {
+        assert_eq!(rt; first_wrong(rt.alloc(), b"pipeline 2\n", rows)?, None);
+    }
     Ok(())
 }
