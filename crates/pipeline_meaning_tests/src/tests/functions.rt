@@ -4,8 +4,9 @@ use pipeline_language::{NumberFunction, NumberMerge, NumberTest, TextMerge, Text
 use pipeline_meaning::{
     Divisor, Itself, NumberCheck, NumberMapping, NumberMerging, TextCheck, TextLength, TextMerging,
 };
-use spliterator::{NoMemory, Text, Value};
+use spliterator::{NoMemory, Value};
 use stages::{Mapping, Operator, Test};
+use std::process::Abort;
 use std::test::Fail;
 
 fn image<T: Value, M: Mapping<T>>(mapping: &M, x: &T) -> Result<M::Out, NoMemory>
@@ -14,56 +15,40 @@ fn image<T: Value, M: Mapping<T>>(mapping: &M, x: &T) -> Result<M::Out, NoMemory
     mapping.image(x)
 }
 
-fn of(function: NumberFunction, x: i64) -> Result<i64, NoMemory> {
-    image(&NumberMapping::of(function), &x)
-}
-
-fn meets(test: NumberTest, x: i64) -> bool {
-    NumberCheck::of(test).holds(&x)
-}
-
 fn joined<T: Value, O: Operator<T>>(operator: &O, a: &T, b: &T) -> Result<T, NoMemory>
     requires { O.ready operator.now }
 {
     operator.join(a, b)
 }
 
+/// The function, a number, and what it becomes.
 #[test]
-fn sums_products_and_negations_wrap(rt: HostRuntime) -> Result<(), Fail> {
-    assert_eq!(rt; of(NumberFunction::Add(5), -7)?, -2);
-    assert_eq!(rt; of(NumberFunction::Add(1), i64::MAX)?, i64::MIN);
-    assert_eq!(rt; of(NumberFunction::Mul(-3), 5)?, -15);
-    assert_eq!(rt; of(NumberFunction::Mul(-1), i64::MIN)?, i64::MIN);
-    assert_eq!(rt; of(NumberFunction::Mul(4), 1 << 62)?, 0);
-    assert_eq!(rt; of(NumberFunction::Negate, 5)?, -5);
-    assert_eq!(rt; of(NumberFunction::Negate, i64::MIN)?, i64::MIN);
-    assert_eq!(rt; of(NumberFunction::Itself, -4)?, -4);
-    Ok(())
-}
-
-#[test]
-fn remainders_are_never_negative(rt: HostRuntime) -> Result<(), Fail> {
-    let most = i64::MAX;
-    assert_eq!(rt; of(NumberFunction::Mod(3), -1)?, 2);
-    assert_eq!(rt; of(NumberFunction::Mod(3), -3)?, 0);
-    assert_eq!(rt; of(NumberFunction::Mod(3), 7)?, 1);
-    assert_eq!(rt; of(NumberFunction::Mod(1), -9)?, 0);
-    assert_eq!(rt; of(NumberFunction::Mod(2), -9)?, 1);
-    // 2^63 is 2 more than 3 times 3074457345618258602
-    assert_eq!(rt; of(NumberFunction::Mod(3), i64::MIN)?, 1);
-    assert_eq!(rt; of(NumberFunction::Mod(2), i64::MIN)?, 0);
-    assert_eq!(rt; of(NumberFunction::Mod(1 << 62), i64::MIN)?, 0);
-    assert_eq!(rt; of(NumberFunction::Mod(1 << 62), -1)?, (1 << 62) - 1);
-    assert_eq!(rt; of(NumberFunction::Mod(most), i64::MIN)?, most - 1);
-    assert_eq!(rt; of(NumberFunction::Mod(most), most)?, 0);
-    assert_eq!(rt; of(NumberFunction::Mod(most), -1)?, most - 1);
+fn numbers_are_mapped(rt: HostRuntime) -> Result<(), Fail> {
+    let rows: [(NumberFunction, i64, i64); 11] = [
+        (NumberFunction::Add(5), -7, -2),
+        (NumberFunction::Add(1), i64::MAX, i64::MIN),
+        (NumberFunction::Mul(-3), 5, -15),
+        (NumberFunction::Mul(-1), i64::MIN, i64::MIN),
+        (NumberFunction::Mul(4), 1 << 62, 0),
+        (NumberFunction::Negate, 5, -5),
+        (NumberFunction::Negate, i64::MIN, i64::MIN),
+        (NumberFunction::Itself, -4, -4),
+        (NumberFunction::Mod(3), -1, 2),
+        (NumberFunction::Mod(3), 7, 1),
+        // 2^63 is 2 more than 3 times 3074457345618258602
+        (NumberFunction::Mod(3), i64::MIN, 1),
+    ];
+    for (function, x, wanted) in rows {
+        let found = image(&NumberMapping::of(function), &x)?;
+        assert!(rt; found == wanted, "{x} becomes {found}");
+    }
     Ok(())
 }
 
 /// The number, the divisor, and the least remainder that isn't negative. A divisor below 1 counts as 1.
 #[test]
 fn prepared_divisors_divide(rt: HostRuntime) -> Result<(), Fail> {
-    let rows: [(i64, i64, i64); 20] = [
+    let rows: [(i64, i64, i64); 26] = [
         (0, 7, 0),
         (6, 7, 6),
         (7, 7, 0),
@@ -84,6 +69,12 @@ fn prepared_divisors_divide(rt: HostRuntime) -> Result<(), Fail> {
         (i64::MIN + 1, 1 << 62, 1),
         (i64::MIN, 0, 0),
         (5, -3, 0),
+        (-3, 3, 0),
+        (-9, 1, 0),
+        (-9, 2, 1),
+        (i64::MIN, 2, 0),
+        (-1, 1 << 62, 4611686018427387903),
+        (-1, i64::MAX, i64::MAX - 1),
     ];
     for (x, number, rest) in rows {
         let divisor = Divisor::new(number);
@@ -93,60 +84,95 @@ fn prepared_divisors_divide(rt: HostRuntime) -> Result<(), Fail> {
     Ok(())
 }
 
+/// The test, a number, and whether it passes.
 #[test]
 fn tests_of_numbers(rt: HostRuntime) -> Result<(), Fail> {
-    assert!(rt; meets(NumberTest::Less(5), 4));
-    assert!(rt; !meets(NumberTest::Less(5), 5));
-    assert!(rt; meets(NumberTest::Greater(5), 6));
-    assert!(rt; !meets(NumberTest::Greater(5), 5));
-    assert!(rt; meets(NumberTest::Equals(5), 5));
-    assert!(rt; !meets(NumberTest::Equals(5), -5));
-    assert!(rt; meets(NumberTest::Divisible(3), -9));
-    assert!(rt; !meets(NumberTest::Divisible(3), -8));
-    assert!(rt; meets(NumberTest::Divisible(3), 0));
-    assert!(rt; meets(NumberTest::Divisible(2), i64::MIN));
-    assert!(rt; !meets(NumberTest::Divisible(3), i64::MIN));
+    let rows: [(NumberTest, i64, bool); 11] = [
+        (NumberTest::Less(5), 4, true),
+        (NumberTest::Less(5), 5, false),
+        (NumberTest::Greater(5), 6, true),
+        (NumberTest::Greater(5), 5, false),
+        (NumberTest::Equals(5), 5, true),
+        (NumberTest::Equals(5), -5, false),
+        (NumberTest::Divisible(3), -9, true),
+        (NumberTest::Divisible(3), -8, false),
+        (NumberTest::Divisible(3), 0, true),
+        (NumberTest::Divisible(2), i64::MIN, true),
+        (NumberTest::Divisible(3), i64::MIN, false),
+    ];
+    for (test, x, wanted) in rows {
+        assert!(rt; NumberCheck::of(test).holds(&x) == wanted, "{x}");
+    }
     Ok(())
 }
 
-fn passes<T: Text>(test: TextTest<'_>, text: &T) -> bool {
-    TextCheck::of(test).holds(text)
+/// The test, a text, and whether it passes.
+type TextRow<'a> = (TextTest<'a>, &'a str, bool);
+
+fn check_texts(rt: &impl Abort, rows: &[TextRow<'_>]) -> Result<(), Fail> {
+    for &(test, text, wanted) in rows {
+        assert!(rt; TextCheck::of(test).holds(&text) == wanted, "{text}");
+    }
+    Ok(())
 }
 
 #[test]
-fn texts_are_seen_by_their_bytes(rt: HostRuntime) -> Result<(), Fail> {
+fn tests_of_texts(rt: HostRuntime) -> Result<(), Fail> {
     // one letter of the two bytes c3 a9
-    assert_eq!(rt; image(&TextLength, &"é")?, 2);
-    assert_eq!(rt; image(&TextLength, &"")?, 0);
-    assert_eq!(rt; image(&Itself, &"ab")?, "ab");
-    assert_eq!(rt; image(&Itself, &-3)?, -3);
-    assert!(rt; passes(TextTest::Empty, &""));
-    assert!(rt; !passes(TextTest::Empty, &" "));
-    assert!(rt; passes(TextTest::Starts(""), &""));
-    assert!(rt; passes(TextTest::Starts(""), &"ab"));
-    assert!(rt; passes(TextTest::Starts("ab"), &"abc"));
-    assert!(rt; !passes(TextTest::Starts("ab"), &"a"));
-    assert!(rt; !passes(TextTest::Starts("b"), &"ab"));
-    assert!(rt; passes(TextTest::Longer(1), &"é"));
-    assert!(rt; !passes(TextTest::Longer(2), &"é"));
-    assert!(rt; passes(TextTest::Starts("a"), &String::from_str(rt.alloc(), "ab")?));
+    let rows: [TextRow<'_>; 9] = [
+        (TextTest::Empty, "", true),
+        (TextTest::Empty, " ", false),
+        (TextTest::Starts(""), "", true),
+        (TextTest::Starts(""), "ab", true),
+        (TextTest::Starts("ab"), "abc", true),
+        (TextTest::Starts("ab"), "a", false),
+        (TextTest::Starts("b"), "ab", false),
+        (TextTest::Longer(1), "é", true),
+        (TextTest::Longer(2), "é", false),
+    ];
+    check_texts(&rt, &rows)
+}
+
+#[test]
+fn a_test_of_an_owned_text(rt: HostRuntime) -> Result<(), Fail> {
+    let owned = String::from_str(rt.alloc(), "ab")?;
+    assert!(rt; TextCheck::of(TextTest::Starts("a")).holds(&owned));
     Ok(())
 }
 
 #[test]
-fn values_of_one_key_are_joined(rt: HostRuntime) -> Result<(), Fail> {
-    assert_eq!(rt; joined(&NumberMerging::of(NumberMerge::First), &3, &5)?, 3);
-    assert_eq!(rt; joined(&NumberMerging::of(NumberMerge::Last), &3, &5)?, 5);
-    assert_eq!(rt;
-        joined(&NumberMerging::of(NumberMerge::Sum), &i64::MAX, &1)?,
-        i64::MIN
-    );
-    assert_eq!(rt; joined(&NumberMerging::of(NumberMerge::Max), &3, &5)?, 5);
-    assert_eq!(rt; joined(&NumberMerging::of(NumberMerge::Min), &3, &5)?, 3);
-    assert_eq!(rt;
-        joined(&TextMerging::of(TextMerge::First), &"a", &"b")?,
-        "a"
-    );
-    assert_eq!(rt; joined(&TextMerging::of(TextMerge::Last), &"a", &"b")?, "b");
+fn a_length_counts_bytes(rt: HostRuntime) -> Result<(), Fail> {
+    assert!(rt; image(&TextLength, &"é")? == 2);
+    assert!(rt; image(&TextLength, &"")? == 0);
+    Ok(())
+}
+
+#[test]
+fn an_item_becomes_itself(rt: HostRuntime) -> Result<(), Fail> {
+    assert!(rt; image(&Itself, &"ab")? == "ab");
+    assert!(rt; image(&Itself, &-3)? == -3);
+    Ok(())
+}
+
+#[test]
+fn numbers_of_one_key_are_joined(rt: HostRuntime) -> Result<(), Fail> {
+    let rows: [(NumberMerge, i64, i64, i64); 5] = [
+        (NumberMerge::First, 3, 5, 3),
+        (NumberMerge::Last, 3, 5, 5),
+        (NumberMerge::Sum, i64::MAX, 1, i64::MIN),
+        (NumberMerge::Max, 3, 5, 5),
+        (NumberMerge::Min, 3, 5, 3),
+    ];
+    for (merge, a, b, wanted) in rows {
+        let found = joined(&NumberMerging::of(merge), &a, &b)?;
+        assert!(rt; found == wanted, "{a} and {b} become {found}");
+    }
+    Ok(())
+}
+
+#[test]
+fn texts_of_one_key_are_joined(rt: HostRuntime) -> Result<(), Fail> {
+    assert!(rt; joined(&TextMerging::of(TextMerge::First), &"a", &"b")? == "a");
+    assert!(rt; joined(&TextMerging::of(TextMerge::Last), &"a", &"b")? == "b");
     Ok(())
 }

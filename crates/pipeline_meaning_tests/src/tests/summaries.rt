@@ -1,17 +1,16 @@
 //! The texts of values, and of what the language's collectors make.
-use collectors::{
-    Collector, GroupingBy, Joining, PartitioningBy, Teeing, ToMap, ToMapStrict, collect,
-};
+use collectors::{Collector, GroupingBy, Joining, PartitioningBy, Teeing, ToMap, collect};
 use pipeline_language::{
     NumberBase, NumberFunction, NumberInner, NumberMerge, NumberSummary, NumberTest, TextBase,
     TextFunction, TextInner, TextSummary,
 };
 use pipeline_meaning::{
     Both, NumberCheck, NumberMapping, NumberMerging, SeededHashes, Summarizes, Written,
-    number_summary, text_inner, text_lengths, text_summary, write_result,
+    number_base, number_summary, text_summary, write_result,
 };
 use spliterator::NoMemory;
 use std::alloc::Global;
+use std::process::Abort;
 use std::test::Fail;
 
 /// The text of what a collector makes of the items.
@@ -30,152 +29,131 @@ where
     Ok(text)
 }
 
-fn numbers(
-    alloc: Global,
-    hashes: SeededHashes,
-    summary: NumberSummary,
-    items: &[i64],
-) -> Result<String, NoMemory> {
-    text_of(alloc, &number_summary(alloc, hashes, summary), items)
-}
-
-fn base(base: NumberBase) -> NumberSummary {
-    NumberSummary::Base(base)
-}
-
+/// The summary, the items, and the text of what is made of these.
 #[test]
-fn bases_of_numbers(rt: HostRuntime) -> Result<(), Fail> {
-    let alloc = rt.alloc();
+fn summaries_of_numbers(rt: HostRuntime) -> Result<(), Fail> {
     let hashes = SeededHashes::of(&[7; 16]);
-    let items = [2, 5, 3];
-    assert_eq!(rt;
-        numbers(alloc, hashes, base(NumberBase::Count), &items)?.as_str(),
-        "3"
-    );
-    assert_eq!(rt;
-        numbers(alloc, hashes, base(NumberBase::Sum), &items)?.as_str(),
-        "10"
-    );
-    assert_eq!(rt;
-        numbers(alloc, hashes, base(NumberBase::Max), &items)?.as_str(),
-        "Optional[5]"
-    );
-    assert_eq!(rt;
-        numbers(alloc, hashes, base(NumberBase::Min), &items)?.as_str(),
-        "Optional[2]"
-    );
-    assert_eq!(rt;
-        numbers(alloc, hashes, base(NumberBase::First), &items)?.as_str(),
-        "Optional[2]"
-    );
-    assert_eq!(rt;
-        numbers(alloc, hashes, base(NumberBase::ToList), &items)?.as_str(),
-        "[2, 5, 3]"
-    );
-    assert_eq!(rt;
-        numbers(alloc, hashes, base(NumberBase::Max), &[])?.as_str(),
-        "Optional.empty"
-    );
-    assert_eq!(rt;
-        numbers(alloc, hashes, base(NumberBase::ToList), &[])?.as_str(),
-        "[]"
-    );
+    let items: &[i64] = &[2, 5, 3];
+    let rows: [(NumberBase, &[i64], &str); 8] = [
+        (NumberBase::Count, items, "3"),
+        (NumberBase::Sum, items, "10"),
+        (NumberBase::Max, items, "Optional[5]"),
+        (NumberBase::Min, items, "Optional[2]"),
+        (NumberBase::First, items, "Optional[2]"),
+        (NumberBase::ToList, items, "[2, 5, 3]"),
+        (NumberBase::Max, &[], "Optional.empty"),
+        (NumberBase::ToList, &[], "[]"),
+    ];
+    for (base, items, wanted) in rows {
+        let summary = number_summary(rt.alloc(), hashes, NumberSummary::Base(base));
+        let text = text_of(rt.alloc(), &summary, items)?;
+        assert!(rt; text.as_str() == wanted, "{text}");
+    }
     Ok(())
 }
 
 #[test]
 fn nested_groups(rt: HostRuntime) -> Result<(), Fail> {
-    let alloc = rt.alloc();
     let hashes = SeededHashes::of(&[7; 16]);
-    let counts = NumberSummary::GroupBy(
-        NumberFunction::Mod(3),
-        NumberInner::Base(NumberBase::Count),
-    );
-    let inner = number_summary(alloc, hashes, counts);
-    let key = NumberMapping::of(NumberFunction::Mod(2));
-    let groups = GroupingBy::with_hasher(alloc, key, inner, hashes);
-    let text = text_of(alloc, &groups, &[1, 2, 3, 4, 5, 6])?;
-    assert_eq!(rt; text.as_str(), "{1={1=1, 0=1, 2=1}, 0={2=1, 1=1, 0=1}}");
-    assert_eq!(rt; text_of(alloc, &groups, &[])?.as_str(), "{}");
-    let above = NumberSummary::Filtering(
-        NumberTest::Greater(2),
-        NumberInner::Base(NumberBase::Count),
-    );
-    let inner = number_summary(alloc, hashes, above);
-    let groups = GroupingBy::with_hasher(alloc, key, inner, hashes);
-    assert_eq!(rt; text_of(alloc, &groups, &[1, 2, 3])?.as_str(), "{1=1, 0=0}");
+    let count = NumberInner::Base(NumberBase::Count);
+    let counts = NumberSummary::GroupBy(NumberFunction::Mod(3), count);
+    let above = NumberSummary::Filtering(NumberTest::Greater(2), count);
+    let rows: [(NumberSummary, &[i64], &str); 3] = [
+        (
+            counts,
+            &[1, 2, 3, 4, 5, 6],
+            "{1={1=1, 0=1, 2=1}, 0={2=1, 1=1, 0=1}}",
+        ),
+        (counts, &[], "{}"),
+        (above, &[1, 2, 3], "{1=1, 0=0}"),
+    ];
+    for (summary, items, wanted) in rows {
+        let key = NumberMapping::of(NumberFunction::Mod(2));
+        let inner = number_summary(rt.alloc(), hashes, summary);
+        let groups = GroupingBy::with_hasher(rt.alloc(), key, inner, hashes);
+        let text = text_of(rt.alloc(), &groups, items)?;
+        assert!(rt; text.as_str() == wanted, "{text}");
+    }
     Ok(())
 }
 
 #[test]
-fn partitions_pairs_and_maps(rt: HostRuntime) -> Result<(), Fail> {
-    let alloc = rt.alloc();
-    let hashes = SeededHashes::of(&[7; 16]);
-    let tens = NumberSummary::Mapping(
-        NumberFunction::Mul(10),
-        NumberInner::Base(NumberBase::ToList),
-    );
-    let inner = number_summary(alloc, hashes, tens);
+fn a_partition(rt: HostRuntime) -> Result<(), Fail> {
+    let list = NumberInner::Base(NumberBase::ToList);
+    let tens = NumberSummary::Mapping(NumberFunction::Mul(10), list);
+    let inner = number_summary(rt.alloc(), SeededHashes::of(&[7; 16]), tens);
     let parts = PartitioningBy::new(NumberCheck::of(NumberTest::Less(3)), inner);
-    assert_eq!(rt;
-        text_of(alloc, &parts, &[1, 2, 3])?.as_str(),
-        "{false=[30], true=[10, 20]}"
-    );
-    let max = number_summary(alloc, hashes, base(NumberBase::Max));
-    let min = number_summary(alloc, hashes, base(NumberBase::Min));
-    let both = Teeing::new(max, min, Both);
-    assert_eq!(rt;
-        text_of(alloc, &both, &[2, 5, 3])?.as_str(),
-        "[Optional[5], Optional[2]]"
-    );
+    let text = text_of(rt.alloc(), &parts, &[1, 2, 3])?;
+    assert!(rt; text.as_str() == "{false=[30], true=[10, 20]}", "{text}");
+    Ok(())
+}
+
+#[test]
+fn a_pair(rt: HostRuntime) -> Result<(), Fail> {
+    let max = number_base(rt.alloc(), NumberBase::Max);
+    let min = number_base(rt.alloc(), NumberBase::Min);
+    let text = text_of(rt.alloc(), &Teeing::new(max, min, Both), &[2, 5, 3])?;
+    assert!(rt; text.as_str() == "[Optional[5], Optional[2]]", "{text}");
+    Ok(())
+}
+
+#[test]
+fn a_map(rt: HostRuntime) -> Result<(), Fail> {
+    let hashes = SeededHashes::of(&[7; 16]);
     let key = NumberMapping::of(NumberFunction::Mod(2));
     let value = NumberMapping::of(NumberFunction::Itself);
     let merge = NumberMerging::of(NumberMerge::Last);
-    let last = ToMap::<i64, i64, _, _, _, _>::with_hasher(alloc, key, value, merge, hashes);
-    assert_eq!(rt;
-        text_of(alloc, &last, &[1, 2, 3, 4])?.as_str(),
-        "{1=3, 0=4}"
-    );
+    let last = ToMap::<i64, i64, _, _, _, _>::with_hasher(rt.alloc(), key, value, merge, hashes);
+    let text = text_of(rt.alloc(), &last, &[1, 2, 3, 4])?;
+    assert!(rt; text.as_str() == "{1=3, 0=4}", "{text}");
     Ok(())
 }
 
-#[test]
-fn a_strict_map(rt: HostRuntime) -> Result<(), Fail> {
-    let alloc = rt.alloc();
-    let hashes = SeededHashes::of(&[7; 16]);
-    let key = NumberMapping::of(NumberFunction::Itself);
-    let value = NumberMapping::of(NumberFunction::Negate);
-    let strict = ToMapStrict::<i64, _, _, _>::with_hasher(alloc, key, value, hashes);
-    let mut text = String::new(alloc);
-    match collect(&strict, &[1, 2])? {
-        Ok(map) => map.write_to(&mut text)?,
-        Err(_) => text.push_str("repeated")?,
+/// The text of what a summary makes of texts.
+fn text_of_texts(
+    alloc: Global,
+    summary: TextSummary<'_>,
+    items: &[&str],
+) -> Result<String, NoMemory> {
+    let collector = text_summary(alloc, SeededHashes::of(&[7; 16]), summary);
+    text_of(alloc, &collector, items)
+}
+
+/// The summary, the items, and the text of what is made of these.
+type TextRow<'a> = (TextSummary<'a>, &'a [&'a str], &'a str);
+
+fn check_texts(rt: &(impl Abort + Alloc<A = Global>), rows: &[TextRow<'_>]) -> Result<(), Fail> {
+    for &(summary, items, wanted) in rows {
+        let text = text_of_texts(rt.alloc(), summary, items)?;
+        assert!(rt; text.as_str() == wanted, "{text}");
     }
-    assert_eq!(rt; text.as_str(), "{1=-1, 2=-2}");
     Ok(())
 }
 
 #[test]
 fn summaries_of_texts(rt: HostRuntime) -> Result<(), Fail> {
-    let alloc = rt.alloc();
-    let hashes = SeededHashes::of(&[7; 16]);
-    let items = ["a", "", "bb"];
-    let joined = text_inner(alloc, TextInner::Base(TextBase::Joining("+")));
-    assert_eq!(rt; text_of(alloc, &joined, &items)?.as_str(), "a++bb");
-    let lengths = text_lengths(alloc, NumberInner::Base(NumberBase::ToList));
-    assert_eq!(rt; text_of(alloc, &lengths, &items)?.as_str(), "[1, 0, 2]");
+    let joined = TextSummary::Base(TextBase::Joining("+"));
+    let lengths = TextSummary::MappingLength(NumberInner::Base(NumberBase::ToList));
     let firsts = TextSummary::GroupBy(TextFunction::Length, TextInner::Base(TextBase::First));
-    let groups = text_summary(alloc, hashes, firsts);
-    let text = text_of(alloc, &groups, &["bb", "a", "cc"])?;
-    assert_eq!(rt; text.as_str(), "{2=Optional[bb], 1=Optional[a]}");
     let counts = TextSummary::GroupBy(TextFunction::Itself, TextInner::Base(TextBase::Count));
-    let groups = text_summary(alloc, hashes, counts);
-    assert_eq!(rt;
-        text_of(alloc, &groups, &["b", "", "b"])?.as_str(),
-        "{b=2, =1}"
-    );
-    let framed = Joining::<&str>::new(alloc, ",", "[", "]");
-    assert_eq!(rt; text_of(alloc, &framed, &[])?.as_str(), "[]");
+    let rows: [TextRow<'_>; 4] = [
+        (joined, &["a", "", "bb"], "a++bb"),
+        (lengths, &["a", "", "bb"], "[1, 0, 2]"),
+        (
+            firsts,
+            &["bb", "a", "cc"],
+            "{2=Optional[bb], 1=Optional[a]}",
+        ),
+        (counts, &["b", "", "b"], "{b=2, =1}"),
+    ];
+    check_texts(&rt, &rows)
+}
+
+#[test]
+fn a_frame_of_no_texts(rt: HostRuntime) -> Result<(), Fail> {
+    let framed = Joining::<&str>::new(rt.alloc(), ",", "[", "]");
+    let text = text_of(rt.alloc(), &framed, &[])?;
+    assert!(rt; text.as_str() == "[]", "{text}");
     Ok(())
 }
 
