@@ -1,6 +1,5 @@
 // Boards, call by call.
 ghost use Rattle.std.specs.Prelude.{◌≡◌, ◌<◌, ◌∷◌, []};
-ghost use Rattle.leaf_board.specs.Knowledge.{IsHeld};
 ghost use Rattle.leaf_board.specs.Seats.{SameSeat, Gained, OnlyDraws};
 ghost use Rattle.leaf_board.specs.Boards.{case_of};
 ghost use Rattle.std.specs.Prelude.{None};

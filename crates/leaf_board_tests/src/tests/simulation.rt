@@ -456,6 +456,8 @@ fn a_settle_sees_other_seats(rt: HostRuntime) -> Result<(), Fail> {
         then(0, Act::Settle(0), None, None),
         then(1, Act::Publish, None, None),
         then(1, Act::Settle(1), None, Some(1)),
+        // finds no cut of its own, and tells of the other seat's
+        then(0, Act::Settle(0), None, Some(1)),
         then(0, Act::Draw, Some(2), Some(1)),
         then(0, Act::Skip, None, Some(1)),
     ];
