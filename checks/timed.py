@@ -6,9 +6,13 @@
 Each COMMAND is one word of the shell's, as `'rt ci'`, and ends by a line `N passed, M failed`. The parts run in the folder in which
 this script was started; the first that fails ends the run. Last come a table of the processor minutes of each crate (read
 twice a second of the running checks), the wall and processor minutes of each part, its sum, and alone on the last line the sum of all.
+
+`rt ci` proves a crate anew for its must-fail edits, and removes that work in the end. Where KEPT_WORK names a folder, the work is linked into
+a folder NAME of it meanwhile, so that `checks/wrong_bodies.py` need not do it again.
 """
 
 import collections
+import contextlib
 import os
 import pathlib
 import re
@@ -22,6 +26,8 @@ import time
 CLOSING = re.compile(r"(\d+) passed, (\d+) failed")
 KINDS = ("proof", "tests", "must-fail", "wrong bodies")
 TICKS = os.sysconf("SC_CLK_TCK")
+READ_EACH = 0.5
+LINK_EACH = 5
 
 
 def parents_of(number):
@@ -33,8 +39,11 @@ def parents_of(number):
     return above
 
 
+Check = collections.namedtuple("Check", "crate kind kept seconds")
+
+
 def check_of(process):
-    """The crate and the kind of the check of this run that a process is, and the seconds that it took until now; None of any other process."""
+    """The check of this run that a process is, with the folder of its kept work and the seconds that it took until now; None of any other process."""
     words = (process / "cmdline").read_bytes().decode(errors="replace").split("\0")
     if not words[0].endswith("/rattle") or "--crate-name" not in words:
         return None
@@ -46,26 +55,43 @@ def check_of(process):
     folder = os.path.basename(os.readlink(process / "cwd"))
     kept = words[words.index("--incremental") + 1] if "--incremental" in words else ""
     kind = "wrong bodies" if "/wrong-bodies-" in kept else "must-fail" if folder.startswith("rt-edit-") else "tests" if "--test" in words else "proof"
-    return words[words.index("--crate-name") + 1], kind, sum(map(int, stat[11:15])) / TICKS
+    return Check(words[words.index("--crate-name") + 1], kind, kept, sum(map(int, stat[11:15])) / TICKS)
+
+
+def link_all(kept, to):
+    """Links each file of kept work into a folder of the same form."""
+    for file in kept.glob("*/*"):
+        linked = to / file.parent.name / file.name
+        if linked.exists() and linked.samefile(file):
+            continue
+        linked.parent.mkdir(parents=True, exist_ok=True)
+        linked.unlink(missing_ok=True)
+        linked.hardlink_to(file)
 
 
 class Checks:
     """Reads of the running checks, until told to end, how many seconds of a processor each took."""
 
     def __init__(self):
-        self.seconds, self.over = {}, threading.Event()
+        self.seconds, self.linked, self.over = {}, {}, threading.Event()
         self.reader = threading.Thread(target=self.read, daemon=True)
 
     def read(self):
-        while not self.over.wait(0.5):
+        while not self.over.wait(READ_EACH):
             for process in pathlib.Path("/proc").glob("[0-9]*"):
-                try:
+                # (a process may end, and its kept work go, while they are read)
+                with contextlib.suppress(OSError, ValueError, IndexError):
                     found = check_of(process)
-                except (OSError, ValueError, IndexError):
-                    # (it ended while it was read)
-                    continue
-                if found:
-                    self.seconds[process.name, found[0], found[1]] = found[2]
+                    if found:
+                        self.seconds[process.name, found.crate, found.kind] = found.seconds
+                        self.keep(found)
+
+    def keep(self, check):
+        """Links what the check of a must-fail edit kept, every few seconds."""
+        to, now = os.environ.get("KEPT_WORK"), time.monotonic()
+        if to and check.kind == "must-fail" and check.kept and now >= self.linked.get(check.crate, 0) + LINK_EACH:
+            link_all(pathlib.Path(check.kept), pathlib.Path(to, check.crate))
+            self.linked[check.crate] = time.monotonic()
 
     def table(self):
         """A line a crate, with its minutes of each kind, the dearest first."""

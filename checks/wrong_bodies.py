@@ -281,9 +281,16 @@ def try_crate(crate):
     if lacking:
         return [(False, f"{crate.name}: its library {lacking[0]} is not built: `rt all check` builds it")]
     with tempfile.TemporaryDirectory(prefix="wrong-bodies-") as kept:
-        if (folder / "out" / "incremental").is_dir():
-            shutil.copytree(folder / "out" / "incremental", kept, dirs_exist_ok=True)
+        earlier = kept_work(crate)
+        if earlier:
+            shutil.copytree(earlier, kept, dirs_exist_ok=True)
         return Trial(crate, edits, kept).run()
+
+
+def kept_work(crate):
+    """The folder with the work of earlier checks of the crate, if there is one: what the gate linked (checks/timed.py), or the crate's own."""
+    folders = [pathlib.Path(os.environ["KEPT_WORK"], crate.name)] if "KEPT_WORK" in os.environ else []
+    return next((it for it in [*folders, pathlib.Path(crate.folder, "out", "incremental")] if it.is_dir()), None)
 
 
 def jobs():
