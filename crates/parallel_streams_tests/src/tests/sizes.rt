@@ -18,7 +18,7 @@ use std::thread::Threads;
 const GREAT: i64 = 4_611_686_018_427_387_904;
 
 /// The end of a range from 0 on, how many of its items are skipped, how many of the rest are taken at most, and how many these are.
-const KNOWN: [(i64, u64, u64, u64); 5] = [
+const KNOWN: [(i64, u64, u64, i64); 5] = [
     (10, 3, 5, 5),
     (10, 0, 3, 3),
     (10, 0, 0, 0),
@@ -82,12 +82,12 @@ where
 fn check_known<R: Threads + Abort + Alloc<A = Global> + Sync>(
     rt: &R,
     run: &Run<'_, Counts>,
-    (end, skipped, most, size): (i64, u64, u64, u64),
+    (end, skipped, most, size): (i64, u64, u64, i64),
 ) -> Result<(), Fail> {
     assert!(rt; skipped < 9_223_372_036_854_775_808 && most < 9_223_372_036_854_775_808);
     let mapped = of(RangeSplit::range(0, end)?).map(Itself);
     let told = told_of_middle(rt, run, mapped, skipped, most);
-    assert!(rt; told.size == Some(size) && told.count == Ok(size as i64));
+    assert!(rt; told.size == Some(size.unsigned_abs()) && told.count == Ok(size));
     Ok(())
 }
 

@@ -4,7 +4,8 @@ use super::functions::{Both, Itself};
 use super::words::{Length, Words};
 use super::{TARGETS, WORKERS};
 use collectors::{GroupingBy, Joining, MappingTo, SummingLong, Teeing};
-use parallel_streams::{Run, Stream, of};
+use indexmap::IndexMap;
+use parallel_streams::{Run, Stream, StreamError, of};
 use sources::LinesSplit;
 use std::alloc::Global;
 use std::process::Abort;
@@ -30,30 +31,50 @@ fn joined<R: Threads + Alloc<A = Global> + Sync>(
     run: &Run<'_, NoGate>,
     lines: &str,
     frame: [&str; 3],
-) -> Result<String, Fail> {
+) -> Result<String, StreamError> {
     let alloc = rt.alloc();
     let words = of(LinesSplit::new(lines)).flat_map(Words { alloc });
     let text = Joining::<&str>::new(alloc, frame[0], frame[1], frame[2]);
-    Ok(words.collect(rt, alloc, run, &text)?)
+    words.collect(rt, alloc, run, &text)
 }
 
-fn check_lengths<R: Threads + Abort + Alloc<A = Global> + Sync>(
+fn by_length<R: Threads + Alloc<A = Global> + Sync>(
     rt: &R,
     run: &Run<'_, NoGate>,
     lines: &str,
-    expected: &[(i64, &str, i64)],
-) -> Result<(), Fail> {
+) -> Result<IndexMap<i64, (String, i64)>, StreamError> {
     let alloc = rt.alloc();
     let texts = Joining::<&str>::new(alloc, "+", "", "");
     let sums = MappingTo::<&str, _, _>::new(Length, SummingLong::new(Itself));
     let by_length = GroupingBy::new(alloc, Length, Teeing::new(texts, sums, Both));
-    let found = of(LinesSplit::new(lines)).collect(rt, alloc, run, &by_length)?;
+    of(LinesSplit::new(lines)).collect(rt, alloc, run, &by_length)
+}
+
+// Whether a map has these lengths, joined lines and sums, in this order.
+fn has(found: &IndexMap<i64, (String, i64)>, expected: &[(i64, &str, i64)]) -> bool {
     let mut groups = found.iter();
     for (length, text, sum) in expected {
-        let (key, value) = groups.next().ok_or("a group is missing")?;
-        assert!(rt; key == length && value.0.as_str() == *text && value.1 == *sum);
+        match groups.next() {
+            Some((key, value)) if key == length && value.0.as_str() == *text && value.1 == *sum =>
+                {}
+            _ => return false,
+        }
     }
-    assert!(rt; groups.next().is_none());
+    groups.next().is_none()
+}
+
+fn texts<R: Threads + Abort + Alloc<A = Global> + Sync>(
+    rt: &R,
+    run: &Run<'_, NoGate>,
+) -> Result<(), Fail> {
+    for (lines, frame, wanted) in JOINED {
+        let text = joined(rt, run, lines, frame)?;
+        assert!(rt; text.as_str() == wanted);
+    }
+    for (lines, expected) in BY_LENGTH {
+        let found = by_length(rt, run, lines)?;
+        assert!(rt; has(&found, &expected));
+    }
     Ok(())
 }
 
@@ -66,13 +87,7 @@ fn texts_at_each_number_of_workers(rt: HostRuntime) -> Result<(), Fail> {
                 target,
                 gate: &NoGate,
             };
-            for (lines, frame, wanted) in JOINED {
-                let text = joined(&rt, &run, lines, frame)?;
-                assert_eq!(rt; text.as_str(), wanted);
-            }
-            for (lines, expected) in BY_LENGTH {
-                check_lengths(&rt, &run, lines, &expected)?;
-            }
+            texts(&rt, &run)?;
         }
     }
     Ok(())
