@@ -1,9 +1,9 @@
 //! Barriers behind a source that borrows, in a caller that names the borrow.
 
+use super::answers::{check_list, limited};
 use super::functions::Below;
 use super::{TARGETS, WORKERS};
 use parallel_streams::{Run, Stream, StreamError, of};
-use collectors::ToList;
 use sources::SliceSplit;
 use std::alloc::Global;
 use std::test::Fail;
@@ -15,11 +15,8 @@ fn second_and_third<R: Threads + Alloc<A = Global> + Sync>(
     run: &Run<'_, NoGate>,
     numbers: &[i64],
 ) -> Result<Vec<i64>, StreamError> {
-    of(SliceSplit::new(numbers))
-        .filter(Below(10))
-        .skip(1)
-        .limit(2)
-        .collect(rt, rt.alloc(), run, &ToList::new(rt.alloc()))
+    let below = of(SliceSplit::new(numbers)).filter(Below(10));
+    Ok(limited(rt, run, below.skip(1), 2)?.0)
 }
 
 fn count_of_words<'a, R: Threads + Alloc<A = Global> + Sync>(
@@ -42,9 +39,10 @@ fn barriers_behind_what_is_borrowed(rt: HostRuntime) -> Result<(), Fail> {
                 gate: &NoGate,
             };
             let pair = second_and_third(&rt, &run, &[4, 15, 8, 16, 2, 3])?;
-            assert_eq!(rt; pair.as_slice(), [8, 2].as_slice());
+            check_list(&rt, &pair, &[8, 2]);
+            // the size of the source is known, and that of its words that differ is not
             let words = count_of_words(&rt, &run, &["b", "a", "b", "c", "a"])?;
-            assert_eq!(rt; words, 3);
+            assert!(rt; words == 3);
         }
     }
     Ok(())

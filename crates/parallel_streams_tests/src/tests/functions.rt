@@ -1,7 +1,6 @@
 //! Functions of stages and collectors, over numbers.
 ghost use Rattle.std.specs.Prelude.{◌≡◌, pos, ◌+ℤ◌, ◌*ℤ◌, int_lt, replicate, unsigned_abs};
 ghost use Rattle.std.specs.Int.{int_rem_euclid};
-ghost use Rattle.std.specs.Ordering.{int_eq};
 ghost use Rattle.std.proofs.lemmas.List.Elements.{All-replicate};
 ghost use Rattle.spliterator.specs.Values.{IsI64};
 ghost use Rattle.stages.specs.Products.{wrapped_product};
@@ -135,18 +134,6 @@ impl Test<i64> for Above {
 
     fn holds(&self, x: &i64) -> bool {
         self.0 < *x
-    }
-}
-
-/// The even numbers.
-#[derive(Drop)]
-pub struct Even;
-
-impl Test<i64> for Even {
-    ghost holds = { λ _ x. int_eq (int_rem_euclid x (pos 2)) (pos 0) };
-
-    fn holds(&self, x: &i64) -> bool {
-        x.rem_euclid(2) == 0
     }
 }
 

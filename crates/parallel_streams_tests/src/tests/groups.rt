@@ -1,15 +1,17 @@
 //! Collectors over numbers at the end of a stream: groups, parts, maps, and two at once.
+ghost use Rattle.spliterator.specs.Values.{IsI64};
+ghost use Rattle.stages.specs.Operators.{IsAssociative};
 
-use super::functions::{Above, Both, Even, Itself, Parity, Times};
+use super::answers::{check_list, check_value, collected};
+use super::functions::{Above, Both, Itself, Parity, Times};
 use super::{TARGETS, WORKERS};
-use parallel_streams::{Run, Stream, of};
 use collectors::{
-    Counting, FilteringTo, First, GroupingBy, MappingTo, PartitioningBy, Reducing, SummingLong,
-    Teeing, ToList, ToMap,
+    Collector, Counting, FilteringTo, First, GroupingBy, MappingTo, Partition, PartitioningBy,
+    Reducing, SummingLong, Teeing, ToList, ToMap,
 };
 use indexmap::IndexMap;
-use sources::{RangeSplit, SliceSplit};
-use stages::{FirstOf, LastOf, WrapMul};
+use parallel_streams::{Run, StreamError};
+use stages::{FirstOf, LastOf, Operator, WrapMul};
 use std::alloc::Global;
 use std::process::Abort;
 use std::test::Fail;
@@ -22,112 +24,138 @@ pub fn check_entries<V: PartialEq>(
     found: &IndexMap<i64, V>,
     expected: &[(i64, V)],
 ) {
-    assert_eq!(rt; found.len(), expected.len());
-    for ((key, value), entry) in found.iter().zip(expected) {
-        assert_eq!(rt; *key, entry.0);
-        assert!(rt; *value == entry.1);
+    let mut entries = found.iter();
+    for (key, value) in expected {
+        let entry = entries.next();
+        assert!(rt; matches!(entry, Some((found, met)) if found == key && met == value));
     }
+    assert!(rt; entries.next().is_none());
 }
 
 /// Checks the lists of a map, in the order of their keys.
 fn check_lists(rt: &impl Abort, found: &IndexMap<i64, Vec<i64>>, expected: &[(i64, &[i64])]) {
-    assert_eq!(rt; found.len(), expected.len());
-    for ((key, list), entry) in found.iter().zip(expected) {
-        assert_eq!(rt; *key, entry.0);
-        assert_eq!(rt; list.as_slice(), entry.1);
+    let mut entries = found.iter();
+    for (key, wanted) in expected {
+        let entry = entries.next();
+        assert!(rt;
+            matches!(entry, Some((found, list)) if found == key && list.as_slice() == *wanted)
+        );
     }
+    assert!(rt; entries.next().is_none());
 }
 
-fn groups<R: Threads + Abort + Alloc<A = Global> + Sync>(
+// What a collector makes of the numbers of each parity.
+fn by_parity<R: Threads + Alloc<A = Global> + Sync, D: Collector<Item = i64> + Drop + Sync>(
+    rt: &R,
+    run: &Run<'_, NoGate>,
+    numbers: &[i64],
+    downstream: D,
+) -> Result<IndexMap<i64, D::Out>, StreamError>
+where
+    D::Acc: Send,
+    D::Out: Send,
+    requires { D.ready downstream }
+{
+    let groups = GroupingBy::new(rt.alloc(), Parity, downstream);
+    collected(rt, run, numbers, &groups)
+}
+
+// Of the numbers above a limit their number and their sum. A group whose items are all filtered away keeps its key.
+fn totals<R: Threads + Abort + Alloc<A = Global> + Sync>(
     rt: &R,
     run: &Run<'_, NoGate>,
 ) -> Result<(), Fail> {
-    let alloc = rt.alloc();
-    let five = of(SliceSplit::new(&[5, 2, 7, 4, 5]));
-    let counts = GroupingBy::new(alloc, Parity, Counting::<i64>::new());
-    let found = five.collect(rt, alloc, run, &counts)?;
-    check_entries(rt, &found, &[(1, 3), (0, 2)]);
-    let totals = Teeing::new(Counting::<i64>::new(), SummingLong::new(Itself), Both);
-    let found = five.collect(rt, alloc, run, &GroupingBy::new(alloc, Parity, totals))?;
-    check_entries(rt, &found, &[(1, (3, 17)), (0, (2, 6))]);
-    // a group whose items are all filtered away keeps its key
-    let large = FilteringTo::new(Above(100), Counting::<i64>::new());
-    let found = of(SliceSplit::new(&[1, 2])).collect(
-        rt,
-        alloc,
-        run,
-        &GroupingBy::new(alloc, Parity, large),
-    )?;
-    check_entries(rt, &found, &[(1, 0), (0, 0)]);
+    for (numbers, limit, expected) in [
+        ([5, 2, 7, 4, 5], 0, [(1, (3, 17)), (0, (2, 6))]),
+        ([1, 2, 2, 1, 1], 100, [(1, (0, 0)), (0, (0, 0))]),
+    ] {
+        let totals = Teeing::new(Counting::<i64>::new(), SummingLong::new(Itself), Both);
+        let above = FilteringTo::new(Above(limit), totals);
+        let found = by_parity(rt, run, &numbers, above)?;
+        check_entries(rt, &found, &expected);
+    }
     Ok(())
 }
 
-fn parts<R: Threads + Abort + Alloc<A = Global> + Sync>(
+// The lists of each parity, of the numbers that are not above 3 and of those that are.
+fn parts<R: Threads + Alloc<A = Global> + Sync>(
+    rt: &R,
+    run: &Run<'_, NoGate>,
+    numbers: &[i64],
+) -> Result<Partition<IndexMap<i64, Vec<i64>>>, StreamError> {
+    let groups = GroupingBy::new(rt.alloc(), Parity, ToList::<i64>::new(rt.alloc()));
+    let above = PartitioningBy::new(Above(3), groups);
+    collected(rt, run, numbers, &above)
+}
+
+fn check_parts<R: Threads + Abort + Alloc<A = Global> + Sync>(
     rt: &R,
     run: &Run<'_, NoGate>,
 ) -> Result<(), Fail> {
-    let alloc = rt.alloc();
-    let even = PartitioningBy::new(Even, ToList::<i64>::new(alloc));
-    let found = of(SliceSplit::new(&[1, 3])).collect(rt, alloc, run, &even)?;
-    assert_eq!(rt; found.no.as_slice(), [1, 3].as_slice());
-    assert!(rt; found.yes.is_empty());
-    let groups = GroupingBy::new(alloc, Parity, ToList::<i64>::new(alloc));
-    let above = PartitioningBy::new(Above(3), groups);
-    let found = of(SliceSplit::new(&[5, 2, 7, 4, 5])).collect(rt, alloc, run, &above)?;
+    let found = parts(rt, run, &[5, 2, 7, 4, 5])?;
     check_lists(rt, &found.no, &[(0, &[2])]);
     check_lists(rt, &found.yes, &[(1, &[5, 7, 5]), (0, &[4])]);
+    // both parts are always there
+    let small = parts(rt, run, &[1, 3])?;
+    check_lists(rt, &small.no, &[(1, &[1, 3])]);
+    check_lists(rt, &small.yes, &[]);
     Ok(())
+}
+
+// The numbers 1 to 4 by parity, where those of one key are merged.
+fn merged<R: Threads + Alloc<A = Global> + Sync, O: Operator<i64> + Drop + Sync>(
+    rt: &R,
+    run: &Run<'_, NoGate>,
+    merge: O,
+) -> Result<IndexMap<i64, i64>, StreamError>
+    requires merge { O.ready merge }
+    requires associative { IsAssociative IsI64 (O.join merge) }
+{
+    let merging = ToMap::<i64, _, _, _, _>::new(rt.alloc(), Parity, Itself, merge);
+    collected(rt, run, &[1, 2, 3, 4], &merging)
 }
 
 fn maps<R: Threads + Abort + Alloc<A = Global> + Sync>(
     rt: &R,
     run: &Run<'_, NoGate>,
 ) -> Result<(), Fail> {
-    let alloc = rt.alloc();
-    let four = of(SliceSplit::new(&[1, 2, 3, 4]));
-    let last = ToMap::<i64, _, _, _, _>::new(alloc, Parity, Itself, LastOf::<i64>::new());
-    let found = four.collect(rt, alloc, run, &last)?;
-    check_entries(rt, &found, &[(1, 3), (0, 4)]);
-    let first = ToMap::<i64, _, _, _, _>::new(alloc, Parity, Itself, FirstOf::<i64>::new());
-    let found = four.collect(rt, alloc, run, &first)?;
-    check_entries(rt, &found, &[(1, 1), (0, 2)]);
+    let last = merged(rt, run, LastOf::<i64>::new())?;
+    check_entries(rt, &last, &[(1, 3), (0, 4)]);
+    let first = merged(rt, run, FirstOf::<i64>::new())?;
+    check_entries(rt, &first, &[(1, 1), (0, 2)]);
     Ok(())
 }
 
-fn two_at_once<R: Threads + Abort + Alloc<A = Global> + Sync>(
+// The sum of the numbers doubled, and the numbers above 2.
+fn sum_and_list<R: Threads + Abort + Alloc<A = Global> + Sync>(
     rt: &R,
     run: &Run<'_, NoGate>,
 ) -> Result<(), Fail> {
-    let alloc = rt.alloc();
-    let totals = Teeing::new(SummingLong::new(Itself), Counting::<i64>::new(), Both);
-    let found = of(RangeSplit::range(1, 5)?).collect(rt, alloc, run, &totals)?;
-    assert_eq!(rt; found, (10, 4));
     let doubled = MappingTo::<i64, _, _>::new(Times(2), SummingLong::new(Itself));
-    let even = FilteringTo::new(Even, ToList::<i64>::new(alloc));
-    let (sum, list) = of(SliceSplit::new(&[1, 2, 3, 4])).collect(
-        rt,
-        alloc,
-        run,
-        &Teeing::new(doubled, even, Both),
-    )?;
-    assert_eq!(rt; sum, 20);
-    assert_eq!(rt; list.as_slice(), [2, 4].as_slice());
+    let large = FilteringTo::new(Above(2), ToList::<i64>::new(rt.alloc()));
+    let both = Teeing::new(doubled, large, Both);
+    let (sum, list) = collected(rt, run, &[1, 2, 3, 4], &both)?;
+    check_value(rt, Some(sum), Some(20));
+    check_list(rt, &list, &[3, 4]);
     Ok(())
 }
 
-fn single_values<R: Threads + Abort + Alloc<A = Global> + Sync>(
+// Ten times the first number, and the product of all.
+fn first_and_product<R: Threads + Abort + Alloc<A = Global> + Sync>(
     rt: &R,
     run: &Run<'_, NoGate>,
 ) -> Result<(), Fail> {
-    let alloc = rt.alloc();
     let tens = MappingTo::<i64, _, _>::new(Times(10), First::<i64>::new());
-    let first = of(SliceSplit::new(&[4, 5])).collect(rt, alloc, run, &tens)?;
-    assert_eq!(rt; first, Some(40));
-    let product = Reducing::<i64, _>::new(WrapMul::new());
-    let none = of(RangeSplit::range(0, 0)?).collect(rt, alloc, run, &product)?;
-    assert_eq!(rt; none, None);
-    let thirty = of(SliceSplit::new(&[2, 5, 3])).collect(rt, alloc, run, &product)?;
-    assert_eq!(rt; thirty, Some(30));
+    let both = Teeing::new(tens, Reducing::<i64, _>::new(WrapMul::new()), Both);
+    for (numbers, ten, wanted) in [
+        ([].as_slice(), None, None),
+        ([4, 5].as_slice(), Some(40), Some(20)),
+        ([2, 5, 3].as_slice(), Some(20), Some(30)),
+    ] {
+        let (first, product) = collected(rt, run, numbers, &both)?;
+        check_value(rt, first, ten);
+        check_value(rt, product, wanted);
+    }
     Ok(())
 }
 
@@ -140,11 +168,11 @@ fn groups_at_each_number_of_workers(rt: HostRuntime) -> Result<(), Fail> {
                 target,
                 gate: &NoGate,
             };
-            groups(&rt, &run)?;
-            parts(&rt, &run)?;
+            totals(&rt, &run)?;
+            check_parts(&rt, &run)?;
             maps(&rt, &run)?;
-            two_at_once(&rt, &run)?;
-            single_values(&rt, &run)?;
+            sum_and_list(&rt, &run)?;
+            first_and_product(&rt, &run)?;
         }
     }
     Ok(())

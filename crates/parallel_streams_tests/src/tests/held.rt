@@ -1,11 +1,11 @@
 //! Workers that a gate holds: what is found right of a held leaf takes nobody's place.
 ghost use Rattle.std.specs.Prelude.{pos, int_lt};
 
-use super::functions::{Above, Itself, Times};
+use super::answers::{check_list, check_value, limited, listed, sum_of};
+use super::functions::{Above, Times};
 use super::gates::{FirstWithin, HoldsFirst, SecondFirst, all_came, wait_for};
-use super::reports::counts;
+use super::reports::check_report;
 use parallel_streams::{Run, Stream, of};
-use collectors::{SummingLong, ToList};
 use sources::RangeSplit;
 use stages::Test;
 use std::sync::atomic::{AtomicU64, Ordering};
@@ -14,52 +14,38 @@ use stealing_pool::NoGate;
 
 #[test]
 fn a_held_leaf_keeps_its_place(rt: HostRuntime) -> Result<(), Fail> {
-    let alloc = rt.alloc();
     let gate = HoldsFirst::until(99);
     let run = Run {
         workers: 2,
         target: 1,
         gate: &gate,
     };
-    let items = of(RangeSplit::range(0, 100)?).collect(
-        &rt,
-        alloc,
-        &run,
-        &ToList::<i64>::new(alloc),
-    )?;
+    let items = listed(&rt, &run, &of(RangeSplit::range(0, 100)?))?;
     all_came(&gate.missed)?;
-    assert_eq!(rt; items.len(), 100);
     assert!(rt; items.iter().copied().eq(0..100));
     Ok(())
 }
 
 #[test]
 fn a_held_first_leaf_of_a_million_items(rt: HostRuntime) -> Result<(), Fail> {
-    let alloc = rt.alloc();
     let gate = SecondFirst::new();
     let run = Run {
         workers: 2,
         target: 1000,
         gate: &gate,
     };
-    let (items, report) = of(RangeSplit::range(0, 1_000_000)?)
+    let above = of(RangeSplit::range(0, 1_000_000)?)
         .map(Times(3))
-        .filter(Above(100))
-        .limit(1)
-        .collect_reported(&rt, alloc, &run, &ToList::new(alloc))?;
-    all_came(&gate.missed)?;
-    assert_eq!(rt; items.as_slice(), [102].as_slice());
-    let [first, _last] = report.entries() else {
-        return Err("two runs have two entries".into());
-    };
+        .filter(Above(100));
     // The other worker stops at the first item of its share, and at that of leaf 1.
-    let mut first_counts = [None; 1024];
-    first_counts[0] = Some(1);
-    first_counts[1] = Some(1);
-    first_counts[512] = Some(1);
-    assert_eq!(rt; counts(alloc, first)?.as_slice(), first_counts.as_slice());
-    assert_eq!(rt; first.cut(), Some(0));
-    Ok(())
+    let mut counts = [None; 1024];
+    counts[0] = Some(1);
+    counts[1] = Some(1);
+    counts[512] = Some(1);
+    let entries = [(counts.as_slice(), Some(0)), ([Some(0)].as_slice(), None)];
+    let found = limited(&rt, &run, above, 1)?;
+    all_came(&gate.missed)?;
+    check_report(&rt, &found, &[102], &entries)
 }
 
 /// The numbers below 1. It counts how often it was asked of a number from 4096 on, and at 4096 it turns until leaf 0 has ended.
@@ -84,54 +70,45 @@ impl Test<i64> for Watched<'_> {
 
 #[test]
 fn a_leaf_asks_each_1024_items_whether_it_was_cut(rt: HostRuntime) -> Result<(), Fail> {
-    let alloc = rt.alloc();
     let gate = FirstWithin::new();
     let run = Run {
         workers: 2,
         target: 4096,
         gate: &gate,
     };
-    let (items, report) = of(RangeSplit::range(0, 8192)?)
-        .filter(Watched { gate: &gate })
-        .limit(1)
-        .collect_reported(&rt, alloc, &run, &ToList::new(alloc))?;
+    let below = of(RangeSplit::range(0, 8192)?).filter(Watched { gate: &gate });
+    let entries = [
+        ([Some(1), None].as_slice(), Some(0)),
+        ([Some(0)].as_slice(), None),
+    ];
+    let found = limited(&rt, &run, below, 1)?;
     all_came(&gate.missed)?;
-    assert_eq!(rt; items.as_slice(), [0].as_slice());
-    let [first, _last] = report.entries() else {
-        return Err("two runs have two entries".into());
-    };
-    assert_eq!(rt;
-        counts(alloc, first)?.as_slice(),
-        [Some(1), None].as_slice()
-    );
-    assert_eq!(rt; first.cut(), Some(0));
+    check_report(&rt, &found, &[0], &entries)?;
     assert_eq!(rt; gate.asked.load(Ordering::SeqCst), 1024);
     Ok(())
 }
 
 #[test]
 fn sixty_four_workers_share_one_item(rt: HostRuntime) -> Result<(), Fail> {
-    let alloc = rt.alloc();
     let run = Run {
         workers: 64,
         target: 1,
         gate: &NoGate,
     };
-    let one = of(RangeSplit::range(0, 1)?).collect(&rt, alloc, &run, &ToList::<i64>::new(alloc))?;
-    assert_eq!(rt; one.as_slice(), [0].as_slice());
+    let one = listed(&rt, &run, &of(RangeSplit::range(0, 1)?))?;
+    check_list(&rt, &one, &[0]);
     Ok(())
 }
 
 // Where a request for memory is refused, that of a thread too, the sum is exact or memory is wanted (checks/refused_tests.py).
 #[test]
 fn seven_workers_sum_or_want_memory(rt: HostRuntime) -> Result<(), Fail> {
-    let alloc = rt.alloc();
     let run = Run {
         workers: 7,
         target: 10,
         gate: &NoGate,
     };
-    let sum = of(RangeSplit::range(0, 100)?).collect(&rt, alloc, &run, &SummingLong::new(Itself))?;
-    assert_eq!(rt; sum, 4950);
+    let sum = sum_of(&rt, &run, &of(RangeSplit::range(0, 100)?))?;
+    check_value(&rt, Some(sum), Some(4950));
     Ok(())
 }

@@ -10,21 +10,25 @@ use std::test::Fail;
 use std::thread::Threads;
 use stealing_pool::NoGate;
 
+/// A number of items from 0 on, a limit, and whether all, any and none of the items are below it.
+const MATCHES: [(i64, i64, [bool; 3]); 4] = [
+    (0, 0, [true, false, true]),
+    (10, 10, [true, true, false]),
+    (10, 9, [false, true, false]),
+    (10, 1, [false, true, false]),
+];
+
 fn matches_of<R: Threads + Abort + Alloc<A = Global> + Sync>(
     rt: &R,
     run: &Run<'_, NoGate>,
-) -> Result<(), Fail> {
-    let alloc = rt.alloc();
-    let none = of(RangeSplit::range(0, 0)?);
-    assert!(rt; none.all_match(rt, alloc, run, &Below(0))?);
-    assert!(rt; !none.any_match(rt, alloc, run, &Below(0))?);
-    assert!(rt; none.none_match(rt, alloc, run, &Below(0))?);
-    let ten = of(RangeSplit::range(0, 10)?);
-    assert!(rt; ten.all_match(rt, alloc, run, &Below(10))?);
-    assert!(rt; !ten.all_match(rt, alloc, run, &Below(9))?);
-    assert!(rt; ten.any_match(rt, alloc, run, &Below(1))?);
-    assert!(rt; !ten.none_match(rt, alloc, run, &Below(1))?);
-    Ok(())
+    end: i64,
+    below: &Below,
+) -> Result<[bool; 3], Fail> {
+    let numbers = of(RangeSplit::range(0, end)?);
+    let all = numbers.all_match(rt, rt.alloc(), run, below)?;
+    let any = numbers.any_match(rt, rt.alloc(), run, below)?;
+    let none = numbers.none_match(rt, rt.alloc(), run, below)?;
+    Ok([all, any, none])
 }
 
 #[test]
@@ -36,7 +40,10 @@ fn matches_at_each_number_of_workers(rt: HostRuntime) -> Result<(), Fail> {
                 target,
                 gate: &NoGate,
             };
-            matches_of(&rt, &run)?;
+            for (end, limit, wanted) in MATCHES {
+                let found = matches_of(&rt, &run, end, &Below(limit))?;
+                assert!(rt; found == wanted, "{end} numbers below {limit}");
+            }
         }
     }
     Ok(())

@@ -5,11 +5,11 @@ ghost use Rattle.stages.specs.Wrapping.{wrapped_sum};
 ghost use Rattle.collectors.specs.NestedLaws.{add_both, teeing_laws};
 ghost use Rattle.collectors.specs.Sums.{add_number, sum_laws};
 
+use super::answers::collected;
 use super::{TARGETS, WORKERS};
-use parallel_streams::{Run, Stream, StreamError, of};
 use collectors::{CollectorDefinition, CollectorOf};
-use sources::SliceSplit;
-use spliterator::{NoMemory, Spliterator};
+use parallel_streams::{Run, StreamError};
+use spliterator::NoMemory;
 use std::alloc::Global;
 use std::test::Fail;
 use std::thread::Threads;
@@ -40,10 +40,11 @@ fn plus(a: i64, b: i64) -> i64
     a.wrapping_add(b)
 }
 
-fn count_and_sum<
-    R: Threads + Alloc<A = Global> + Sync,
-    S: Spliterator<Item = i64> + Drop + Send + Sync,
->(rt: &R, run: &Run<'_, NoGate>, source: S) -> Result<(i64, i64), StreamError> {
+fn count_and_sum<R: Threads + Alloc<A = Global> + Sync>(
+    rt: &R,
+    run: &Run<'_, NoGate>,
+    numbers: &[i64],
+) -> Result<(i64, i64), StreamError> {
     let count_and_sum: CollectorOf<i64, _, _, _, _, _, _, CountAndSum> = CollectorOf::new(
         || -> Result<(i64, i64), NoMemory> { Ok((0, 0)) },
         |acc: &mut (i64, i64), x: &i64| -> Result<(), NoMemory> {
@@ -56,7 +57,7 @@ fn count_and_sum<
         },
         |acc: (i64, i64)| -> Result<(i64, i64), NoMemory> { Ok(acc) },
     );
-    of(source).collect(rt, rt.alloc(), run, &count_and_sum)
+    collected(rt, run, numbers, &count_and_sum)
 }
 
 #[test]
@@ -68,7 +69,7 @@ fn a_collector_of_the_callers_own(rt: HostRuntime) -> Result<(), Fail> {
                 target,
                 gate: &NoGate,
             };
-            let found = count_and_sum(&rt, &run, SliceSplit::new(&[5, -2, 9]))?;
+            let found = count_and_sum(&rt, &run, &[5, -2, 9])?;
             assert_eq!(rt; found, (3, 12));
         }
     }

@@ -2,9 +2,9 @@
 ghost use Rattle.std.specs.Prelude.{pos, ◌+ℤ◌, int_lt};
 ghost use Rattle.stages.specs.Wrapping.{wrapped_sum, wrapped-value};
 
+use super::answers::images_meeting;
 use super::{TARGETS, WORKERS};
 use parallel_streams::{Run, Stream, StreamError, of};
-use collectors::ToList;
 use sources::RangeSplit;
 use spliterator::NoMemory;
 use stages::{
@@ -50,10 +50,7 @@ fn ten_more<R: Threads + Alloc<A = Global> + Sync>(
         WrapAdd::new().join(x, &10)
     });
     let below_thirteen: TestFn<_, BelowThirteen> = TestFn::new(|x: &i64| *x < 13);
-    of(numbers)
-        .map(ten_more)
-        .filter(below_thirteen)
-        .collect(rt, rt.alloc(), run, &ToList::new(rt.alloc()))
+    images_meeting(rt, run, of(numbers), ten_more, below_thirteen)
 }
 
 fn total<R: Threads + Alloc<A = Global> + Sync>(

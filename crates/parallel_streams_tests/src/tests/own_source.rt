@@ -3,9 +3,10 @@ ghost use Rattle.std.proofs.Common.{sym, true≢false};
 ghost use Rattle.std.specs.Prelude.{◌<◌, ◌^◌, replicate};
 ghost use Rattle.spliterator.specs.Spliterator.{IsSplit};
 
+use super::answers::{check_list, check_value, counted, limited, reduced};
+use super::rows::second_and_one;
 use super::{TARGETS, WORKERS};
 use parallel_streams::{Run, Stream, of};
-use collectors::ToList;
 use spliterator::{NoMemory, Spliterator};
 use stages::WrapAdd;
 use std::test::Fail;
@@ -63,7 +64,6 @@ impl Spliterator for Again {
 
 #[test]
 fn a_source_of_the_callers_own(rt: HostRuntime) -> Result<(), Fail> {
-    let alloc = rt.alloc();
     let sevens = of(Again { number: 7, left: 3 });
     assert_eq!(rt; sevens.known_size(), None);
     for target in TARGETS {
@@ -73,13 +73,13 @@ fn a_source_of_the_callers_own(rt: HostRuntime) -> Result<(), Fail> {
                 target,
                 gate: &NoGate,
             };
-            assert_eq!(rt; sevens.count(&rt, alloc, &run)?, 3);
-            let sum = sevens.reduce(&rt, alloc, &run, 0, &WrapAdd::new())?;
-            assert_eq!(rt; sum, 21);
-            let two = of(Again { number: 7, left: 3 })
-                .skip(1)
-                .collect(&rt, alloc, &run, &ToList::new(alloc))?;
-            assert_eq!(rt; two.as_slice(), [7, 7].as_slice());
+            check_value(&rt, Some(counted(&rt, &run, &sevens)?), Some(3));
+            let sum = reduced(&rt, &run, &sevens, 0, &WrapAdd::new())?;
+            check_value(&rt, Some(sum), Some(21));
+            let two = limited(&rt, &run, of(Again { number: 7, left: 3 }), 2)?;
+            check_list(&rt, &two.0, &[7, 7]);
+            let eight = second_and_one(&rt, &run, of(Again { number: 7, left: 3 }))?;
+            check_list(&rt, &eight.0, &[8]);
         }
     }
     Ok(())

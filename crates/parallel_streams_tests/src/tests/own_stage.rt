@@ -5,9 +5,10 @@ ghost use Rattle.stages.specs.FlagLaws.{KeepsSound-flat_map};
 ghost use Rattle.stages.specs.Wrapping.{wrapped_sum};
 ghost use Rattle.std.specs.Ordering.{int_cmp};
 
+use super::answers::{check_list, listed};
+use super::rows::first_apart;
 use super::{TARGETS, WORKERS};
 use parallel_streams::{Run, Stream, of};
-use collectors::ToList;
 use sources::RangeSplit;
 use spliterator::NoMemory;
 use stages::{Operation, Operator, Sink, Stage, WrapAdd};
@@ -48,7 +49,6 @@ impl Stage for WithNext {
 
 #[test]
 fn a_stage_of_the_callers_own(rt: HostRuntime) -> Result<(), Fail> {
-    let alloc = rt.alloc();
     for target in TARGETS {
         for workers in WORKERS {
             let run = Run {
@@ -56,15 +56,10 @@ fn a_stage_of_the_callers_own(rt: HostRuntime) -> Result<(), Fail> {
                 target,
                 gate: &NoGate,
             };
-            let items = of(RangeSplit::range(0, 3)?)
-                .then(WithNext)
-                .collect(&rt, alloc, &run, &ToList::new(alloc))?;
-            assert_eq!(rt; items.as_slice(), [0, 1, 1, 2, 2, 3].as_slice());
-            let different = of(RangeSplit::range(0, 3)?)
-                .then(WithNext)
-                .distinct()
-                .count(&rt, alloc, &run)?;
-            assert_eq!(rt; different, 4);
+            let pairs = of(RangeSplit::range(0, 3)?).then(WithNext);
+            check_list(&rt, &listed(&rt, &run, &pairs)?, &[0, 1, 1, 2, 2, 3]);
+            let apart = first_apart(&rt, &run, pairs, 9)?;
+            check_list(&rt, &apart, &[0, 1, 2, 3]);
         }
     }
     Ok(())

@@ -1,7 +1,7 @@
 //! A caller's function that refuses memory. A leaf right of what is wanted may then turn the answer into `NoMemory`, never into another value.
 
+use super::answers::{first_of, listed};
 use parallel_streams::{Run, Stream, StreamError, of};
-use collectors::ToList;
 use sources::RangeSplit;
 use spliterator::NoMemory;
 use stages::Mapping;
@@ -24,47 +24,23 @@ impl Mapping<i64> for RefusesAt {
     }
 }
 
+// With one worker no leaf right of what is wanted runs; with seven one may.
 #[test]
-fn one_worker_meets_no_refusal_right_of_what_is_wanted(rt: HostRuntime) -> Result<(), Fail> {
-    let run = Run {
-        workers: 1,
-        target: 1,
-        gate: &NoGate,
-    };
-    let first = of(RangeSplit::range(0, 10)?)
-        .map(RefusesAt(7))
-        .find_first(&rt, rt.alloc(), &run)?;
-    assert_eq!(rt; first, Some(0));
-    Ok(())
-}
-
-#[test]
-fn a_whole_list_meets_the_refusal(rt: HostRuntime) -> Result<(), Fail> {
-    let alloc = rt.alloc();
+fn a_refusal_right_of_the_first_item_gives_no_other_item(rt: HostRuntime) -> Result<(), Fail> {
+    let numbers = of(RangeSplit::range(0, 10)?).map(RefusesAt(7));
     for workers in [1, 7] {
         let run = Run {
             workers,
             target: 1,
             gate: &NoGate,
         };
-        let all = of(RangeSplit::range(0, 10)?)
-            .map(RefusesAt(7))
-            .collect(&rt, alloc, &run, &ToList::new(alloc));
+        let all = listed(&rt, &run, &numbers);
         assert!(rt; matches!(all, Err(StreamError::NoMemory)));
+        let first = first_of(&rt, &run, &numbers);
+        assert!(rt; first == Ok(Some(0)) || first == Err(StreamError::NoMemory));
+        if workers == 1 {
+            first?;
+        }
     }
-    Ok(())
-}
-
-#[test]
-fn seven_workers_may_meet_a_refusal(rt: HostRuntime) -> Result<(), Fail> {
-    let run = Run {
-        workers: 7,
-        target: 1,
-        gate: &NoGate,
-    };
-    let first = of(RangeSplit::range(0, 10)?)
-        .map(RefusesAt(7))
-        .find_first(&rt, rt.alloc(), &run);
-    assert!(rt; first == Ok(Some(0)) || first == Err(StreamError::NoMemory));
     Ok(())
 }

@@ -1,138 +1,140 @@
 //! The worked rows over numbers, as calls.
 
-use super::functions::{Above, Below, Copies, Itself, Plus, Repeat, Times};
+use super::answers::{
+    check_list, check_value, counted, first_image, first_of, joined, limited, listed, reduced,
+    reported, sum_of,
+};
+use super::functions::{Above, Below, Copies, Plus, Times};
 use super::{TARGETS, WORKERS};
 use parallel_streams::{Run, Stream, StreamError, of};
-use collectors::{SummingLong, ToList};
 use sources::{RangeSplit, SliceSplit};
-use spliterator::Spliterator;
 use stages::{LastOf, Max, Min, WrapAdd, WrapMul};
 use std::alloc::Global;
 use std::process::Abort;
 use std::test::Fail;
 use std::thread::Threads;
-use stealing_pool::NoGate;
+use stealing_pool::{NoGate, RunReport};
 
-fn first_ones<
-    R: Threads + Alloc<A = Global> + Sync,
-    S: Spliterator<Item = i64> + Drop + Send + Sync,
->(rt: &R, run: &Run<'_, NoGate>, source: S) -> Result<Vec<i64>, StreamError> {
-    let list = ToList::new(rt.alloc());
-    of(source).distinct().collect(rt, rt.alloc(), run, &list)
+// Each of some numbers, and one.
+fn and_one<R: Threads + Alloc<A = Global> + Sync, X: Stream<Item = i64> + Drop + Sync>(
+    rt: &R,
+    run: &Run<'_, NoGate>,
+    numbers: X,
+) -> Result<(Vec<i64>, RunReport), StreamError>
+where
+    X::Progress: Send + Sync,
+    X::Part: Send,
+    requires { X.ready numbers }
+{
+    reported(rt, run, &numbers.map(Plus(1)))
 }
 
-// A later limit stops no leaf before `distinct`.
-fn two_first_ones<
-    R: Threads + Alloc<A = Global> + Sync,
-    S: Spliterator<Item = i64> + Drop + Send + Sync,
->(rt: &R, run: &Run<'_, NoGate>, source: S) -> Result<Vec<i64>, StreamError> {
-    let list = ToList::new(rt.alloc());
-    of(source)
-        .distinct()
-        .limit(2)
-        .collect(rt, rt.alloc(), run, &list)
+/// The second of some numbers, and one.
+pub fn second_and_one<R: Threads + Alloc<A = Global> + Sync, X: Stream<Item = i64> + Drop + Sync>(
+    rt: &R,
+    run: &Run<'_, NoGate>,
+    numbers: X,
+) -> Result<(Vec<i64>, RunReport), StreamError>
+where
+    X::Progress: Send + Sync,
+    X::Part: Send,
+    requires { X.ready numbers }
+{
+    and_one(rt, run, numbers.skip(1).limit(1))
 }
 
-fn front_below<
-    R: Threads + Alloc<A = Global> + Sync,
-    S: Spliterator<Item = i64> + Drop + Send + Sync,
->(rt: &R, run: &Run<'_, NoGate>, source: S) -> Result<Vec<i64>, StreamError> {
-    let list = ToList::new(rt.alloc());
-    of(source)
-        .take_while(Below(3))
-        .collect(rt, rt.alloc(), run, &list)
+/// The front of some numbers that is below 3.
+pub fn front<R: Threads + Alloc<A = Global> + Sync, X: Stream<Item = i64> + Drop + Sync>(
+    rt: &R,
+    run: &Run<'_, NoGate>,
+    numbers: X,
+) -> Result<(Vec<i64>, RunReport), StreamError>
+where
+    X::Progress: Send + Sync,
+    X::Part: Send,
+    requires { X.ready numbers }
+{
+    reported(rt, run, &numbers.take_while(Below(3)))
 }
 
-fn rest_below<
-    R: Threads + Alloc<A = Global> + Sync,
-    S: Spliterator<Item = i64> + Drop + Send + Sync,
->(rt: &R, run: &Run<'_, NoGate>, source: S) -> Result<Vec<i64>, StreamError> {
-    let list = ToList::new(rt.alloc());
-    of(source)
-        .drop_while(Below(3))
-        .collect(rt, rt.alloc(), run, &list)
+// What follows that front.
+fn rest<R: Threads + Alloc<A = Global> + Sync, X: Stream<Item = i64> + Drop + Sync>(
+    rt: &R,
+    run: &Run<'_, NoGate>,
+    numbers: X,
+) -> Result<Vec<i64>, StreamError>
+where
+    X::Progress: Send + Sync,
+    X::Part: Send,
+    requires { X.ready numbers }
+{
+    listed(rt, run, &numbers.drop_while(Below(3)))
 }
 
-fn second_and_one<
-    R: Threads + Alloc<A = Global> + Sync,
-    S: Spliterator<Item = i64> + Drop + Send + Sync,
->(rt: &R, run: &Run<'_, NoGate>, source: S) -> Result<Vec<i64>, StreamError> {
-    let list = ToList::new(rt.alloc());
-    of(source)
-        .skip(1)
-        .limit(1)
-        .map(Plus(1))
-        .collect(rt, rt.alloc(), run, &list)
+/// The first of the numbers that differ. The limit stops no leaf before `distinct`.
+pub fn first_apart<R: Threads + Alloc<A = Global> + Sync, X: Stream<Item = i64> + Drop + Sync>(
+    rt: &R,
+    run: &Run<'_, NoGate>,
+    numbers: X,
+    most: u32,
+) -> Result<Vec<i64>, StreamError>
+where
+    X::Progress: Send + Sync,
+    X::Part: Send,
+    requires { X.ready numbers }
+{
+    Ok(limited(rt, run, numbers.distinct(), most)?.0)
 }
 
-fn lists<R: Threads + Abort + Alloc<A = Global> + Sync>(
+// The first of the copies of each number, and how many copies there are.
+fn copies<R: Threads + Alloc<A = Global> + Sync, X: Stream<Item = i64> + Drop + Sync>(
+    rt: &R,
+    run: &Run<'_, NoGate>,
+    numbers: X,
+    most: u32,
+) -> Result<(Vec<i64>, i64), StreamError>
+where
+    X::Progress: Send + Sync,
+    X::Part: Send,
+    requires { X.ready numbers }
+{
+    let copies = numbers.flat_map(Copies { alloc: rt.alloc() });
+    let count = counted(rt, run, &copies)?;
+    Ok((limited(rt, run, copies, most)?.0, count))
+}
+
+fn fronts<R: Threads + Abort + Alloc<A = Global> + Sync>(
     rt: &R,
     run: &Run<'_, NoGate>,
 ) -> Result<(), Fail> {
-    let alloc = rt.alloc();
-    let none = of(RangeSplit::range(0, 10)?)
-        .limit(0)
-        .collect(rt, alloc, run, &ToList::new(alloc))?;
-    assert!(rt; none.is_empty());
-    let kept = first_ones(rt, run, SliceSplit::new(&[3, 1, 3, 2, 1]))?;
-    assert_eq!(rt; kept.as_slice(), [3, 1, 2].as_slice());
-    let two = two_first_ones(rt, run, SliceSplit::new(&[3, 3, 3, 1, 2]))?;
-    assert_eq!(rt; two.as_slice(), [3, 1].as_slice());
-    let front = front_below(rt, run, SliceSplit::new(&[1, 2, 5, 1]))?;
-    assert_eq!(rt; front.as_slice(), [1, 2].as_slice());
-    let rest = rest_below(rt, run, SliceSplit::new(&[1, 2, 5, 1]))?;
-    assert_eq!(rt; rest.as_slice(), [5, 1].as_slice());
-    let one = second_and_one(rt, run, SliceSplit::new(&[4, 8, 15]))?;
-    assert_eq!(rt; one.as_slice(), [9].as_slice());
+    let found = front(rt, run, of(SliceSplit::new(&[1, 2, 5, 1])))?;
+    check_list(rt, &found.0, &[1, 2]);
+    let found = rest(rt, run, of(SliceSplit::new(&[1, 2, 5, 1])))?;
+    check_list(rt, &found, &[5, 1]);
+    let found = second_and_one(rt, run, of(SliceSplit::new(&[4, 8, 15])))?;
+    check_list(rt, &found.0, &[9]);
+    let found = limited(rt, run, of(SliceSplit::new(&[4, 8, 15])), 0)?;
+    check_list(rt, &found.0, &[]);
     Ok(())
 }
 
-fn copies<R: Threads + Abort + Alloc<A = Global> + Sync>(
+fn firsts<R: Threads + Abort + Alloc<A = Global> + Sync>(
     rt: &R,
     run: &Run<'_, NoGate>,
 ) -> Result<(), Fail> {
-    let alloc = rt.alloc();
-    let each = of(SliceSplit::new(&[2, 0, 3]))
-        .flat_map(Copies { alloc })
-        .collect(rt, alloc, run, &ToList::new(alloc))?;
-    assert_eq!(rt; each.as_slice(), [2, 2, 3, 3, 3].as_slice());
-    let four = of(RangeSplit::range(1, 4)?)
-        .flat_map(Copies { alloc })
-        .limit(4)
-        .collect(rt, alloc, run, &ToList::new(alloc))?;
-    assert_eq!(rt; four.as_slice(), [1, 2, 2, 3].as_slice());
-    let none = of(SliceSplit::new(&[1, 2, 3]))
-        .flat_map(Repeat { alloc, number: 0 })
-        .count(rt, alloc, run)?;
-    assert_eq!(rt; none, 0);
-    Ok(())
-}
-
-fn numbers<R: Threads + Abort + Alloc<A = Global> + Sync>(
-    rt: &R,
-    run: &Run<'_, NoGate>,
-) -> Result<(), Fail> {
-    let alloc = rt.alloc();
-    let skipped = of(RangeSplit::range(1, 4)?).skip(10).count(rt, alloc, run)?;
-    assert_eq!(rt; skipped, 0);
-    let limited = of(RangeSplit::range(0, 10)?)
-        .limit(3)
-        .count(rt, alloc, run)?;
-    assert_eq!(rt; limited, 3);
-    let above = of(RangeSplit::range(0, 10)?)
-        .filter(Above(4))
-        .limit(3)
-        .count(rt, alloc, run)?;
-    assert_eq!(rt; above, 3);
-    let wrapped = of(RangeSplit::closed(i64::MAX - 1, i64::MAX)?).collect(
-        rt,
-        alloc,
-        run,
-        &SummingLong::new(Itself),
-    )?;
-    assert_eq!(rt; wrapped, -3);
-    let none = of(RangeSplit::range(5, 5)?).find_first(rt, alloc, run)?;
-    assert_eq!(rt; none, None);
+    let found = first_apart(rt, run, of(SliceSplit::new(&[3, 1, 3, 2, 1])), 9)?;
+    check_list(rt, &found, &[3, 1, 2]);
+    let found = first_apart(rt, run, of(SliceSplit::new(&[3, 3, 3, 1, 2])), 2)?;
+    check_list(rt, &found, &[3, 1]);
+    for (numbers, most, wanted, number) in [
+        ([2, 0, 3], 9, [2, 2, 3, 3, 3].as_slice(), 5),
+        ([1, 2, 3], 4, [1, 2, 2, 3].as_slice(), 6),
+        ([0, 0, 0], 9, [].as_slice(), 0),
+    ] {
+        let (items, count) = copies(rt, run, of(SliceSplit::new(&numbers)), most)?;
+        check_list(rt, &items, wanted);
+        assert!(rt; count == number);
+    }
     Ok(())
 }
 
@@ -140,22 +142,54 @@ fn reductions<R: Threads + Abort + Alloc<A = Global> + Sync>(
     rt: &R,
     run: &Run<'_, NoGate>,
 ) -> Result<(), Fail> {
-    let alloc = rt.alloc();
-    let greatest = of(RangeSplit::range(5, 5)?).reduce_optional(rt, alloc, run, &Max::new())?;
-    assert_eq!(rt; greatest, None);
-    let least = of(SliceSplit::new(&[2, 5, 3])).reduce_optional(rt, alloc, run, &Min::new())?;
-    assert_eq!(rt; least, Some(2));
-    let product = of(SliceSplit::new(&[2, 5, 3])).reduce_optional(rt, alloc, run, &WrapMul::new())?;
-    assert_eq!(rt; product, Some(30));
-    let sum = of(RangeSplit::range(1, 6)?).reduce(rt, alloc, run, 0, &WrapAdd::new())?;
-    assert_eq!(rt; sum, 15);
-    let nothing = of(RangeSplit::range(5, 5)?).reduce(rt, alloc, run, 0, &WrapAdd::new())?;
-    assert_eq!(rt; nothing, 0);
-    let last = of(SliceSplit::new(&[4, 9, 50, 60]))
-        .filter(Below(10))
-        .reduce(rt, alloc, run, 0, &LastOf::new())?;
-    assert_eq!(rt; last, 9);
+    check_value(rt, joined(rt, run, &[], &Max::new())?, None);
+    check_value(rt, joined(rt, run, &[2, 5, 3], &Min::new())?, Some(2));
+    check_value(rt, joined(rt, run, &[2, 5, 3], &WrapMul::new())?, Some(30));
+    let last = last_below(rt, run, of(SliceSplit::new(&[4, 9, 50, 60])))?;
+    check_value(rt, Some(last), Some(9));
     Ok(())
+}
+
+// The first number and two sums, of the numbers from one to before another.
+fn first_and_sums<R: Threads + Alloc<A = Global> + Sync>(
+    rt: &R,
+    run: &Run<'_, NoGate>,
+    numbers: RangeSplit,
+) -> Result<(Option<i64>, [i64; 2]), StreamError> {
+    let numbers = of(numbers);
+    let first = first_of(rt, run, &numbers)?;
+    let joined = reduced(rt, run, &numbers, 0, &WrapAdd::new())?;
+    Ok((first, [joined, sum_of(rt, run, &numbers)?]))
+}
+
+fn ranges<R: Threads + Abort + Alloc<A = Global> + Sync>(
+    rt: &R,
+    run: &Run<'_, NoGate>,
+) -> Result<(), Fail> {
+    let five = first_and_sums(rt, run, RangeSplit::range(1, 6)?)?;
+    check_value(rt, five.0, Some(1));
+    check_list(rt, &five.1, &[15, 15]);
+    let none = first_and_sums(rt, run, RangeSplit::range(5, 5)?)?;
+    check_value(rt, none.0, None);
+    check_list(rt, &none.1, &[0, 0]);
+    let last = RangeSplit::closed(i64::MAX - 1, i64::MAX)?;
+    let wrapped = first_and_sums(rt, run, last)?;
+    check_list(rt, &wrapped.1, &[-3, -3]);
+    Ok(())
+}
+
+// The last number below 10, or 0.
+fn last_below<R: Threads + Alloc<A = Global> + Sync, X: Stream<Item = i64> + Drop + Sync>(
+    rt: &R,
+    run: &Run<'_, NoGate>,
+    numbers: X,
+) -> Result<i64, StreamError>
+where
+    X::Progress: Send + Sync,
+    X::Part: Send,
+    requires { X.ready numbers }
+{
+    reduced(rt, run, &numbers.filter(Below(10)), 0, &LastOf::new())
 }
 
 #[test]
@@ -167,10 +201,10 @@ fn rows_at_each_number_of_workers(rt: HostRuntime) -> Result<(), Fail> {
                 target,
                 gate: &NoGate,
             };
-            lists(&rt, &run)?;
-            copies(&rt, &run)?;
-            numbers(&rt, &run)?;
+            fronts(&rt, &run)?;
+            firsts(&rt, &run)?;
             reductions(&rt, &run)?;
+            ranges(&rt, &run)?;
         }
     }
     Ok(())
@@ -184,11 +218,9 @@ fn the_first_of_a_million(rt: HostRuntime) -> Result<(), Fail> {
             target: 1000,
             gate: &NoGate,
         };
-        let first = of(RangeSplit::range(0, 1_000_000)?)
-            .map(Times(3))
-            .filter(Above(100))
-            .find_first(&rt, rt.alloc(), &run)?;
-        assert_eq!(rt; first, Some(102));
+        let million = of(RangeSplit::range(0, 1_000_000)?);
+        let first = first_image(&rt, &run, million, Times(3), Above(100))?;
+        check_value(&rt, first, Some(102));
     }
     Ok(())
 }

@@ -1,7 +1,8 @@
 //! Settings that are refused before anything runs.
 
+use super::answers::{check_value, counted, first_of};
 use super::gates::Counts;
-use parallel_streams::{Run, Stream, StreamError, of};
+use parallel_streams::{Run, StreamError, of};
 use sources::RangeSplit;
 use std::sync::atomic::Ordering;
 use std::test::Fail;
@@ -21,15 +22,15 @@ fn unlawful_settings_are_refused(rt: HostRuntime) -> Result<(), Fail> {
             target,
             gate: &gate,
         };
-        assert_eq!(rt; ten.count(&rt, rt.alloc(), &run), Err(error));
-        assert_eq!(rt; ten.find_first(&rt, rt.alloc(), &run), Err(error));
+        assert!(rt; counted(&rt, &run, &ten) == Err(error));
+        assert!(rt; first_of(&rt, &run, &ten) == Err(error));
     }
-    assert_eq!(rt; gate.entered.load(Ordering::SeqCst), 0);
+    assert!(rt; gate.entered.load(Ordering::SeqCst) == 0);
     let run = Run {
         workers: 64,
         target: 4_611_686_018_427_387_904,
         gate: &gate,
     };
-    assert_eq!(rt; ten.find_first(&rt, rt.alloc(), &run)?, Some(0));
+    check_value(&rt, first_of(&rt, &run, &ten)?, Some(0));
     Ok(())
 }

@@ -1,56 +1,80 @@
 //! Streams of texts.
 
-use super::functions::Itself;
-use super::groups::check_entries;
+use super::functions::{Both, Itself};
 use super::words::{Length, Words};
 use super::{TARGETS, WORKERS};
-use parallel_streams::{Run, Stream, of};
-use collectors::{GroupingBy, Joining, MappingTo, SummingLong};
-use sources::{LinesSplit, SliceSplit};
+use collectors::{GroupingBy, Joining, MappingTo, SummingLong, Teeing};
+use indexmap::IndexMap;
+use parallel_streams::{Run, Stream, StreamError, of};
+use sources::LinesSplit;
 use std::alloc::Global;
 use std::process::Abort;
 use std::test::Fail;
 use std::thread::Threads;
 use stealing_pool::NoGate;
 
-fn joined<R: Threads + Abort + Alloc<A = Global> + Sync>(
+/// Lines, what stands between, before and after their words, and the whole. An empty text is an item like any other.
+const JOINED: [(&str, [&str; 3], &str); 3] = [
+    ("\na\n\n", [",", "", ""], ",a,"),
+    ("\n\n\n", [",", "<", ">"], "<,,>"),
+    ("a b\nc\n", ["-", "<", ">"], "<a-b-c>"),
+];
+
+/// Lines, and of each length of a line the length, the lines joined, and the sum of the lengths.
+const BY_LENGTH: [(&str, [(i64, &str, i64); 2]); 2] = [
+    ("bb\na\ncc\n", [(2, "bb+cc", 4), (1, "a", 1)]),
+    ("a b\nc\na\n", [(3, "a b", 3), (1, "c+a", 2)]),
+];
+
+fn joined<R: Threads + Alloc<A = Global> + Sync>(
     rt: &R,
     run: &Run<'_, NoGate>,
-) -> Result<(), Fail> {
+    lines: &str,
+    frame: [&str; 3],
+) -> Result<String, StreamError> {
     let alloc = rt.alloc();
-    // an empty text is an item like any other
-    let commas = Joining::<&str>::new(alloc, ",", "", "");
-    let text = of(LinesSplit::new("\na\n\n")).collect(rt, alloc, run, &commas)?;
-    assert_eq!(rt; text.as_str(), ",a,");
-    let framed = Joining::<&str>::new(alloc, ",", "<", ">");
-    let text = of(SliceSplit::new(&["", "", ""])).collect(rt, alloc, run, &framed)?;
-    assert_eq!(rt; text.as_str(), "<,,>");
-    let dashes = Joining::<&str>::new(alloc, "-", "<", ">");
-    let text = of(LinesSplit::new("a b\nc\n"))
-        .flat_map(Words { alloc })
-        .collect(rt, alloc, run, &dashes)?;
-    assert_eq!(rt; text.as_str(), "<a-b-c>");
-    Ok(())
+    let words = of(LinesSplit::new(lines)).flat_map(Words { alloc });
+    let text = Joining::<&str>::new(alloc, frame[0], frame[1], frame[2]);
+    words.collect(rt, alloc, run, &text)
 }
 
-fn by_length<R: Threads + Abort + Alloc<A = Global> + Sync>(
+fn by_length<R: Threads + Alloc<A = Global> + Sync>(
+    rt: &R,
+    run: &Run<'_, NoGate>,
+    lines: &str,
+) -> Result<IndexMap<i64, (String, i64)>, StreamError> {
+    let alloc = rt.alloc();
+    let texts = Joining::<&str>::new(alloc, "+", "", "");
+    let sums = MappingTo::<&str, _, _>::new(Length, SummingLong::new(Itself));
+    let by_length = GroupingBy::new(alloc, Length, Teeing::new(texts, sums, Both));
+    of(LinesSplit::new(lines)).collect(rt, alloc, run, &by_length)
+}
+
+// Whether a map has these lengths, joined lines and sums, in this order.
+fn has(found: &IndexMap<i64, (String, i64)>, expected: &[(i64, &str, i64)]) -> bool {
+    let mut groups = found.iter();
+    for (length, text, sum) in expected {
+        match groups.next() {
+            Some((key, value)) if key == length && value.0.as_str() == *text && value.1 == *sum =>
+                {}
+            _ => return false,
+        }
+    }
+    groups.next().is_none()
+}
+
+fn texts<R: Threads + Abort + Alloc<A = Global> + Sync>(
     rt: &R,
     run: &Run<'_, NoGate>,
 ) -> Result<(), Fail> {
-    let alloc = rt.alloc();
-    let texts = GroupingBy::new(alloc, Length, Joining::<&str>::new(alloc, "+", "", ""));
-    let found = of(LinesSplit::new("bb\na\ncc\n")).collect(rt, alloc, run, &texts)?;
-    let mut groups = found.iter();
-    for (length, text) in [(2, "bb+cc"), (1, "a")] {
-        let (key, value) = groups.next().ok_or("a group is missing")?;
-        assert_eq!(rt; *key, length);
-        assert_eq!(rt; value.as_str(), text);
+    for (lines, frame, wanted) in JOINED {
+        let text = joined(rt, run, lines, frame)?;
+        assert!(rt; text.as_str() == wanted);
     }
-    assert!(rt; groups.next().is_none());
-    let lengths = MappingTo::<&str, _, _>::new(Length, SummingLong::new(Itself));
-    let sums = GroupingBy::new(alloc, Length, lengths);
-    let found = of(LinesSplit::new("a b\nc\na\n")).collect(rt, alloc, run, &sums)?;
-    check_entries(rt, &found, &[(3, 3), (1, 2)]);
+    for (lines, expected) in BY_LENGTH {
+        let found = by_length(rt, run, lines)?;
+        assert!(rt; has(&found, &expected));
+    }
     Ok(())
 }
 
@@ -63,8 +87,7 @@ fn texts_at_each_number_of_workers(rt: HostRuntime) -> Result<(), Fail> {
                 target,
                 gate: &NoGate,
             };
-            joined(&rt, &run)?;
-            by_length(&rt, &run)?;
+            texts(&rt, &run)?;
         }
     }
     Ok(())

@@ -1,0 +1,200 @@
+//! Terminal operations at the end of any stream, so that a row asks for little more than its stream's type.
+ghost use Rattle.parallel_streams.specs.Terminals.{IsLeftIdentity};
+ghost use Rattle.spliterator.specs.Values.{IsI64};
+ghost use Rattle.stages.specs.Operators.{IsAssociative};
+
+use super::functions::Itself;
+use collectors::{Collector, SummingLong, ToList};
+use parallel_streams::{Run, Stream, StreamError, of};
+use sources::{RangeSplit, SliceSplit};
+use stages::{Mapping, Operator, Test};
+use std::alloc::Global;
+use std::process::Abort;
+use std::thread::Threads;
+use stealing_pool::{Gate, NoGate, RunReport};
+
+/// The items of a stream.
+pub fn listed<R: Threads + Alloc<A = Global> + Sync, H: Gate + Sync, X: Stream<Item = i64> + Sync>(
+    rt: &R,
+    run: &Run<'_, H>,
+    stream: &X,
+) -> Result<Vec<i64>, StreamError>
+where
+    X::Progress: Send + Sync,
+    X::Part: Send,
+    requires { X.ready stream.now }
+{
+    stream.collect(rt, rt.alloc(), run, &ToList::new(rt.alloc()))
+}
+
+/// The items of a stream, and what each run tells of its leaves.
+pub fn reported<
+    R: Threads + Alloc<A = Global> + Sync,
+    H: Gate + Sync,
+    X: Stream<Item = i64> + Sync,
+>(rt: &R, run: &Run<'_, H>, stream: &X) -> Result<(Vec<i64>, RunReport), StreamError>
+where
+    X::Progress: Send + Sync,
+    X::Part: Send,
+    requires { X.ready stream.now }
+{
+    stream.collect_reported(rt, rt.alloc(), run, &ToList::new(rt.alloc()))
+}
+
+/// The number of items of a stream.
+pub fn counted<R: Threads + Alloc<A = Global> + Sync, H: Gate + Sync, X: Stream + Sync>(
+    rt: &R,
+    run: &Run<'_, H>,
+    stream: &X,
+) -> Result<i64, StreamError>
+where
+    X::Item: Send + Sync,
+    X::Progress: Send + Sync,
+    X::Part: Send,
+    requires { X.ready stream.now }
+{
+    stream.count(rt, rt.alloc(), run)
+}
+
+/// The first item of a stream.
+pub fn first_of<
+    R: Threads + Alloc<A = Global> + Sync,
+    H: Gate + Sync,
+    X: Stream<Item = i64> + Sync,
+>(rt: &R, run: &Run<'_, H>, stream: &X) -> Result<Option<i64>, StreamError>
+where
+    X::Progress: Send + Sync,
+    X::Part: Send,
+    requires { X.ready stream.now }
+{
+    stream.find_first(rt, rt.alloc(), run)
+}
+
+/// The sum of the items of a stream, by a collector.
+pub fn sum_of<R: Threads + Alloc<A = Global> + Sync, X: Stream<Item = i64> + Sync>(
+    rt: &R,
+    run: &Run<'_, NoGate>,
+    stream: &X,
+) -> Result<i64, StreamError>
+where
+    X::Progress: Send + Sync,
+    X::Part: Send,
+    requires { X.ready stream.now }
+{
+    stream.collect(rt, rt.alloc(), run, &SummingLong::new(Itself))
+}
+
+/// What a collector makes of numbers.
+pub fn collected<R: Threads + Alloc<A = Global> + Sync, C: Collector<Item = i64> + Sync>(
+    rt: &R,
+    run: &Run<'_, NoGate>,
+    numbers: &[i64],
+    collector: &C,
+) -> Result<C::Out, StreamError>
+where
+    C::Acc: Send,
+    C::Out: Send,
+    requires { C.ready collector.now }
+{
+    of(SliceSplit::new(numbers)).collect(rt, rt.alloc(), run, collector)
+}
+
+/// The images of numbers that meet a test.
+pub fn images_meeting<
+    R: Threads + Alloc<A = Global> + Sync,
+    X: Stream<Item = i64> + Drop + Sync,
+    M: Mapping<i64, Out = i64> + Drop + Send + Sync,
+    P: Test<i64> + Drop + Send + Sync,
+>(rt: &R, run: &Run<'_, NoGate>, numbers: X, mapping: M, test: P) -> Result<Vec<i64>, StreamError>
+where
+    X::Progress: Send + Sync,
+    X::Part: Send,
+    requires numbers { X.ready numbers }
+    requires mapping { M.ready mapping }
+    requires test { P.ready test }
+{
+    listed(rt, run, &numbers.map(mapping).filter(test))
+}
+
+/// The first image of numbers that meets a test.
+pub fn first_image<
+    R: Threads + Alloc<A = Global> + Sync,
+    X: Stream<Item = i64> + Drop + Sync,
+    M: Mapping<i64, Out = i64> + Drop + Send + Sync,
+    P: Test<i64> + Drop + Send + Sync,
+>(
+    rt: &R,
+    run: &Run<'_, NoGate>,
+    numbers: X,
+    mapping: M,
+    test: P,
+) -> Result<Option<i64>, StreamError>
+where
+    X::Progress: Send + Sync,
+    X::Part: Send,
+    requires numbers { X.ready numbers }
+    requires mapping { M.ready mapping }
+    requires test { P.ready test }
+{
+    first_of(rt, run, &numbers.map(mapping).filter(test))
+}
+
+/// The first items of a stream, and what each run tells of its leaves.
+pub fn limited<
+    R: Threads + Alloc<A = Global> + Sync,
+    H: Gate + Sync,
+    X: Stream<Item = i64> + Drop + Sync,
+>(rt: &R, run: &Run<'_, H>, numbers: X, most: u32) -> Result<(Vec<i64>, RunReport), StreamError>
+where
+    X::Progress: Send + Sync,
+    X::Part: Send,
+    requires { X.ready numbers }
+{
+    reported(rt, run, &numbers.limit(u64::from(most)))
+}
+
+/// The items of a stream joined by an operator, from the identity on.
+pub fn reduced<
+    R: Threads + Alloc<A = Global> + Sync,
+    X: Stream<Item = i64> + Sync,
+    O: Operator<i64> + Sync,
+>(
+    rt: &R,
+    run: &Run<'_, NoGate>,
+    stream: &X,
+    identity: i64,
+    operator: &O,
+) -> Result<i64, StreamError>
+where
+    X::Progress: Send + Sync,
+    X::Part: Send,
+    requires stream { X.ready stream.now }
+    requires operator { O.ready operator.now }
+    requires associative { IsAssociative IsI64 (O.join operator.now) }
+    requires identity { IsLeftIdentity IsI64 (O.join operator.now) identity }
+{
+    stream.reduce(rt, rt.alloc(), run, identity, operator)
+}
+
+/// Numbers joined by an operator, or none where there is no number.
+pub fn joined<R: Threads + Alloc<A = Global> + Sync, O: Operator<i64> + Sync>(
+    rt: &R,
+    run: &Run<'_, NoGate>,
+    numbers: &[i64],
+    operator: &O,
+) -> Result<Option<i64>, StreamError>
+    requires operator { O.ready operator.now }
+    requires associative { IsAssociative IsI64 (O.join operator.now) }
+{
+    of(SliceSplit::new(numbers)).reduce_optional(rt, rt.alloc(), run, operator)
+}
+
+/// Checks a list of numbers.
+pub fn check_list(rt: &impl Abort, found: &[i64], wanted: &[i64]) {
+    assert_eq!(rt; found, wanted);
+}
+
+/// Checks a number, or that there is none.
+pub fn check_value(rt: &impl Abort, found: Option<i64>, wanted: Option<i64>) {
+    assert_eq!(rt; found, wanted);
+}
