@@ -5,7 +5,9 @@
 
 Each COMMAND is one word of the shell's, as `'rt ci'`, and ends by a line `N passed, M failed`. The parts run in the folder in which
 this script was started; the first that fails ends the run. Last come a table of the processor minutes of each crate (read
-twice a second of the running checks), the wall and processor minutes of each part, its sum, and alone on the last line the sum of all.
+each second of the running checks), the wall and processor minutes of each part, its sum, how loaded the machine was, and alone on the last
+line the sum of all. A processor second of a loaded machine does less: the load is told by the share of time that the machine's host took
+away, and by a short fixed loop, which is timed again and again beside the least that it took.
 
 `rt ci` proves a crate anew for its must-fail edits, and removes that work in the end. Where KEPT_WORK names a folder, the work is linked into
 a folder NAME of it meanwhile, so that `checks/wrong_bodies.py` need not do it again.
@@ -26,8 +28,9 @@ import time
 CLOSING = re.compile(r"(\d+) passed, (\d+) failed")
 KINDS = ("proof", "tests", "must-fail", "wrong bodies")
 TICKS = os.sysconf("SC_CLK_TCK")
-READ_EACH = 0.5
+READ_EACH = 1
 LINK_EACH = 5
+SPEED_EACH = 20
 
 
 def parents_of(number):
@@ -105,6 +108,40 @@ class Checks:
             yield " ".join([f"{crate:{width}}", *(f"{it:12.1f}" for it in (*by_kind.values(), sum(by_kind.values())))])
 
 
+def host_share(before, after):
+    """The share of the processors' time that the machine's host took away, between two readings of /proc/stat."""
+    spent = [late - early for early, late in zip(before, after)]
+    return spent[7] / max(1, sum(spent[:8]))
+
+
+def processor_times():
+    return [*map(int, pathlib.Path("/proc/stat").read_text().split("\n")[0].split()[1:])]
+
+
+class Machine:
+    """How loaded the machine is, until told to end."""
+
+    def __init__(self):
+        self.before, self.loops, self.over = processor_times(), [], threading.Event()
+        self.timer = threading.Thread(target=self.time_loops, daemon=True)
+
+    def time_loops(self):
+        while not self.over.wait(SPEED_EACH if self.loops else 0):
+            started = time.thread_time()
+            for _ in range(500_000):
+                pass
+            self.loops.append(time.thread_time() - started)
+
+    def told(self, minutes):
+        """Says what so many processor minutes come to, where the fixed loop runs as fast as it ever did."""
+        taken = host_share(self.before, processor_times())
+        slower = sum(self.loops) / len(self.loops) / min(self.loops)
+        return (
+            f"load: {os.cpu_count()} processors, {taken:.0%} of their time taken by the host; a fixed loop took {slower:.2f} times its least,"
+            f" so {minutes:.1f} minutes of a processor are some {minutes / slower:.1f} at its best"
+        )
+
+
 def processor_seconds():
     used = resource.getrusage(resource.RUSAGE_CHILDREN)
     return used.ru_utime + used.ru_stime
@@ -122,8 +159,9 @@ def run(command):
 
 
 def main():
-    checks, told, sums = Checks(), [], [0, 0]
+    checks, machine, told, sums = Checks(), Machine(), [], [0, 0]
     checks.reader.start()
+    machine.timer.start()
     for command in sys.argv[1:]:
         started, used = time.monotonic(), processor_seconds()
         status, passed, failed = run(command)
@@ -134,7 +172,8 @@ def main():
         if failed:
             break
     checks.over.set()
-    print(*checks.table(), *told, f"{sums[0]} passed, {sums[1]} failed", sep="\n")
+    machine.over.set()
+    print(*checks.table(), *told, machine.told(processor_seconds() / 60), f"{sums[0]} passed, {sums[1]} failed", sep="\n")
     sys.exit(sums[1] > 0)
 
 
