@@ -1,5 +1,5 @@
 //! How much of a list is enough.
-ghost use Rattle.std.specs.Prelude.{◌≡◌, ◌<◌, ◌^◌, ℕ, Bool, Option, Some, None, ⊤};
+ghost use Rattle.std.specs.Prelude.{◌≡◌, ◌<◌, ◌≤◌, ◌^◌, ℕ, length, take, map, count_by, Bool, Option, Some, None, ⊤};
 ghost use Rattle.barriers.specs.Needs.{need_of, every_item, no_item, IsBelow, CountsNone};
 
 use spliterator::Value;
@@ -34,6 +34,26 @@ pub trait Demand<T: Value> {
     fn counts(&self, x: &T) -> bool
         requires { ready self.now }
         ensures { result ≡ counted self.now (T.content x.now) };
+
+    /// How many items of a block are taken until so many count, and how many of these count: all items, where fewer count.
+    fn front(&self, items: &[T], wanted: u64) -> (usize, u64)
+        requires { ready self.now }
+        ensures within { result.0 ≤ length items.now }
+        ensures counting { result.1 ≡ count_by (counted self.now) (map T.content (take result.0 items.now)) }
+        ensures most { result.1 ≤ wanted }
+        ensures whole { result.1 < wanted → result.0 ≡ length items.now }
+    {
+        let mut counting = 0;
+        for (taken, item) in items.iter().enumerate() {
+            if counting >= wanted {
+                return (taken, counting);
+            }
+            if self.counts(item) {
+                counting += 1;
+            }
+        }
+        (items.len(), counting)
+    }
 }
 
 /// Nothing is ever enough.

@@ -1,5 +1,5 @@
 //! What a collector is.
-ghost use Rattle.std.specs.Prelude.{◌≡◌, List, All, IfOk, OnOk, fold, ⊤};
+ghost use Rattle.std.specs.Prelude.{◌≡◌, List, All, IfOk, OnOk, fold, map, ⊤};
 ghost use Rattle.collectors.specs.Laws.{CollectorLaws};
 
 use spliterator::{NoMemory, Value};
@@ -47,6 +47,17 @@ pub trait Collector {
     fn accumulate(&self, acc: &mut Self::Acc, x: &Self::Item) -> Result<(), NoMemory>
         requires { ready self.now }
         ensures { OnOk result (content self.now acc.new ≡ add self.now (content self.now acc.old) (Self.Item.content x.now)) };
+
+    /// Takes a block of items into a container, in order.
+    fn accumulate_all(&self, acc: &mut Self::Acc, items: &[Self::Item]) -> Result<(), NoMemory>
+        requires { ready self.now }
+        ensures { OnOk result (content self.now acc.new ≡ fold (add self.now) (content self.now acc.old) (map Self.Item.content items.now)) }
+    {
+        for item in items {
+            self.accumulate(acc, item)?;
+        }
+        Ok(())
+    }
 
     /// Takes the container of what follows into the container of what comes first.
     fn combine(&self, left: &mut Self::Acc, right: Self::Acc) -> Result<(), NoMemory>

@@ -87,8 +87,8 @@ impl<C: Case> BoardSeat<C> {
 /// Hands out leaves, keeps their counts, and cuts off the leaves that can no longer matter.
 ///
 /// Its words, in one table: the cut, which is the number of leaves where there is none; a ticket for each seat's share of the
-/// leaves; and a word for each leaf, which is 0, or 1 more than its count. Each call is made of single atomic steps on one word.
-/// It takes no lock and no memory, tries no step again and waits for nobody.
+/// leaves; and a word for each leaf, which is 0, or 1 more than its count. Each call of a seat is made of single atomic steps on one
+/// word. It takes no lock and no memory, tries no step again and waits for nobody. Only `new` asks for memory, the table's.
 ///
 /// ```text
 /// let (board, mut seats) = Board::<C>::new(alloc, 1000, Need::Reach(10), 4)?;

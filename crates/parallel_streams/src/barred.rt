@@ -131,6 +131,7 @@ impl<U: Stream, B: Barrier<U::Item>> Stream for Barred<U, B> {
             let nothing = Nothing::new();
             let list = ToList::new(alloc);
             let end = self.upstream.run_last_leaf(
+                alloc,
                 &progress.before,
                 &nothing,
                 &self.barrier,
@@ -209,6 +210,7 @@ impl<U: Stream, B: Barrier<U::Item>> Stream for Barred<U, B> {
         L: Handout,
     >(
         &self,
+        alloc: Global,
         progress: &Gathered<U::Progress, U::Item>,
         stage: &G,
         demand: &D,
@@ -222,6 +224,7 @@ impl<U: Stream, B: Barrier<U::Item>> Stream for Barred<U, B> {
         };
         let items = listed.places.part(&listed.items, leaf);
         run_leaf(
+            alloc,
             SliceSplit::new(items),
             stage,
             demand,

@@ -57,6 +57,7 @@ impl<X: Stream> LeafJob for BarrierRun<'_, '_, X> {
 // The last run.
 #[derive(Drop)]
 struct LastRun<'a, 'b, 'c, 'd, X: Stream, D, C> {
+    alloc: Global,
     stream: &'a X,
     progress: &'b X::Progress,
     demand: &'c D,
@@ -87,6 +88,7 @@ impl<X: Stream, D: Demand<X::Item>, C: Collector<Item = X::Item>> LeafJob
     ) -> Result<LeafEnd<C::Acc>, NoMemory> {
         let nothing = Nothing::new();
         self.stream.run_last_leaf(
+            self.alloc,
             self.progress,
             &nothing,
             self.demand,
@@ -193,6 +195,7 @@ where
 {
     let (progress, mut entries) = run_barriers(rt, alloc, stream, run)?;
     let job = LastRun {
+        alloc,
         stream,
         progress: &progress,
         demand,

@@ -150,6 +150,7 @@ where
         L: Handout,
     >(
         &self,
+        alloc: Global,
         plan: &Plan<S>,
         stage: &G,
         demand: &D,
@@ -158,6 +159,15 @@ where
         seat: &mut L::Seat,
         leaf: usize,
     ) -> Result<LeafEnd<C::Acc>, NoMemory> {
-        run_leaf(plan.leaf(leaf), stage, demand, collector, board, seat, leaf)
+        run_leaf(
+            alloc,
+            plan.leaf(leaf),
+            stage,
+            demand,
+            collector,
+            board,
+            seat,
+            leaf,
+        )
     }
 }

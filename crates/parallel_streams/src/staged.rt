@@ -133,6 +133,7 @@ where
         L: Handout,
     >(
         &self,
+        alloc: Global,
         progress: &U::Progress,
         stage: &G,
         demand: &D,
@@ -142,7 +143,8 @@ where
         leaf: usize,
     ) -> Result<LeafEnd<C::Acc>, NoMemory> {
         let fused = Then::new(&self.stage, stage);
-        self.upstream
-            .run_last_leaf(progress, &fused, demand, collector, board, seat, leaf)
+        self.upstream.run_last_leaf(
+            alloc, progress, &fused, demand, collector, board, seat, leaf,
+        )
     }
 }

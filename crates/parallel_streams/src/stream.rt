@@ -177,6 +177,7 @@ pub trait Stream {
         L: Handout,
     >(
         &self,
+        alloc: Global,
         progress: &Self::Progress,
         stage: &G,
         demand: &D,

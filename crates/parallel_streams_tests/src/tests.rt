@@ -23,6 +23,6 @@ mod words;
 /// The targets that each row runs at: a leaf an item, and the default.
 const TARGETS: [u64; 2] = [1, 0];
 
-/// The numbers of workers that each row runs with at each target. The first two are those at which each request for memory is refused in
-/// turn (checks/refused_tests.py).
+/// The numbers of workers that each row runs with at each target. Requests for memory are refused in turn by checks/refused_tests.py, which
+/// stops at a test's first 1,000: mostly those of the first number.
 const WORKERS: [u32; 4] = [1, 7, 2, 64];

@@ -57,6 +57,18 @@ impl<A: Stage> Stage for &A {
         (**self).feed(x, sink)
     }
 
+    fn prefers_blocks(&self) -> bool {
+        (**self).prefers_blocks()
+    }
+
+    fn feed_all<K: Sink<A::Out>>(
+        &self,
+        items: &mut Vec<A::In>,
+        sink: &mut K,
+    ) -> Result<(), NoMemory> {
+        (**self).feed_all(items, sink)
+    }
+
     fn operation(&self) -> Operation {
         (**self).operation()
     }

@@ -1,5 +1,5 @@
 //! Where a stage's items go, one after another.
-ghost use Rattle.std.specs.Prelude.{◌≡◌, List, [], ◌∷◌, ◌++◌, IsTrue, OnOk, OnErr, flat_map, refl, ⊤};
+ghost use Rattle.std.specs.Prelude.{◌≡◌, List, [], ◌∷◌, ◌++◌, IsTrue, OnOk, OnErr, flat_map, map, refl, ⊤};
 ghost use Rattle.std.proofs.Common.{◌∙◌, sym, subst, append-nil};
 ghost use Rattle.stages.specs.Appends.{Appends, Grows, append-none, append-append, grows-later};
 ghost use Rattle.stages.specs.Passing.{passes-both};
@@ -24,6 +24,23 @@ pub trait Sink<T: Value> {
         requires { ready self.old }
         ensures taken { OnOk result (takes self.old (T.content x ∷ []) self.new) }
         ensures spoilt { OnErr result (spoils self.old self.new) };
+
+    /// Takes a block of items, in order. What the list holds afterwards is of no use.
+    fn take_all(&mut self, items: &mut Vec<T>) -> Result<(), NoMemory>
+    where
+        T: Drop,
+        requires { ready self.old }
+        ensures taken { OnOk result (takes self.old (map T.content items.old.items) self.new) }
+        ensures spoilt { OnErr result (spoils self.old self.new) }
+    {
+        for item in items.drain(..) {
+            if self.is_full() {
+                return Ok(());
+            }
+            self.take(item)?;
+        }
+        Ok(())
+    }
 
     /// Whether no item makes a difference any more.
     fn is_full(&self) -> bool
@@ -58,6 +75,11 @@ impl<T: Value + Drop> Sink<T> for Vec<T> {
 
     fn take(&mut self, x: T) -> Result<(), NoMemory> {
         self.push(x)?;
+        Ok(())
+    }
+
+    fn take_all(&mut self, items: &mut Vec<T>) -> Result<(), NoMemory> {
+        self.append(items)?;
         Ok(())
     }
 
@@ -102,6 +124,10 @@ impl<B: Stage, K: Sink<B::Out>> Sink<B::In> for Onward<'_, B, K> {
 
     fn take(&mut self, x: B::In) -> Result<(), NoMemory> {
         self.next.feed(x, self.sink)
+    }
+
+    fn take_all(&mut self, items: &mut Vec<B::In>) -> Result<(), NoMemory> {
+        self.next.feed_all(items, self.sink)
     }
 
     fn is_full(&self) -> bool {

@@ -204,6 +204,10 @@ impl<T: OrderedValue + Drop> Stage for Nothing<T> {
         sink.take(x)
     }
 
+    fn feed_all<K: Sink<T>>(&self, items: &mut Vec<T>, sink: &mut K) -> Result<(), NoMemory> {
+        sink.take_all(items)
+    }
+
     fn operation(&self) -> Operation {
         Operation::Map
     }
@@ -247,6 +251,20 @@ impl<A: Stage, B: Stage<In = A::Out>> Stage for Then<A, B> {
     fn feed<K: Sink<B::Out>>(&self, x: A::In, sink: &mut K) -> Result<(), NoMemory> {
         let mut onward = Onward::new(&self.second, sink);
         self.first.feed(x, &mut onward)
+    }
+
+    fn feed_all<K: Sink<B::Out>>(
+        &self,
+        items: &mut Vec<A::In>,
+        sink: &mut K,
+    ) -> Result<(), NoMemory> {
+        let mut onward = Onward::new(&self.second, sink);
+        self.first.feed_all(items, &mut onward)
+    }
+
+    // Where the second does, a first that passes a block on is no loss.
+    fn prefers_blocks(&self) -> bool {
+        self.first.prefers_blocks() || self.second.prefers_blocks()
     }
 
     fn operation(&self) -> Operation {

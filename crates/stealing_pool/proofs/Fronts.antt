@@ -1,7 +1,7 @@
 -- What a keeper keeps of what it is offered.
-use Rattle.std.proofs.Common.{◌≡◌, ◌<◌, ◌≤◌, ◌^◌, ◌+◌, ◌++◌, ◌∷◌, ℕ, Bool, true, false, List, [], Option, Some, None, arith, cond, add-zero, refl, ap, sym, ◌∙◌, append_assoc, append-nil, subst, inl, inr}
-use Rattle.std.specs.Prelude.{count_by}
-use Rattle.std.proofs.lemmas.List.Elements.{All-push}
+use Rattle.std.proofs.Common.{◌≡◌, ◌<◌, ◌≤◌, ◌^◌, ◌+◌, ◌++◌, ◌∷◌, ℕ, Bool, true, false, List, [], Option, Some, None, arith, cond, add-zero, refl, ap, ap₂, sym, ◌∙◌, append_assoc, append-nil, subst, inl, inr}
+use Rattle.std.specs.Prelude.{count_by, All, fold, ◌⊎◌}
+use Rattle.std.proofs.lemmas.List.Elements.{All-push, All-append}
 use Rattle.std.proofs.lemmas.List.Sums.{fold-append, sum_by-append}
 use Rattle.barriers.specs.Needs.{IsBelow, CountsNone, Reaches}
 use Rattle.stealing_pool.specs.declared.job.Portion.{Portion}
@@ -22,6 +22,12 @@ within_more (Some r) counted x n never under met =
     let some : P true = omega arith in
     let none : P false = omega arith in
     elim (counted x) as P [ true ↦ some | false ↦ none ]
+
+-- where nothing counts, the count is 0
+pub count_none : {T : Type 0} (counted : T → Bool) → ((x : T) → counted x ≡ false) → (xs : List T) → count_by counted xs ≡ 0
+count_none counted none [] = refl
+count_none counted none (x ∷ xs) =
+    sum_by-append (λ y. cond (counted y) 1 0) (x ∷ []) xs ∙ ap₂ (λ (a b : ℕ). a + b) (ap (λ b. 0 + cond b 1 0) (none x)) (count_none counted none xs)
 
 within_none : (need : Option ℕ) → IsWithin need 0
 within_none None = refl
@@ -49,6 +55,23 @@ module _ {T C A : Type 0} (f : Folding T C) (content : A → C) where
         omega arith,
         subst P (sym count) (within_more f.needed f.counted x p.count never under within),
         inl refl,
+      )
+
+  -- what has not enough keeps a front of a block: all of it, or so much that it is enough
+  pub front_block : (p p' : Portion A) (xs ys zs : List T) → xs ≡ ys ++ zs → (Reaches f.needed p.count → ⊥) → All f.is_value ys → p'.count ≡ p.count + count_by f.counted ys
+      → content p'.kept ≡ fold f.add (content p.kept) ys → (IsWithin f.needed p.count → IsWithin f.needed p'.count) → ((zs ≡ []) ⊎ Reaches f.needed p'.count)
+      → Offers (KeepsFront f content) p xs p'
+  front_block p p' xs ys zs parts under values count adds stays ends whole (front, rest, is, folds, counts, within, inr reached) = absurd (under reached)
+  front_block p p' xs ys zs parts under values count adds stays ends whole (front, rest, is, folds, counts, within, inl none) =
+      let same : whole ≡ front = is ∙ ap (λ l. front ++ l) none ∙ append-nil front in
+      let both = sum_by-append (λ y. cond (f.counted y) 1 0) front ys in (
+        front ++ ys,
+        zs,
+        ap (λ l. l ++ xs) same ∙ ap (λ l. front ++ l) parts ∙ sym (append_assoc front ys zs),
+        (All-append f.is_value front ys folds.0 values, adds ∙ ap (λ c. fold f.add c ys) folds.1 ∙ sym (fold-append f.add f.empty front ys)),
+        omega arith,
+        stays within,
+        ends,
       )
 
   -- a new container keeps nothing of nothing

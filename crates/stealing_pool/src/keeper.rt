@@ -1,7 +1,8 @@
 //! What is kept of a leaf, as a sink.
-ghost use Rattle.std.specs.Prelude.{◌≡◌, ◌<◌, ◌+◌, ◌^◌, cond, true, OnOk, ⊤};
+ghost use Rattle.std.specs.Prelude.{◌≡◌, ◌<◌, ◌+◌, ◌^◌, ◌≤◌, ◌⊎◌, cond, true, All, map, fold, count_by, take, length, OnOk, ⊤};
 ghost use Rattle.std.proofs.Common.{refl, ◌∙◌};
-ghost use Rattle.barriers.specs.Needs.{need_of};
+ghost use Rattle.barriers.specs.Needs.{need_of, Reaches};
+ghost use Rattle.stealing_pool.specs.Jobs.{IsWithin};
 ghost use Rattle.stealing_pool.specs.Fronts.{folding, KeepsFront};
 ghost use Rattle.stealing_pool.specs.Keepers.{IsNeed};
 ghost use Rattle.stealing_pool.specs.KeeperLaws.{Offers, offers-none, offers-both-kept, ready-kept};
@@ -32,6 +33,50 @@ fn keep<T: Value, D: Demand<T>, C: Collector<Item = T>>(
         portion.count += 1;
     }
     collector.accumulate(&mut portion.kept, item)
+}
+
+/// How many items of a block are taken behind so many counting ones, which are not enough, and how many of these count.
+fn front_of<T: Value, D: Demand<T>>(demand: &D, need: Need, count: u64, items: &[T]) -> (usize, u64)
+    requires demand { D.ready demand.now }
+    requires need { IsNeed (D.needed demand.now) (D.counted demand.now) (need_of need) }
+    requires under { Reaches (need_of need) count → ⊥ }
+    ensures within { result.0 ≤ length items.now }
+    ensures counting { result.1 ≡ count_by (D.counted demand.now) (map T.content (take result.0 items.now)) }
+    ensures room { count + result.1 < 2 ^ 64 }
+    ensures stays { IsWithin (need_of need) count → IsWithin (need_of need) (count + result.1) }
+    ensures ends { (result.0 ≡ length items.now) ⊎ Reaches (need_of need) (count + result.1) }
+{
+    match need {
+        Need::Never => (items.len(), 0),
+        Need::Reach(needed) => demand.front(items, needed - count),
+    }
+}
+
+/// Says of each item that it is a value.
+fn are_values<T: Value>(items: &[T])
+    ensures { All T.is_value (map T.content items.now) }
+{
+    for item in items {
+        let _value = item.is_value();
+    }
+}
+
+/// Keeps a block of items.
+fn keep_each<T: Value, C: Collector<Item = T>>(
+    collector: &C,
+    portion: &mut Portion<C::Acc>,
+    items: &[T],
+    counting: u64,
+) -> Result<(), NoMemory>
+    requires collector { C.ready collector.now }
+    requires room { portion.old.count + counting < 2 ^ 64 }
+    ensures values { All T.is_value (map T.content items.now) }
+    ensures content { OnOk result (C.content collector.now portion.new.kept ≡ fold (C.add collector.now) (C.content collector.now portion.old.kept) (map T.content items.now)) }
+    ensures count { portion.new.count ≡ portion.old.count + counting }
+{
+    are_values(items);
+    portion.count += counting;
+    collector.accumulate_all(&mut portion.kept, items)
 }
 
 /// A container with its demand, which takes items until they are enough.
@@ -66,6 +111,16 @@ impl<T: Value + Drop, D: Demand<T>, C: Collector<Item = T>> Sink<T> for Keeper<'
             return Ok(());
         }
         keep(self.demand, self.collector, &mut self.portion, &x)?;
+        Ok(())
+    }
+
+    fn take_all(&mut self, items: &mut Vec<T>) -> Result<(), NoMemory> {
+        if is_enough(self.need, self.portion.count) {
+            return Ok(());
+        }
+        let items = items.as_slice();
+        let (taken, counting) = front_of(self.demand, self.need, self.portion.count, items);
+        keep_each(self.collector, &mut self.portion, &items[..taken], counting)?;
         Ok(())
     }
 

@@ -11,6 +11,7 @@ use collectors::Collector;
 use leaf_board::Handout;
 use spliterator::{NoMemory, Spliterator};
 use stages::Stage;
+use std::alloc::Global;
 
 /// Runs one leaf: feeds its source's items through a stage into a container, until the source ends or enough is kept.
 ///
@@ -23,6 +24,7 @@ pub fn run_leaf<
     D: Demand<G::Out>,
     C: Collector<Item = G::Out>,
 >(
+    alloc: Global,
     source: S,
     stage: &G,
     demand: &D,
@@ -49,7 +51,7 @@ pub fn run_leaf<
             kept: collector.supply()?,
         },
     };
-    if feed_until_cut(stage, source, &mut keeper, board, seat, leaf)? {
+    if feed_until_cut(alloc, stage, source, &mut keeper, board, seat, leaf)? {
         Ok(LeafEnd::Done(keeper.portion))
     } else {
         Ok(LeafEnd::Cut)

@@ -21,6 +21,7 @@ use std::thread::Threads;
 /// The job of a plan's leaves: each through the stage into a container of its own.
 #[derive(Drop)]
 struct PlanJob<'a, S, G, D, C> {
+    alloc: Global,
     plan: &'a Plan<S>,
     stage: &'a G,
     demand: &'a D,
@@ -51,6 +52,7 @@ impl<S: Spliterator, G: Stage<In = S::Item>, D: Demand<G::Out>, C: Collector<Ite
     ) -> Result<LeafEnd<C::Acc>, NoMemory> {
         let source = self.plan.leaf(leaf);
         run_leaf(
+            self.alloc,
             source,
             self.stage,
             self.demand,
@@ -105,6 +107,7 @@ where
     ensures entry { IfOk result (λ g. Reports (D.needed demand.now) (length (leaves_of plan.now)) (full_count (D.counted demand.now) (lists_of S.items (G.expand stage.now) (leaves_of plan.now))) g.entry.leaves (count_of g.entry) (cut_of g.entry)) }
 {
     let job = PlanJob {
+        alloc,
         plan,
         stage,
         demand,

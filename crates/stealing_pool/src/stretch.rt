@@ -5,12 +5,13 @@ ghost use Rattle.leaf_board.specs.Statuses.{SameFrom, StaysSeat};
 use leaf_board::Handout;
 use spliterator::{NoMemory, Spliterator};
 use stages::{Sink, Stage};
+use std::alloc::Global;
 
 /// The source items between two questions whether the leaf was cut.
 const STRETCH: u64 = 1024;
 
-/// The source items between two questions how many items are left.
-const BLOCK: u64 = 8;
+/// The source items of a round, which are those between two questions how many items are left.
+const ROUND: u64 = 8;
 
 /// Feeds one of the source's items to a sink. Says whether it did: nothing is left, or no item makes a difference any more.
 fn feed_one<S: Spliterator, G: Stage<In = S::Item>, K: Sink<G::Out>>(
@@ -58,10 +59,10 @@ fn feed_uncounted<S: Spliterator, G: Stage<In = S::Item>, K: Sink<G::Out>>(
     Ok(true)
 }
 
-/// Feeds a block of a source's items to a sink. Says whether more may make a difference.
+/// Feeds a round of a source's items to a sink. Says whether more may make a difference.
 ///
-/// The calls stand in a row, so a compiler steps the source's own numbers once a block.
-fn feed_block<S: Spliterator, G: Stage<In = S::Item>, K: Sink<G::Out>>(
+/// The calls stand in a row, so a compiler steps the source's own numbers once a round.
+fn feed_round<S: Spliterator, G: Stage<In = S::Item>, K: Sink<G::Out>>(
     stage: &G,
     source: &mut S,
     sink: &mut K,
@@ -86,11 +87,11 @@ fn feed_block<S: Spliterator, G: Stage<In = S::Item>, K: Sink<G::Out>>(
     )
 }
 
-/// Feeds blocks of a source's items to a sink, at least one, as long as it tells that more than so many items are left. Says whether more
+/// Feeds rounds of a source's items to a sink, at least one, as long as it tells that more than so many items are left. Says whether more
 /// may make a difference.
 ///
-/// The loop keeps one number, the source's own. Where it is at least a block's, that each item of a block is there follows from it.
-fn feed_blocks<S: Spliterator, G: Stage<In = S::Item>, K: Sink<G::Out>>(
+/// The loop keeps one number, the source's own. Where it is at least a round's, that each item of a round is there follows from it.
+fn feed_rounds<S: Spliterator, G: Stage<In = S::Item>, K: Sink<G::Out>>(
     stage: &G,
     source: &mut S,
     sink: &mut K,
@@ -105,7 +106,7 @@ fn feed_blocks<S: Spliterator, G: Stage<In = S::Item>, K: Sink<G::Out>>(
     ensures more { IfOk result (λ more. MatchBool more (length (S.items source.new) < length (S.items source.old)) (K.takes sink.new (flat_map (G.expand stage.now) (S.items source.new)) sink.new)) }
 {
     'reading: loop {
-        if !feed_block(stage, source, sink)? {
+        if !feed_round(stage, source, sink)? {
             return Ok(false);
         }
         match source.exact_size() {
@@ -117,7 +118,7 @@ fn feed_blocks<S: Spliterator, G: Stage<In = S::Item>, K: Sink<G::Out>>(
 
 /// Feeds a source's items to a sink until it tells that no more than so many are left. Says whether more may make a difference.
 ///
-/// It feeds blocks as long as one fits, and then single items.
+/// It feeds rounds as long as one fits, and then single items.
 fn feed_counted<S: Spliterator, G: Stage<In = S::Item>, K: Sink<G::Out>>(
     stage: &G,
     source: &mut S,
@@ -132,10 +133,10 @@ fn feed_counted<S: Spliterator, G: Stage<In = S::Item>, K: Sink<G::Out>>(
     ensures ready { OnOk result (K.ready sink.new) }
     ensures more { IfOk result (λ more. MatchBool more (length (S.items source.new) < length (S.items source.old)) (K.takes sink.new (flat_map (G.expand stage.now) (S.items source.new)) sink.new)) }
 {
-    let above = rest.saturating_add(BLOCK - 1);
+    let above = rest.saturating_add(ROUND - 1);
     'reading: loop {
         let more = match source.exact_size() {
-            Some(left) if above < left => feed_blocks(stage, source, sink, above)?,
+            Some(left) if above < left => feed_rounds(stage, source, sink, above)?,
             _ => feed_one(stage, source, sink)?,
         };
         if !more {
@@ -149,8 +150,8 @@ fn feed_counted<S: Spliterator, G: Stage<In = S::Item>, K: Sink<G::Out>>(
     }
 }
 
-/// Feeds a stretch of what the source covers to a sink. Says whether more may make a difference.
-fn feed_stretch<S: Spliterator, G: Stage<In = S::Item>, K: Sink<G::Out>>(
+/// Feeds a stretch of what the source covers to a sink, item by item. Says whether more may make a difference.
+fn feed_items<S: Spliterator, G: Stage<In = S::Item>, K: Sink<G::Out>>(
     stage: &G,
     source: &mut S,
     sink: &mut K,
@@ -170,8 +171,86 @@ fn feed_stretch<S: Spliterator, G: Stage<In = S::Item>, K: Sink<G::Out>>(
     }
 }
 
+/// Feeds a block of at most so many of a source's items to a sink. Says whether more may make a difference.
+fn feed_block<S: Spliterator, G: Stage<In = S::Item>, K: Sink<G::Out>>(
+    stage: &G,
+    source: &mut S,
+    most: usize,
+    room: &mut Vec<S::Item>,
+    sink: &mut K,
+) -> Result<bool, NoMemory>
+    requires some { 0 < most }
+    requires stage { G.ready stage.now }
+    requires sink { K.ready sink.old }
+    ensures taken { OnOk result ((end : K)
+        → K.takes sink.new (flat_map (G.expand stage.now) (S.items source.new)) end
+        → K.takes sink.old (flat_map (G.expand stage.now) (S.items source.old)) end) }
+    ensures ready { OnOk result (K.ready sink.new) }
+    ensures more { IfOk result (λ more. MatchBool more (length (S.items source.new) < length (S.items source.old)) (K.takes sink.new (flat_map (G.expand stage.now) (S.items source.new)) sink.new)) }
+{
+    if sink.is_full() {
+        return Ok(false);
+    }
+    source.next_block(most, room)?;
+    if room.is_empty() {
+        return Ok(false);
+    }
+    stage.feed_all(room, sink)?;
+    Ok(true)
+}
+
+/// Feeds a stretch of a source's items to a sink in blocks that grow. Says whether more may make a difference.
+fn feed_growing<S: Spliterator, G: Stage<In = S::Item>, K: Sink<G::Out>>(
+    stage: &G,
+    source: &mut S,
+    room: &mut Vec<S::Item>,
+    sink: &mut K,
+) -> Result<bool, NoMemory>
+    requires stage { G.ready stage.now }
+    requires sink { K.ready sink.old }
+    ensures taken { OnOk result ((end : K)
+        → K.takes sink.new (flat_map (G.expand stage.now) (S.items source.new)) end
+        → K.takes sink.old (flat_map (G.expand stage.now) (S.items source.old)) end) }
+    ensures ready { OnOk result (K.ready sink.new) }
+    ensures more { IfOk result (λ more. MatchBool more (length (S.items source.new) < length (S.items source.old)) (K.takes sink.new (flat_map (G.expand stage.now) (S.items source.new)) sink.new)) }
+{
+    Ok(
+        feed_block(stage, source, 64, room, sink)?
+            && feed_block(stage, source, 64, room, sink)?
+            && feed_block(stage, source, 128, room, sink)?
+            && feed_block(stage, source, 256, room, sink)?
+            && feed_block(stage, source, 512, room, sink)?,
+    )
+}
+
+/// Feeds a stretch of what the source covers to a sink, as the stage prefers it. Says whether more may make a difference.
+fn feed_stretch<S: Spliterator, G: Stage<In = S::Item>, K: Sink<G::Out>>(
+    stage: &G,
+    source: &mut S,
+    is_first: bool,
+    room: &mut Vec<S::Item>,
+    sink: &mut K,
+) -> Result<bool, NoMemory>
+    requires stage { G.ready stage.now }
+    requires sink { K.ready sink.old }
+    ensures taken { OnOk result ((end : K)
+        → K.takes sink.new (flat_map (G.expand stage.now) (S.items source.new)) end
+        → K.takes sink.old (flat_map (G.expand stage.now) (S.items source.old)) end) }
+    ensures ready { OnOk result (K.ready sink.new) }
+    ensures more { IfOk result (λ more. MatchBool more (length (S.items source.new) < length (S.items source.old)) (K.takes sink.new (flat_map (G.expand stage.now) (S.items source.new)) sink.new)) }
+{
+    if !stage.prefers_blocks() {
+        feed_items(stage, source, sink)
+    } else if is_first {
+        feed_growing(stage, source, room, sink)
+    } else {
+        feed_block(stage, source, STRETCH as usize, room, sink)
+    }
+}
+
 /// Feeds what the source covers to a sink, until no more makes a difference, or the leaf is cut. Says whether it wasn't cut.
 pub(crate) fn feed_until_cut<B: Handout, S: Spliterator, G: Stage<In = S::Item>, K: Sink<G::Out>>(
+    alloc: Global,
     stage: &G,
     source: S,
     sink: &mut K,
@@ -188,8 +267,11 @@ pub(crate) fn feed_until_cut<B: Handout, S: Spliterator, G: Stage<In = S::Item>,
     ensures fed { IfOk result (λ ended. MatchBool ended (K.takes sink.old (flat_map (G.expand stage.now) (S.items source)) sink.new) (B.cut seat.new < leaf)) }
 {
     let mut source = source;
+    let mut room = Vec::new(alloc);
+    let mut is_first = true;
     'reading: loop {
-        let more = feed_stretch(stage, &mut source, sink)?;
+        let more = feed_stretch(stage, &mut source, is_first, &mut room, sink)?;
+        is_first = false;
         if !more {
             return Ok(true);
         }

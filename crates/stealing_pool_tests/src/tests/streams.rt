@@ -122,6 +122,7 @@ where
 /// The numbers of a range.
 #[derive(Drop)]
 struct Numbers {
+    alloc: Global,
     plan: Plan<RangeSplit>,
 }
 
@@ -147,6 +148,7 @@ impl LastRun for Numbers {
     ) -> Result<LeafEnd<C::Acc>, NoMemory> {
         let source = self.plan.leaf(leaf);
         run_leaf(
+            self.alloc,
             source,
             &Nothing::new(),
             demand,
@@ -162,6 +164,7 @@ impl LastRun for Numbers {
 fn a_stream_runs_by_a_job_of_its_own(rt: HostRuntime) -> Result<(), Fail> {
     let alloc = rt.alloc();
     let stream = Numbers {
+        alloc,
         plan: plan_of(alloc, 1000, 3, 10)?,
     };
     let collector = SummingLong::new(Itself);

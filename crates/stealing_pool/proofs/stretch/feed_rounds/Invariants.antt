@@ -1,6 +1,6 @@
 use Rattle.std.proofs.Common.{◌≤◌, length}
 use Rattle.std.specs.Prelude.{flat_map}
-use Rattle.stealing_pool.proofs.stretch.feed_blocks.Given as goal
+use Rattle.stealing_pool.proofs.stretch.feed_rounds.Given as goal
 
 abbrev pub invariant-reading : goal.invariant-reading
 invariant-reading g l =
