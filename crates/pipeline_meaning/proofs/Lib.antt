@@ -1,6 +1,6 @@
+pub mod Blocks
+pub mod Copies
 pub mod NumberFronts
-pub mod NumberWalks
-pub mod Passages
 pub mod Quotients
 pub mod Separated
 pub mod TextFronts

@@ -1,50 +1,162 @@
--- Prepared stages over numbers.
-use Rattle.std.specs.Prelude.{◌≡◌, ℤ, Bool, true, false, cond, List, [], ◌∷◌, ◌++◌, ◌&&◌, flat_map, refl}
-use Rattle.std.proofs.Common.{ap, ◌∙◌, sym, subst}
+-- Steps with a stage more behind them. Copies are made last, so a map or a filter moves before them.
+use Rattle.std.specs.Prelude.{◌≡◌, ◌<◌, ◌+◌, ℕ, zero, suc, ℤ, Bool, true, false, cond, List, [], ◌∷◌, ◌++◌, ◌&&◌, flat_map, length, take, refl, IsTrue, MatchBool}
+use Rattle.std.proofs.Common.{ap, ap₂, ◌∙◌, sym, subst, append-nil, get_or, true≢false}
+use Rattle.std.proofs.Math.ListN.{replicate}
+use Rattle.std.specs.List.{list_all}
+use Rattle.std.proofs.lemmas.List.{take_more}
 use Rattle.std.proofs.lemmas.List.Folds.{list_all-append}
+use Rattle.stages.specs.Passing.{flat_map-flat_map, flat_map-one}
 use Rattle.pipeline_language.specs.declared.pipeline.NumberFunction.{NumberFunction}
 use Rattle.pipeline_language.specs.declared.pipeline.NumberTest.{NumberTest}
 use Rattle.pipeline_language.specs.declared.pipeline.NumberStage.{NumberStage}
 use Rattle.pipeline_language.specs.declared.pipeline.NumberStage.TheVariants as stages
 use Rattle.pipeline_meaning.specs.Functions.{number_image, number_holds}
-use Rattle.pipeline_meaning.specs.Stages.{number_stage, is_number_map}
-use Rattle.pipeline_meaning.specs.NumberSteps.{number_step_images, number_images, is_map_step, only_maps, SameSteps}
-use Rattle.pipeline_meaning.specs.WalkLaws.{map-flat_map, filter-flat_map, flat_map-flat_map, flat_map-same, images-one-more, IsStep}
+use Rattle.pipeline_meaning.specs.Prepared.{mapping_image, check_holds}
+use Rattle.pipeline_meaning.specs.Stages.{number_stage, number_stages, is_number_barrier, is_number_map}
+use Rattle.pipeline_meaning.specs.NumberSteps.{number_step_images, steps_images, copies, images_of, number_images, is_map_step, is_none, are_maps, only_maps, Follows}
+use Rattle.pipeline_meaning.specs.WalkLaws.{map-flat_map, filter-flat_map, flat_map-same, all-one-more, stages-one-more}
+use Rattle.pipeline_meaning.specs.declared.functions.NumberMapping.{NumberMapping}
+use Rattle.pipeline_meaning.specs.declared.functions.NumberCheck.{NumberCheck}
 use Rattle.pipeline_meaning.specs.declared.number_steps.NumberStep.{NumberStep}
+use Rattle.pipeline_meaning.specs.declared.number_steps.NumberStep.TheVariants.{Map, Filter}
+use Rattle.pipeline_meaning.specs.declared.number_steps.NumberSteps.{NumberSteps}
 
--- a prepared map or filter is its stage
-pub map-step : (stage : NumberStage) (f : NumberFunction) (step : NumberStep) → stage ≡ stages.Map f
-    → ((x : ℤ) → number_step_images step x ≡ number_image f x ∷ []) × (is_map_step step ≡ true)
-    → IsStep number_step_images number_stage is_map_step is_number_map step stage
-map-step stage f step is h =
-    let P : NumberStage → Type 0 = λ s. IsStep number_step_images number_stage is_map_step is_number_map step s in
-    subst P (sym is) ((λ l. flat_map-same (number_step_images step) (λ x. number_image f x ∷ []) h.0 l ∙ sym (map-flat_map (number_image f) l)), h.1)
+-- What comes of copies are copies of what comes, where one number comes or none.
+module _ (f : ℤ → List ℤ) (image : ℤ → ℤ) (keeps : ℤ → Bool) (one : (x : ℤ) → f x ≡ cond (keeps x) (image x ∷ []) []) where
+  of-copies : (b : Bool) (n : ℕ) (x : ℤ) → f x ≡ cond b (image x ∷ []) [] → flat_map f (replicate n x) ≡ flat_map (replicate n) (cond b (image x ∷ []) [])
+  of-copies true n x h = kept n ∙ sym (append-nil (replicate n (image x)))
+    where
+      kept : (n : ℕ) → flat_map f (replicate n x) ≡ replicate n (image x)
+      kept zero = refl
+      kept (suc n) = ap₂ (λ a b. a ++ b) h (kept n)
+  of-copies false n x h = dropped n
+    where
+      dropped : (n : ℕ) → flat_map f (replicate n x) ≡ []
+      dropped zero = refl
+      dropped (suc n) = ap₂ (λ a b. a ++ b) h (dropped n)
 
-pub filter-step : (stage : NumberStage) (p : NumberTest) (step : NumberStep) → stage ≡ stages.Filter p
-    → ((x : ℤ) → number_step_images step x ≡ cond (number_holds p x) (x ∷ []) []) × (is_map_step step ≡ false)
-    → IsStep number_step_images number_stage is_map_step is_number_map step stage
-filter-step stage p step is h =
-    let P : NumberStage → Type 0 = λ s. IsStep number_step_images number_stage is_map_step is_number_map step s in
-    subst P (sym is) ((λ l. flat_map-same (number_step_images step) (λ x. cond (number_holds p x) (x ∷ []) []) h.0 l ∙ sym (filter-flat_map (number_holds p) l)), h.1)
+  of-repeated : (n : ℕ) (x : ℤ) → flat_map f (replicate n x) ≡ flat_map (replicate n) (f x)
+  of-repeated n x = of-copies (keeps x) n x (one x) ∙ ap (flat_map (replicate n)) (sym (one x))
 
--- the last step and the one behind it, as one
-pub joined-steps : (front : List NumberStep) (last step both : NumberStep)
-    → ((x : ℤ) → number_step_images both x ≡ flat_map (number_step_images step) (number_step_images last x)) × (is_map_step both ≡ (is_map_step last && is_map_step step))
-    → SameSteps (front ++ both ∷ []) ((front ++ last ∷ []) ++ step ∷ [])
-joined-steps front last step both h = (
-  λ x.
-      images-one-more number_step_images front both x
-      ∙ flat_map-same (number_step_images both) (λ y. flat_map (number_step_images step) (number_step_images last y)) h.0 (number_images front x)
-      ∙ sym (flat_map-flat_map (number_step_images last) (number_step_images step) (number_images front x))
-      ∙ ap (flat_map (number_step_images step)) (sym (images-one-more number_step_images front last x))
-      ∙ sym (images-one-more number_step_images (front ++ last ∷ []) step x),
-  list_all-append is_map_step front (both ∷ []) ∙ ap (λ b. only_maps front && (b && true)) h.1
-      ∙ turned (only_maps front) (is_map_step last) (is_map_step step)
-      ∙ ap (λ b. b && (is_map_step step && true)) (sym (list_all-append is_map_step front (last ∷ [])))
-      ∙ sym (list_all-append is_map_step (front ++ last ∷ []) (step ∷ [])),
-)
+  of-all-copies : (repeats : List ℕ) (x : ℤ) → flat_map f (copies repeats x) ≡ flat_map (copies repeats) (f x)
+  of-all-copies [] x = append-nil (f x) ∙ sym (flat_map-one (f x))
+  of-all-copies (n ∷ repeats) x =
+      flat_map-flat_map (copies repeats) f (replicate n x)
+      ∙ flat_map-same (λ y. flat_map f (copies repeats y)) (λ y. flat_map (copies repeats) (f y)) (of-all-copies repeats) (replicate n x)
+      ∙ sym (flat_map-flat_map f (copies repeats) (replicate n x))
+      ∙ ap (flat_map (copies repeats)) (of-repeated n x)
+      ∙ flat_map-flat_map (replicate n) (copies repeats) (f x)
+
+  copies-last : (repeats : List ℕ) (l : List ℤ) → flat_map f (flat_map (copies repeats) l) ≡ flat_map (copies repeats) (flat_map f l)
+  copies-last repeats l =
+      flat_map-flat_map (copies repeats) f l
+      ∙ flat_map-same (λ x. flat_map f (copies repeats x)) (λ x. flat_map (copies repeats) (f x)) (of-all-copies repeats) l
+      ∙ sym (flat_map-flat_map f (copies repeats) l)
+
+-- a step's number, and whether there is one
+abbrev step_image : NumberStep → ℤ → ℤ
+step_image (Map f) x = mapping_image f x
+step_image (Filter p) x = x
+
+abbrev step_keeps : NumberStep → ℤ → Bool
+step_keeps (Map f) x = true
+step_keeps (Filter p) x = check_holds p x
+
+step-one : (step : NumberStep) (x : ℤ) → number_step_images step x ≡ cond (step_keeps step x) (step_image step x ∷ []) []
+step-one (Map f) x = refl
+step-one (Filter p) x = refl
+
+step-behind : (steps : List NumberStep) (repeats : List ℕ) (step : NumberStep) (l : List ℤ)
+    → flat_map (images_of (steps ++ step ∷ []) repeats) l ≡ flat_map (number_step_images step) (flat_map (images_of steps repeats) l)
+step-behind steps repeats step l =
+    sym (flat_map-flat_map (steps_images (steps ++ step ∷ [])) (copies repeats) l)
+    ∙ ap (flat_map (copies repeats)) (all-one-more number_step_images steps step l)
+    ∙ sym (copies-last (number_step_images step) (step_image step) (step_keeps step) (step-one step) repeats (flat_map (steps_images steps) l))
+    ∙ ap (flat_map (number_step_images step)) (flat_map-flat_map (steps_images steps) (copies repeats) l)
+
+repeat-behind : (steps : List NumberStep) (repeats : List ℕ) (n : ℕ) (l : List ℤ)
+    → flat_map (images_of steps (repeats ++ n ∷ [])) l ≡ flat_map (replicate n) (flat_map (images_of steps repeats) l)
+repeat-behind steps repeats n l =
+    sym (flat_map-flat_map (steps_images steps) (copies (repeats ++ n ∷ [])) l)
+    ∙ all-one-more replicate repeats n (flat_map (steps_images steps) l)
+    ∙ ap (flat_map (replicate n)) (flat_map-flat_map (steps_images steps) (copies repeats) l)
+
+maps-behind : (steps : List NumberStep) (repeats : List ℕ) (step : NumberStep) → are_maps (steps ++ step ∷ []) repeats ≡ (are_maps steps repeats && is_map_step step)
+maps-behind steps repeats step =
+    ap (λ b. is_none repeats && b) (list_all-append is_map_step steps (step ∷ [])) ∙ turned (is_none repeats) (list_all is_map_step steps) (is_map_step step)
   where
-    turned : (a b c : Bool) → (a && ((b && c) && true)) ≡ ((a && (b && true)) && (c && true))
-    turned true true c = refl
+    turned : (a b c : Bool) → (a && (b && (c && true))) ≡ ((a && b) && c)
+    turned true true true = refl
+    turned true true false = refl
     turned true false c = refl
     turned false b c = refl
+
+repeats-end : (steps : List NumberStep) (repeats : List ℕ) (n : ℕ) → are_maps steps (repeats ++ n ∷ []) ≡ (are_maps steps repeats && false)
+repeats-end steps [] n = none (list_all is_map_step steps)
+  where
+    none : (b : Bool) → false ≡ (b && false)
+    none true = refl
+    none false = refl
+repeats-end steps (m ∷ repeats) n = refl
+
+-- The three stages that are no barriers.
+module _ (old new : NumberSteps) where
+  step-follows : (step : NumberStep) (stage : NumberStage) → new.steps.items ≡ old.steps.items ++ step ∷ [] → new.repeats.items ≡ old.repeats.items
+      → ((l : List ℤ) → flat_map (number_step_images step) l ≡ number_stage stage l) → is_map_step step ≡ is_number_map stage → Follows stage old new
+  step-follows step stage steps repeats means map = (
+    λ l.
+        ap₂ (λ s r. flat_map (images_of s r) l) steps repeats ∙ step-behind old.steps.items old.repeats.items step l ∙ means (flat_map (number_images old) l),
+    ap₂ are_maps steps repeats ∙ maps-behind old.steps.items old.repeats.items step ∙ ap (λ b. only_maps old && b) map,
+  )
+
+  pub map-follows : (m : NumberMapping) (f : NumberFunction) (stage : NumberStage) → stage ≡ stages.Map f → mapping_image m ≡ number_image f
+      → new.steps.items ≡ old.steps.items ++ Map m ∷ [] → new.repeats.items ≡ old.repeats.items → Follows stage old new
+  map-follows m f stage is image steps repeats =
+      let P : NumberStage → Type 0 = λ s. Follows s old new in
+      subst P (sym is) (step-follows (Map m) (stages.Map f) steps repeats (λ l. ap (λ (g : ℤ → ℤ). flat_map (λ x. g x ∷ []) l) image ∙ sym (map-flat_map (number_image f) l)) refl)
+
+  pub filter-follows : (k : NumberCheck) (p : NumberTest) (stage : NumberStage) → stage ≡ stages.Filter p → check_holds k ≡ number_holds p
+      → new.steps.items ≡ old.steps.items ++ Filter k ∷ [] → new.repeats.items ≡ old.repeats.items → Follows stage old new
+  filter-follows k p stage is holds steps repeats =
+      let P : NumberStage → Type 0 = λ s. Follows s old new in
+      subst P (sym is) (
+      step-follows (Filter k) (stages.Filter p) steps repeats
+      (λ l. ap (λ (h : ℤ → Bool). flat_map (λ x. cond (h x) (x ∷ []) []) l) holds ∙ sym (filter-flat_map (number_holds p) l)) refl
+      )
+
+  pub repeat-follows : (n : ℕ) (stage : NumberStage) → stage ≡ stages.Repeat n
+      → new.steps.items ≡ old.steps.items → new.repeats.items ≡ old.repeats.items ++ n ∷ [] → Follows stage old new
+  repeat-follows n stage is steps repeats =
+      let P : NumberStage → Type 0 = λ s. Follows s old new in
+      subst P (sym is) (
+        λ l. ap₂ (λ s r. flat_map (images_of s r) l) steps repeats ∙ repeat-behind old.steps.items old.repeats.items n l,
+        ap₂ are_maps steps repeats ∙ repeats-end old.steps.items old.repeats.items n,
+      )
+
+pub where-put : (stage : NumberStage) (old new : NumberSteps) (is_put : Bool) → is_put ≡ true
+    → MatchBool is_put (Follows stage old new) (IsTrue (is_number_barrier stage) × (new ≡ old)) → Follows stage old new
+where-put stage old new true is put = put
+where-put stage old new false is left = absurd (true≢false (sym is))
+
+-- steps that are so many stages
+abbrev pub AreFront : NumberSteps → List NumberStage → Type 0
+AreFront steps front = ((l : List ℤ) → flat_map (number_images steps) l ≡ number_stages front l) × (only_maps steps ≡ list_all is_number_map front)
+
+pub no-stages : (steps : NumberSteps) → steps.steps.items ≡ [] → steps.repeats.items ≡ [] → AreFront steps []
+no-stages steps none no-repeats = (λ l. ap₂ (λ s r. flat_map (images_of s r) l) none no-repeats ∙ flat_map-one l, ap₂ are_maps none no-repeats)
+
+pub one-stage-more : (old new : NumberSteps) (all : List NumberStage) (i : ℕ) (d : NumberStage) → i < length all
+    → AreFront old (take i all) → Follows (get_or all i d) old new → AreFront new (take (i + 1) all)
+one-stage-more old new all i d within front follows =
+    let P : List NumberStage → Type 0 = λ stages. AreFront new stages in
+    let earlier = take i all in
+    let stage = get_or all i d in
+    subst P (sym (take_more all i d within)) (
+      λ l. follows.0 l ∙ ap (number_stage stage) (front.0 l) ∙ sym (stages-one-more number_step_images number_stage earlier stage l),
+      follows.1 ∙ ap (λ b. b && is_number_map stage) front.1 ∙ ends (list_all is_number_map earlier) (is_number_map stage) ∙ sym (list_all-append is_number_map earlier (stage ∷ [])),
+    )
+  where
+    ends : (a b : Bool) → (a && b) ≡ (a && (b && true))
+    ends true true = refl
+    ends true false = refl
+    ends false b = refl

@@ -11,7 +11,8 @@ use Rattle.pipeline_language.specs.declared.pipeline.TextStage.TheVariants as st
 use Rattle.pipeline_meaning.specs.Functions.{text_holds}
 use Rattle.pipeline_meaning.specs.Stages.{text_stage, is_text_map}
 use Rattle.pipeline_meaning.specs.TextSteps.{text_step_images, is_map_step}
-use Rattle.pipeline_meaning.specs.WalkLaws.{flat_map-one, filter-flat_map, IsStep}
+use Rattle.stages.specs.Passing.{flat_map-one}
+use Rattle.pipeline_meaning.specs.WalkLaws.{filter-flat_map, IsStep}
 use Rattle.pipeline_meaning.specs.declared.functions.TextCheck.{TextCheck}
 use Rattle.pipeline_meaning.specs.declared.text_steps.TextStep.TheVariants.{Itself, Filter}
 

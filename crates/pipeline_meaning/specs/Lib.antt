@@ -1,8 +1,6 @@
 pub mod Adapting
 pub mod Functions
 pub mod NumberSteps
-pub mod NumberWalks
-pub mod Passages
 pub mod Prepared
 pub mod PreparedLaws
 pub mod Rows

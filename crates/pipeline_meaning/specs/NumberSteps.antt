@@ -1,64 +1,71 @@
 -- What prepared steps over numbers give.
-use Rattle.std.specs.Prelude.{◌≡◌, ◌<◌, ℕ, ℤ, Bool, true, false, cond, List, [], ◌∷◌, flat_map, length, refl}
+use Rattle.std.specs.Prelude.{◌≡◌, ℕ, ℤ, Bool, true, false, cond, List, [], ◌∷◌, ◌&&◌, flat_map, refl}
 use Rattle.std.proofs.Math.ListN.{replicate}
-use Rattle.std.proofs.Common.{sym, true≢false}
+use Rattle.std.proofs.Common.{sym, ◌∙◌, true≢false}
 use Rattle.std.specs.List.{list_all}
 use Rattle.std.specs.declared.cmp.Ordering.{Ordering}
 use Rattle.stages.specs.Flags.{KeepsSound}
+use Rattle.stages.specs.Passing.{flat_map-one}
+use Rattle.pipeline_language.specs.declared.pipeline.NumberStage.{NumberStage}
 use Rattle.pipeline_meaning.specs.Prepared.{mapping_image, check_holds}
-use Rattle.pipeline_meaning.specs.Passages.{keeps_all, passage_image, passage_images, image-kept}
 use Rattle.pipeline_meaning.specs.Rows.{row_of, size_of}
-use Rattle.pipeline_meaning.specs.Walks.{images_after}
-use Rattle.pipeline_meaning.specs.WalkLaws.{KeepsSound-walk}
+use Rattle.pipeline_meaning.specs.Stages.{number_stage, is_number_map}
+use Rattle.pipeline_meaning.specs.Walks.{images_after, one_after_other}
+use Rattle.pipeline_meaning.specs.WalkLaws.{KeepsSound-images, one-image}
 use Rattle.pipeline_meaning.specs.declared.number_steps.NumberStep.{NumberStep}
-use Rattle.pipeline_meaning.specs.declared.number_steps.NumberStep.TheVariants.{Pass, Plain, Repeat}
-use Rattle.pipeline_meaning.specs.declared.number_steps.PlainStep.TheVariants.{Map, Filter}
-use Rattle.pipeline_meaning.specs.declared.number_steps.Walked.{Walked}
-use Rattle.pipeline_meaning.specs.declared.number_steps.Walked.TheVariants.{Passed, Dropped, Copied}
+use Rattle.pipeline_meaning.specs.declared.number_steps.NumberStep.TheVariants.{Map, Filter}
+use Rattle.pipeline_meaning.specs.declared.number_steps.NumberSteps.{NumberSteps}
 
 -- the list that stands in the place of a number
 abbrev pub number_step_images : NumberStep → ℤ → List ℤ
-number_step_images (Pass p) x = passage_images p x
-number_step_images (Plain (Map f)) x = mapping_image f x ∷ []
-number_step_images (Plain (Filter p)) x = cond (check_holds p x) (x ∷ []) []
-number_step_images (Repeat n) x = replicate n x
+number_step_images (Map f) x = mapping_image f x ∷ []
+number_step_images (Filter p) x = cond (check_holds p x) (x ∷ []) []
 
-abbrev pub number_images : List NumberStep → ℤ → List ℤ
-number_images steps x = images_after number_step_images steps x
+-- behind all maps and filters
+abbrev pub steps_images : List NumberStep → ℤ → List ℤ
+steps_images steps x = images_after number_step_images steps x
 
--- what is to come of a number that has walked
-abbrev pub walked_images : Walked → List ℤ
-walked_images (Passed x) = x ∷ []
-walked_images Dropped = []
-walked_images (Copied n x rest) = flat_map (number_images rest.now) (replicate n x)
+-- the copies of a number, by one repeat after another
+abbrev pub copies : List ℕ → ℤ → List ℤ
+copies repeats x = images_after replicate repeats x
 
-abbrev pub IsFewer : Walked → ℕ → Type 0
-IsFewer (Passed x) n = Unit {0}
-IsFewer Dropped n = Unit {0}
-IsFewer (Copied m x rest) n = length rest.now < n
+abbrev pub images_of : List NumberStep → List ℕ → ℤ → List ℤ
+images_of steps repeats x = flat_map (copies repeats) (steps_images steps x)
+
+abbrev pub number_images : NumberSteps → ℤ → List ℤ
+number_images s x = images_of s.steps.items s.repeats.items x
 
 abbrev pub is_map_step : NumberStep → Bool
-is_map_step (Pass p) = keeps_all p
-is_map_step (Plain (Map f)) = true
-is_map_step _ = false
+is_map_step (Map f) = true
+is_map_step (Filter p) = false
 
-abbrev pub only_maps : List NumberStep → Bool
-only_maps steps = list_all is_map_step steps
+abbrev pub is_none : List ℕ → Bool
+is_none [] = true
+is_none (n ∷ repeats) = false
 
--- the same is made of each number
-abbrev pub SameSteps : List NumberStep → List NumberStep → Type 0
-SameSteps new old = ((x : ℤ) → number_images new x ≡ number_images old x) × (only_maps new ≡ only_maps old)
+abbrev pub are_maps : List NumberStep → List ℕ → Bool
+are_maps steps repeats = is_none repeats && list_all is_map_step steps
+
+abbrev pub only_maps : NumberSteps → Bool
+only_maps s = are_maps s.steps.items s.repeats.items
+
+-- the steps with a stage behind them
+abbrev pub Follows : NumberStage → NumberSteps → NumberSteps → Type 0
+Follows stage old new =
+    ((l : List ℤ) → flat_map (number_images new) l ≡ number_stage stage (flat_map (number_images old) l)) × (only_maps new ≡ (only_maps old && is_number_map stage))
 
 abbrev map_image : NumberStep → ℤ → ℤ
-map_image (Pass p) x = passage_image p x
-map_image (Plain (Map f)) x = mapping_image f x
-map_image _ x = x
+map_image (Map f) x = mapping_image f x
+map_image (Filter p) x = x
 
 map-one : (step : NumberStep) → is_map_step step ≡ true → (x : ℤ) → number_step_images step x ≡ map_image step x ∷ []
-map-one (Pass p) h x = image-kept p h x
-map-one (Plain (Map f)) h x = refl
-map-one (Plain (Filter p)) h x = absurd (true≢false (sym h))
-map-one (Repeat n) h x = absurd (true≢false (sym h))
+map-one (Map f) h x = refl
+map-one (Filter p) h x = absurd (true≢false (sym h))
 
-pub KeepsSound-number_steps : (order : ℤ → ℤ → Ordering) (steps : List NumberStep) → KeepsSound order order (row_of (only_maps steps)) (size_of (only_maps steps)) (flat_map (number_images steps))
-KeepsSound-number_steps order steps = KeepsSound-walk number_step_images order is_map_step map_image map-one steps
+all-one : (steps : List NumberStep) (repeats : List ℕ) → are_maps steps repeats ≡ true → (x : ℤ) → images_of steps repeats x ≡ one_after_other map_image steps x ∷ []
+all-one steps [] h x = flat_map-one (steps_images steps x) ∙ one-image number_step_images is_map_step map_image map-one steps h x
+all-one steps (n ∷ repeats) h x = absurd (true≢false (sym h))
+
+pub KeepsSound-number_steps : (order : ℤ → ℤ → Ordering) (s : NumberSteps) → KeepsSound order order (row_of (only_maps s)) (size_of (only_maps s)) (flat_map (number_images s))
+KeepsSound-number_steps order s =
+    KeepsSound-images order (number_images s) (one_after_other map_image s.steps.items) (only_maps s) (all-one s.steps.items s.repeats.items)

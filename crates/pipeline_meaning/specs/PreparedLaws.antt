@@ -1,5 +1,5 @@
 -- Values of the prepared functions.
-use Rattle.std.specs.Prelude.{◌≤◌, ◌<◌, ◌^◌, ℕ, ℤ, Bool, true, false, cond, pos, negsuc, neg_ℤ, ◌+ℤ◌, ◌*ℤ◌, List, refl}
+use Rattle.std.specs.Prelude.{◌≤◌, ◌<◌, ◌^◌, ℕ, ℤ, pos, negsuc, neg_ℤ, ◌+ℤ◌, ◌*ℤ◌, List, refl}
 use Rattle.std.proofs.Common.{arith}
 use Rattle.std.specs.Int.{int_rem_euclid}
 use Rattle.std.specs.Ordering.{is_lt, is_gt, int_cmp}
@@ -8,15 +8,13 @@ use Rattle.std.proofs.lemmas.Nat.{mod_below}
 use Rattle.spliterator.specs.Values.{IsI64, int_cmp-total}
 use Rattle.stages.specs.Operators.{IsAssociative}
 use Rattle.stages.specs.Choices.{either-value}
-use Rattle.stages.specs.Wrapping.{wrapped, wrapped-value, wrapped_sum_assoc}
+use Rattle.stages.specs.Wrapping.{wrapped-value, wrapped_sum_assoc}
 use Rattle.pipeline_language.specs.declared.pipeline.NumberMerge.{NumberMerge}
 use Rattle.pipeline_language.specs.declared.pipeline.NumberMerge.TheVariants as numbers
 use Rattle.pipeline_language.specs.declared.pipeline.TextMerge.{TextMerge}
 use Rattle.pipeline_language.specs.declared.pipeline.TextMerge.TheVariants as texts
 use Rattle.pipeline_meaning.specs.Functions.{number_join, text_join}
-use Rattle.pipeline_meaning.specs.Passages.{passage_image}
 use Rattle.pipeline_meaning.specs.Prepared.{mapping_image}
-use Rattle.pipeline_meaning.specs.declared.passage.Passage.{Passage}
 use Rattle.pipeline_meaning.specs.declared.functions.NumberChange.TheVariants.{Add, Mul, Negate}
 use Rattle.pipeline_meaning.specs.declared.functions.NumberMapping.{NumberMapping}
 use Rattle.pipeline_meaning.specs.declared.functions.NumberMapping.TheVariants.{Itself, Mod, Change}
@@ -32,13 +30,6 @@ mapping_image-value (Mod d) x h = remainder-value x d.number d.least d.most
 mapping_image-value (Change (Add n)) x h = wrapped-value (x +ℤ n)
 mapping_image-value (Change (Mul n)) x h = wrapped-value (x *ℤ n)
 mapping_image-value (Change Negate) x h = wrapped-value (neg_ℤ x)
-
-pub passage_image-value : (p : Passage) (x : ℤ) → IsI64 x → IsI64 (passage_image p x)
-passage_image-value p x h = by p.changes
-  where
-    by : (b : Bool) → IsI64 (cond b (wrapped (x *ℤ p.factor +ℤ p.summand)) x)
-    by true = wrapped-value (x *ℤ p.factor +ℤ p.summand)
-    by false = h
 
 pub number_join-value : (merge : NumberMerge) (x y : ℤ) → IsI64 x → IsI64 y → IsI64 (number_join merge x y)
 number_join-value numbers.First x y h k = h

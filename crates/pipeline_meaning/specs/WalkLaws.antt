@@ -10,17 +10,9 @@ use Rattle.std.proofs.lemmas.List.Folds.{list_all-append}
 use Rattle.stages.specs.declared.flags.Operation.TheVariants.{Map as map_row}
 use Rattle.stages.specs.Flags.{KeepsSound, IsSound, after}
 use Rattle.stages.specs.FlagLaws.{KeepsSound-map, KeepsSound-flat_map}
+use Rattle.stages.specs.Passing.{flat_map-flat_map, flat_map-one}
 use Rattle.pipeline_meaning.specs.Rows.{row_of, size_of}
 use Rattle.pipeline_meaning.specs.Walks.{one_after_other, images_after}
-
--- the images of images
-pub flat_map-flat_map : {A B C : Type 0} (f : A → List B) (g : B → List C) (l : List A) → flat_map g (flat_map f l) ≡ flat_map (λ x. flat_map g (f x)) l
-flat_map-flat_map f g [] = refl
-flat_map-flat_map f g (x ∷ l) = flat_map-append g (f x) (flat_map f l) ∙ ap (λ r. flat_map g (f x) ++ r) (flat_map-flat_map f g l)
-
-pub flat_map-one : {A : Type 0} (l : List A) → flat_map (λ x. x ∷ []) l ≡ l
-flat_map-one [] = refl
-flat_map-one (x ∷ l) = ap (λ r. x ∷ r) (flat_map-one l)
 
 pub map-flat_map : {A B : Type 0} (f : A → B) (l : List A) → map f l ≡ flat_map (λ x. f x ∷ []) l
 map-flat_map f [] = refl
@@ -61,14 +53,14 @@ module _ {S A : Type 0} (images : S → A → List A) where
       flat_map-same (images_after images (steps ++ step ∷ [])) (λ y. flat_map (images step) (images_after images steps y)) (images-one-more steps step) (images first x)
       ∙ sym (flat_map-flat_map (images_after images steps) (images step) (images first x))
 
-  all-one-more : (steps : List S) (step : S) (l : List A)
+  pub all-one-more : (steps : List S) (step : S) (l : List A)
       → flat_map (images_after images (steps ++ step ∷ [])) l ≡ flat_map (images step) (flat_map (images_after images steps) l)
   all-one-more steps step l =
       flat_map-same (images_after images (steps ++ step ∷ [])) (λ y. flat_map (images step) (images_after images steps y)) (images-one-more steps step) l
       ∙ sym (flat_map-flat_map (images_after images steps) (images step) l)
 
   -- Where all steps are maps, a number has one image.
-  one-image : (is_map : S → Bool) (image : S → A → A) → ((step : S) → is_map step ≡ true → (x : A) → images step x ≡ image step x ∷ [])
+  pub one-image : (is_map : S → Bool) (image : S → A → A) → ((step : S) → is_map step ≡ true → (x : A) → images step x ≡ image step x ∷ [])
       → (steps : List S) → list_all is_map steps ≡ true → (x : A) → images_after images steps x ≡ one_after_other image steps x ∷ []
   one-image is_map image one [] h x = refl
   one-image is_map image one (step ∷ steps) h x =
@@ -90,7 +82,7 @@ module _ {S A : Type 0} (images : S → A → List A) where
       KeepsSound-images order (images_after images steps) (one_after_other image steps) (list_all is_map steps) (one-image is_map image one steps)
 
   module _ {G : Type 0} (stage : G → List A → List A) where
-    stages-one-more : (earlier : List G) (last : G) (l : List A) → one_after_other stage (earlier ++ last ∷ []) l ≡ stage last (one_after_other stage earlier l)
+    pub stages-one-more : (earlier : List G) (last : G) (l : List A) → one_after_other stage (earlier ++ last ∷ []) l ≡ stage last (one_after_other stage earlier l)
     stages-one-more [] last l = refl
     stages-one-more (first ∷ earlier) last l = stages-one-more earlier last (stage first l)
 
@@ -113,23 +105,6 @@ module _ {S A : Type 0} (images : S → A → List A) where
     front-start is_map is_stage_map steps e =
         let P : List S → Type 0 = λ steps. IsFront is_map is_stage_map steps [] in
         subst P (sym e) (flat_map-one, refl)
-
-    -- a step that leaves all as it is
-    pub front-first : (is_map : S → Bool) (is_stage_map : G → Bool) (steps : List S) (step : S) → steps ≡ [] → ((x : A) → images step x ≡ x ∷ []) → is_map step ≡ true
-        → IsFront is_map is_stage_map (steps ++ step ∷ []) []
-    front-first is_map is_stage_map steps step e one m =
-        let P : List S → Type 0 = λ steps. IsFront is_map is_stage_map (steps ++ step ∷ []) [] in
-        subst P (sym e) (
-          (λ l. flat_map-same (images_after images (step ∷ [])) (λ x. x ∷ []) (λ x. ap (flat_map (images_after images [])) (one x)) l ∙ flat_map-one l),
-          ap (λ b. b && true) m,
-        )
-
-    -- the same steps are the same front
-    pub front-same : (is_map : S → Bool) (is_stage_map : G → Bool) (steps new : List S) (stages : List G)
-        → ((x : A) → images_after images new x ≡ images_after images steps x) → list_all is_map new ≡ list_all is_map steps
-        → IsFront is_map is_stage_map steps stages → IsFront is_map is_stage_map new stages
-    front-same is_map is_stage_map steps new stages h maps front =
-        (λ l. flat_map-same (images_after images new) (images_after images steps) h l ∙ front.0 l, maps ∙ front.1)
 
     pub front-more : (is_map : S → Bool) (is_stage_map : G → Bool) (steps new : List S) (step : S) (stages : List G) (i : ℕ) (d : G) → i < length stages
         → new ≡ steps ++ step ∷ [] → IsFront is_map is_stage_map steps (take i stages) → IsStep is_map is_stage_map step (get_or stages i d) → IsFront is_map is_stage_map new (take (i + 1) stages)

@@ -2,13 +2,14 @@
 #![tactic(auto)]
 
 mod adapted;
+mod block_functions;
 mod divisor;
 mod functions;
 mod number_bases;
+mod number_blocks;
+mod number_copies;
 mod number_steps;
 mod number_summaries;
-mod number_walk;
-mod passage;
 mod seeded_hashes;
 mod spelled;
 mod summarizes;
@@ -30,8 +31,6 @@ pub use number_summaries::{
     NumberInnerCollector, NumberSummaryCollector, NumberSummaryContainer, NumberSummaryResult,
     number_inner, number_summary,
 };
-pub use number_walk::{AtLeast, AtMost, IsMultiple, NumberWalk, Remainder};
-pub use passage::Passage;
 pub use seeded_hashes::SeededHashes;
 pub use spelled::Spelled;
 pub use summarizes::{Both, Summarizes, grouped, write_result};

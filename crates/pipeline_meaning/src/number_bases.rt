@@ -86,6 +86,10 @@ impl Collector for NumberBaseCollector {
         self.chosen.accumulate(&mut acc.held, x)
     }
 
+    fn accumulate_all(&self, acc: &mut NumberBaseContainer, items: &[i64]) -> Result<(), NoMemory> {
+        self.chosen.accumulate_all(&mut acc.held, items)
+    }
+
     fn combine(
         &self,
         left: &mut NumberBaseContainer,

@@ -90,6 +90,14 @@ impl Collector for NumberSummaryCollector {
         self.chosen.accumulate(&mut acc.held, x)
     }
 
+    fn accumulate_all(
+        &self,
+        acc: &mut NumberSummaryContainer,
+        items: &[i64],
+    ) -> Result<(), NoMemory> {
+        self.chosen.accumulate_all(&mut acc.held, items)
+    }
+
     fn combine(
         &self,
         left: &mut NumberSummaryContainer,

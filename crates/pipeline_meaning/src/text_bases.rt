@@ -82,6 +82,14 @@ impl<'a> Collector for TextBaseCollector<'a> {
         self.chosen.accumulate(&mut acc.held, x)
     }
 
+    fn accumulate_all(
+        &self,
+        acc: &mut TextBaseContainer<'a>,
+        items: &[&'a str],
+    ) -> Result<(), NoMemory> {
+        self.chosen.accumulate_all(&mut acc.held, items)
+    }
+
     fn combine(
         &self,
         left: &mut TextBaseContainer<'a>,

@@ -89,6 +89,14 @@ impl<'a> Collector for TextInnerCollector<'a> {
         self.chosen.accumulate(&mut acc.held, x)
     }
 
+    fn accumulate_all(
+        &self,
+        acc: &mut TextInnerContainer<'a>,
+        items: &[&'a str],
+    ) -> Result<(), NoMemory> {
+        self.chosen.accumulate_all(&mut acc.held, items)
+    }
+
     fn combine(
         &self,
         left: &mut TextInnerContainer<'a>,

@@ -96,6 +96,14 @@ impl<'a> Collector for TextSummaryCollector<'a> {
         self.chosen.accumulate(&mut acc.held, x)
     }
 
+    fn accumulate_all(
+        &self,
+        acc: &mut TextSummaryContainer<'a>,
+        items: &[&'a str],
+    ) -> Result<(), NoMemory> {
+        self.chosen.accumulate_all(&mut acc.held, items)
+    }
+
     fn combine(
         &self,
         left: &mut TextSummaryContainer<'a>,

@@ -11,7 +11,7 @@ use Rattle.pipeline_language.specs.declared.pipeline.TextEnd.{TextEnd}
 use Rattle.pipeline_language.specs.declared.pipeline.TextStage.{TextStage}
 use Rattle.pipeline_meaning.specs.Functions.{text_length}
 use Rattle.pipeline_meaning.specs.Stages.{number_stage, number_stages, text_stage, text_stages}
-use Rattle.pipeline_meaning.specs.WalkLaws.{flat_map-flat_map, flat_map-one}
+use Rattle.stages.specs.Passing.{flat_map-flat_map, flat_map-one}
 use Rattle.pipeline_value.specs.declared.told.ValueError.{ValueError}
 use Rattle.pipeline_value.specs.Value.{Tells, number_body_told, number_told, text_end_told}
 use Rattle.pipeline_value.proofs.Stages.{numbers-cut, numbers-whole, texts-cut}

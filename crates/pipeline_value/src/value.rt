@@ -1,23 +1,20 @@
 //! The value of a pipeline.
 
-ghost use Rattle.std.specs.Prelude.{◌≡◌, pos, ◌+ℤ◌, ◌≤◌, ◌^◌, ℤ, IfOk, List, MatchOption, flat_map, ⊤};
+ghost use Rattle.std.specs.Prelude.{◌≤◌, ◌^◌, ◌+ℤ◌, pos};
 ghost use Rattle.parallel_streams.specs.Runs.{IsLawfulRun};
-ghost use Rattle.pipeline_meaning.specs.NumberWalks.{walk_images};
-ghost use Rattle.pipeline_meaning.specs.Stages.{number_stages};
 ghost use Rattle.sources.specs.Integers.{count_between, integers_between};
 ghost use Rattle.pipeline_value.specs.Ranges.{NumberBodyFits, NumberSourceFits, PipelineFits};
 ghost use Rattle.pipeline_value.specs.Value.{Tells, number_body_told, pipeline_told, source_numbers};
 
-use crate::folds::{Fold, walk_value};
 use crate::known_size::known_count;
 use crate::numbers::{list_value, number_value};
 use crate::texts::text_value;
 use crate::told::{ValueError, told};
 use parallel_streams::Run;
-use pipeline_language::{NumberBody, NumberSource, NumberStage, Pipeline};
-use pipeline_meaning::{NumberSteps, NumberWalk, SeededHashes};
+use pipeline_language::{NumberBody, NumberSource, Pipeline};
+use pipeline_meaning::SeededHashes;
 use sources::RangeSplit;
-use spliterator::{NoMemory, Spliterator};
+use spliterator::Spliterator;
 use stages::Nothing;
 use std::alloc::Global;
 use std::thread::Threads;
@@ -88,7 +85,7 @@ fn source_value<R: Threads + Sync, H: Gate + Sync>(
     }
 }
 
-/// The text of the value of a body, over a range. Few steps without a barrier before a fold are walked as a small stage.
+/// The text of the value of a body, over a range.
 fn integers_value<R: Threads + Sync, H: Gate + Sync>(
     rt: &R,
     alloc: Global,
@@ -101,24 +98,7 @@ fn integers_value<R: Threads + Sync, H: Gate + Sync>(
     requires body { NumberBodyFits body.now }
     ensures { Tells (number_body_told body.now (⟦<RangeSplit as Spliterator>⟧.items range)) result }
 {
-    if let Some(fold) = Fold::of(&body.terminal)
-        && let Some(walk) = whole_walk(alloc, body.stages.as_slice())?
-    {
-        return walk_value(rt, alloc, range, walk, fold, run);
-    }
     number_value(rt, alloc, hashes, range, Nothing::new(), body, run)
-}
-
-/// All stages as a small stage, where they are few steps and none is a barrier.
-fn whole_walk(alloc: Global, stages: &[NumberStage]) -> Result<Option<NumberWalk>, NoMemory>
-    ensures { IfOk result (λ walk. MatchOption walk ⊤ (λ walk. (l : List ℤ) → flat_map (walk_images walk) l ≡ number_stages stages.now l)) }
-{
-    let (steps, taken) = NumberSteps::front_of(alloc, stages)?;
-    if taken == stages.len() {
-        Ok(steps.walk())
-    } else {
-        Ok(None)
-    }
 }
 
 /// The text of the value of a body, over the integers from `start` up to, not including, `end`.

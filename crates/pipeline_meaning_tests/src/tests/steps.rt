@@ -1,5 +1,4 @@
-//! Stages as steps, fed item by item.
-use super::fed;
+//! Stages as steps, fed item by item and a block at once.
 use pipeline_language::{NumberFunction, NumberStage, NumberTest, TextStage, TextTest};
 use pipeline_meaning::{NumberSteps, TextSteps};
 use spliterator::NoMemory;
@@ -8,14 +7,13 @@ use std::alloc::Global;
 use std::process::Abort;
 use std::test::Fail;
 
-/// What a front of stages makes of items, and how many of the stages it is.
-fn made(
-    alloc: Global,
-    stages: &[NumberStage],
-    items: &[i64],
-) -> Result<(Vec<i64>, usize), NoMemory> {
-    let (steps, number) = NumberSteps::front_of(alloc, stages)?;
-    Ok((fed(alloc, &steps, items)?, number))
+/// What a front of stages makes of a block of items.
+fn made_at_once(alloc: Global, steps: &NumberSteps, items: &[i64]) -> Result<Vec<i64>, NoMemory> {
+    let mut block = Vec::new(alloc);
+    block.extend_from_slice(items)?;
+    let mut found = Vec::new(alloc);
+    steps.feed_all(&mut block, &mut found)?;
+    Ok(found)
 }
 
 /// Stages, items, what becomes of these, and how many of the stages stand before the first barrier.
@@ -23,56 +21,91 @@ type NumberRow<'a> = (&'a [NumberStage], &'a [i64], &'a [i64], usize);
 
 fn check(rt: &(impl Abort + Alloc<A = Global>), rows: &[NumberRow<'_>]) -> Result<(), Fail> {
     for &(stages, items, wanted, taken) in rows {
-        let (found, number) = made(rt.alloc(), stages, items)?;
-        assert!(rt; found.as_slice() == wanted, "{found:?}");
+        let (steps, number) = NumberSteps::front_of(rt.alloc(), stages)?;
         assert_eq!(rt; number, taken);
+        let mut found = Vec::new(rt.alloc());
+        for item in items {
+            steps.push(*item, &mut found)?;
+        }
+        assert!(rt; found.as_slice() == wanted, "{found:?}");
+        let at_once = made_at_once(rt.alloc(), &steps, items)?;
+        assert!(rt; at_once.as_slice() == wanted, "{at_once:?}");
     }
     Ok(())
 }
 
 #[test]
-fn a_number_walks_through_its_steps(rt: HostRuntime) -> Result<(), Fail> {
+fn each_step_follows_the_one_before(rt: HostRuntime) -> Result<(), Fail> {
     let thrice = NumberStage::Map(NumberFunction::Mul(3));
     let even = NumberStage::Filter(NumberTest::Divisible(2));
     let more = NumberStage::Map(NumberFunction::Add(1));
     let small = NumberStage::Filter(NumberTest::Less(10));
-    let rest = NumberStage::Map(NumberFunction::Mod(3));
-    let rows: [NumberRow<'_>; 7] = [
+    let rows: [NumberRow<'_>; 6] = [
         (&[], &[4, i64::MIN], &[4, i64::MIN], 0),
         (&[thrice], &[1, -2], &[3, -6], 1),
         (&[thrice, even], &[1, 2, 3, 4], &[6, 12], 2),
         (&[even, thrice], &[1, 2, 3, 4], &[6, 12], 2),
         (&[thrice, more, even], &[1, 2, 3], &[4, 10], 3),
         (&[thrice, more, even, small], &[1, 2, 3], &[4], 4),
-        (&[rest], &[-1, -3], &[2, 0], 1),
     ];
     check(&rt, &rows)
 }
 
 #[test]
-fn neighbouring_steps_do_as_each_in_turn(rt: HostRuntime) -> Result<(), Fail> {
-    let most = NumberStage::Map(NumberFunction::Add(i64::MAX));
+fn functions_wrap_at_the_outermost_numbers(rt: HostRuntime) -> Result<(), Fail> {
+    let (least, most) = (i64::MIN, i64::MAX);
     let thrice = NumberStage::Map(NumberFunction::Mul(3));
+    let more = NumberStage::Map(NumberFunction::Add(1));
+    let same = NumberStage::Map(NumberFunction::Itself);
     let negated = NumberStage::Map(NumberFunction::Negate);
-    let small = NumberStage::Filter(NumberTest::Less(5));
-    let some = NumberStage::Filter(NumberTest::Greater(2));
-    let rows: [NumberRow<'_>; 3] = [
-        (&[most, most, thrice], &[1], &[-3], 3),
-        (&[small, some], &[2, 3, 4, 5], &[3, 4], 2),
-        (&[some, negated, small], &[2, 3], &[-3], 3),
+    let far = NumberStage::Map(NumberFunction::Add(most));
+    let rows: [NumberRow<'_>; 5] = [
+        (&[same, same], &[-7, least], &[-7, least], 2),
+        (&[thrice], &[most, least, -1], &[most - 2, least, -3], 1),
+        (&[more, thrice], &[most, 0], &[least, 3], 2),
+        (&[negated], &[least, most, 0], &[least, -most, 0], 1),
+        (&[far, far, thrice], &[1], &[-3], 3),
     ];
     check(&rt, &rows)
 }
 
 #[test]
-fn the_outermost_numbers_are_tested(rt: HostRuntime) -> Result<(), Fail> {
-    let less = NumberStage::Filter(NumberTest::Less(i64::MIN));
-    let greater = NumberStage::Filter(NumberTest::Greater(i64::MAX));
-    let least = NumberStage::Filter(NumberTest::Equals(i64::MIN));
-    let rows: [NumberRow<'_>; 3] = [
-        (&[less], &[i64::MIN, 0], &[], 1),
-        (&[greater], &[i64::MAX, 0], &[], 1),
-        (&[least], &[i64::MIN, 0], &[i64::MIN], 1),
+fn bounds_drop_numbers(rt: HostRuntime) -> Result<(), Fail> {
+    let (least, most) = (i64::MIN, i64::MAX);
+    let thrice = NumberStage::Map(NumberFunction::Mul(3));
+    let more = NumberStage::Map(NumberFunction::Add(1));
+    let negated = NumberStage::Map(NumberFunction::Negate);
+    let some = NumberStage::Filter(NumberTest::Greater(3));
+    let few = NumberStage::Filter(NumberTest::Less(10));
+    let below = NumberStage::Filter(NumberTest::Less(least));
+    let above = NumberStage::Filter(NumberTest::Greater(most));
+    let lowest = NumberStage::Filter(NumberTest::Equals(least));
+    let rows: [NumberRow<'_>; 8] = [
+        (&[some], &[3, 4, least, most], &[4, most], 1),
+        (&[few], &[9, 10, least, most], &[9, least], 1),
+        (&[few, some], &[3, 4, 9, 10], &[4, 9], 2),
+        (&[thrice, few, more, some], &[0, 1, 2, 3, 4], &[4, 7, 10], 4),
+        (&[some, negated, few], &[3, 4], &[-4], 3),
+        (&[below], &[least, 0], &[], 1),
+        (&[above], &[most, 0], &[], 1),
+        (&[lowest], &[least, 0], &[least], 1),
+    ];
+    check(&rt, &rows)
+}
+
+#[test]
+fn remainders_are_not_negative(rt: HostRuntime) -> Result<(), Fail> {
+    let (least, most) = (i64::MIN, i64::MAX);
+    let rest = NumberStage::Map(NumberFunction::Mod(3));
+    let negated = NumberStage::Map(NumberFunction::Negate);
+    let sevens = NumberStage::Filter(NumberTest::Divisible(7));
+    let even = NumberStage::Filter(NumberTest::Divisible(2));
+    let rows: [NumberRow<'_>; 5] = [
+        (&[rest], &[-1, -3, least, 7], &[2, 0, 1, 1], 1),
+        (&[negated, rest], &[-1, 1], &[1, 2], 2),
+        (&[rest, rest], &[-4, 5], &[2, 2], 2),
+        (&[sevens], &[-14, 13, 0, least], &[-14, 0], 1),
+        (&[even], &[least, most], &[least], 1),
     ];
     check(&rt, &rows)
 }
@@ -92,6 +125,26 @@ fn a_number_is_repeated(rt: HostRuntime) -> Result<(), Fail> {
         (&[negated, twice, small], &[7, 8], &[-8, -8], 3),
     ];
     check(&rt, &rows)
+}
+
+/// More copies than a sink is given at once.
+#[test]
+fn a_number_is_repeated_often(rt: HostRuntime) -> Result<(), Fail> {
+    let twice = NumberStage::Repeat(2);
+    let rows: [(&[NumberStage], usize); 5] = [
+        (&[NumberStage::Repeat(1_024)], 1_024),
+        (&[NumberStage::Repeat(1_025)], 1_025),
+        (&[NumberStage::Repeat(3_000)], 3_000),
+        (&[twice, NumberStage::Repeat(700)], 1_400),
+        (&[NumberStage::Repeat(1_100), twice], 2_200),
+    ];
+    for (stages, number) in rows {
+        let (steps, _) = NumberSteps::front_of(rt.alloc(), stages)?;
+        let found = made_at_once(rt.alloc(), &steps, &[7, 8])?;
+        assert!(rt; (found.len(), found.iter().filter(|x| **x == 7).count()) == (2 * number, number));
+        assert!(rt; (found.first(), found.last()) == (Some(&7), Some(&8)));
+    }
+    Ok(())
 }
 
 #[test]
@@ -147,7 +200,7 @@ fn the_texts_themselves_keep_the_size(rt: HostRuntime) -> Result<(), Fail> {
     Ok(())
 }
 
-/// The same of texts.
+/// What a front of stages makes of texts, and how many of the stages it is.
 fn made_of_texts<'a>(
     alloc: Global,
     stages: &[TextStage<'a>],

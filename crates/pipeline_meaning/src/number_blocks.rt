@@ -1,0 +1,72 @@
+//! Tight loops over a block of numbers: one for every function, one for every test, and one for copies.
+//!
+//! A function or a test comes by value: its numbers stay in registers, where through a reference they are read again behind each write.
+ghost use Rattle.std.specs.Prelude.{◌≡◌, ◌≤◌, OnOk, [], ◌∷◌, cond, filter, flat_map, length, map, take};
+ghost use Rattle.std.proofs.Math.ListN.{replicate};
+
+use spliterator::NoMemory;
+use stages::{Mapping, Test};
+
+/// Puts each number's image in its place.
+fn map_slice<M: Mapping<i64, Out = i64> + Copy>(
+    mapping: M,
+    items: &mut [i64],
+) -> Result<(), NoMemory>
+    requires { M.ready mapping }
+    ensures { OnOk result (items.new ≡ map (M.image mapping) items.old) }
+{
+    for x in items.iter_mut() {
+        let number = *x;
+        *x = mapping.image(&number)?;
+    }
+    Ok(())
+}
+
+/// Puts each number's image in its place.
+pub(crate) fn map_all<M: Mapping<i64, Out = i64> + Copy>(
+    mapping: M,
+    items: &mut Vec<i64>,
+) -> Result<(), NoMemory>
+    requires { M.ready mapping }
+    ensures { OnOk result (items.new.items ≡ flat_map (λ x. M.image mapping x ∷ []) items.old.items) }
+{
+    map_slice(mapping, items.as_mut_slice())?;
+    Ok(())
+}
+
+/// Moves the numbers that meet a test to the front, in order, and says how many they are. No number costs a branch.
+fn keep_front<P: Test<i64> + Copy>(test: P, items: &mut [i64]) -> usize
+    requires { P.ready test }
+    ensures within { result ≤ length items.old }
+    ensures kept { take result items.new ≡ filter (P.holds test) items.old }
+{
+    let mut kept = 0;
+    for i in 0..items.len() {
+        let x = items[i];
+        items[kept] = x;
+        kept += usize::from(test.holds(&x));
+    }
+    kept
+}
+
+/// Leaves the numbers that meet a test.
+pub(crate) fn keep_all<P: Test<i64> + Copy>(test: P, items: &mut Vec<i64>)
+    requires { P.ready test }
+    ensures { items.new.items ≡ flat_map (λ x. cond (P.holds test x) (x ∷ []) []) items.old.items }
+{
+    let kept = keep_front(test, items.as_mut_slice());
+    items.truncate(kept);
+}
+
+/// Puts so many copies of each number into a room, in turn.
+pub(crate) fn copy_each(number: usize, items: &[i64], room: &mut Vec<i64>) -> Result<(), NoMemory>
+    ensures { OnOk result (room.new.items ≡ flat_map (replicate number) items.now) }
+{
+    room.clear();
+    for x in items {
+        for _copy in 0..number {
+            room.push(*x)?;
+        }
+    }
+    Ok(())
+}

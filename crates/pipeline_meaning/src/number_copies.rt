@@ -1,0 +1,108 @@
+//! Copies of a block's numbers, a room at a time.
+ghost use Rattle.std.specs.Prelude.{◌≤◌, OnOk, OnErr, flat_map};
+ghost use Rattle.std.proofs.Math.ListN.{replicate};
+ghost use Rattle.pipeline_meaning.specs.NumberSteps.{copies};
+
+use crate::number_blocks::copy_each;
+use spliterator::NoMemory;
+use stages::Sink;
+use std::alloc::Global;
+
+/// How many copies a sink is given at once.
+const ROOM: usize = 1024;
+
+/// Feeds the copies of a block's numbers to a sink, by one repeat after another, as long as they make a difference. What the list holds
+/// afterwards is of no use.
+#[cycle(repeating)]
+pub(crate) fn feed_repeated<K: Sink<i64>>(
+    alloc: Global,
+    repeats: &[u64],
+    items: &mut Vec<i64>,
+    sink: &mut K,
+) -> Result<(), NoMemory>
+    requires { K.ready sink.old }
+    ensures taken { OnOk result (K.takes sink.old (flat_map (copies repeats.now) items.old.items) sink.new) }
+    ensures spoilt { OnErr result (K.spoils sink.old sink.new) }
+{
+    match repeats.split_first() {
+        None => sink.take_all(items),
+        Some((number, later)) => feed_each(alloc, *number, later, items.as_slice(), sink),
+    }
+}
+
+// Feeds so many copies of each number, and the copies of these.
+#[cycle(repeating)]
+fn feed_each<K: Sink<i64>>(
+    alloc: Global,
+    number: u64,
+    later: &[u64],
+    items: &[i64],
+    sink: &mut K,
+) -> Result<(), NoMemory>
+    requires { K.ready sink.old }
+    ensures taken { OnOk result (K.takes sink.old (flat_map (copies later.now) (flat_map (replicate number) items.now)) sink.new) }
+    ensures spoilt { OnErr result (K.spoils sink.old sink.new) }
+{
+    if number <= ROOM as u64 {
+        return feed_few(alloc, number as usize, later, items, sink);
+    }
+    for x in items {
+        feed_many(alloc, number, later, *x, sink)?;
+    }
+    Ok(())
+}
+
+// The same where a room holds the copies of a number.
+#[cycle(repeating)]
+fn feed_few<K: Sink<i64>>(
+    alloc: Global,
+    number: usize,
+    later: &[u64],
+    items: &[i64],
+    sink: &mut K,
+) -> Result<(), NoMemory>
+    requires { K.ready sink.old }
+    ensures taken { OnOk result (K.takes sink.old (flat_map (copies later.now) (flat_map (replicate number) items.now)) sink.new) }
+    ensures spoilt { OnErr result (K.spoils sink.old sink.new) }
+{
+    let most = (ROOM / number.max(1)).max(1);
+    let mut room = Vec::new(alloc);
+    let mut left = items;
+    'copying: while !left.is_empty() {
+        if sink.is_full() {
+            return Ok(());
+        }
+        let (part, rest) = left.split_at(left.len().min(most));
+        copy_each(number, part, &mut room)?;
+        feed_repeated(alloc, later, &mut room, sink)?;
+        left = rest;
+    }
+    Ok(())
+}
+
+// The same of one number with more copies than a room holds.
+#[cycle(repeating)]
+fn feed_many<K: Sink<i64>>(
+    alloc: Global,
+    number: u64,
+    later: &[u64],
+    x: i64,
+    sink: &mut K,
+) -> Result<(), NoMemory>
+    requires { K.ready sink.old }
+    ensures taken { OnOk result (K.takes sink.old (flat_map (copies later.now) (replicate number x)) sink.new) }
+    ensures spoilt { OnErr result (K.spoils sink.old sink.new) }
+{
+    let mut room = Vec::new(alloc);
+    let mut left = number;
+    'copying: while left > 0 {
+        if sink.is_full() {
+            return Ok(());
+        }
+        let part = left.min(ROOM as u64);
+        copy_each(part as usize, &[x], &mut room)?;
+        feed_repeated(alloc, later, &mut room, sink)?;
+        left -= part;
+    }
+    Ok(())
+}
