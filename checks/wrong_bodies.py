@@ -5,8 +5,8 @@
 
 Run it at the top of the repository, once the libraries are built (`rt ci`, or `rt all check`). An edit has the form of a must-fail edit:
 a line `file: src/..`, then pairs of lines `old: TEXT` and `new: TEXT`. One check tries as many edits of a crate as touch different
-functions, over the work that earlier checks of the crate kept. An edit passes where the check says of the edited function itself that a goal
-isn't proved. That the function calls one that was refused, that a proof file names what the edit took away, or that the text can't be read
+functions, and reads no others than these and those that they call, over the work that earlier checks of the crate kept. An edit passes where
+the check says of the edited function itself that a goal isn't proved. That the function calls one that was refused, that a proof file names what the edit took away, or that the text can't be read
 is no refusal. What a pack doesn't show so is tried alone. An edit outside functions, of a constant say, is tried alone too, and passes where
 any function is refused so.
 
@@ -33,6 +33,8 @@ TOLD = re.compile(r"fn (\S+?): (.*)")
 UNPROVED_NOTE = re.compile(r"note: (src/\S+?):(\d+):\d+: it is not proved that ")
 PROOF_ERROR = re.compile(r"(?:\./)?proofs/(\S+?)/\w+\.antt:\d+:\d+: error: (.*)")
 GONE = re.compile(r"has no field|is not in scope|has no `|was not admitted")
+
+UNKNOWN = re.compile(r"rattle: error: `\w+` has ")
 
 Function = collections.namedtuple("Function", "file module owner name folders first last")
 Told = collections.namedtuple("Told", "reasons notes errors")
@@ -114,6 +116,11 @@ def names_of(crate, function, told):
     named = [name for name in told if name.startswith(path) and name.endswith("::" + function.name)]
     owners = {name: name[len(path) : -len(function.name) - 2] for name in named}
     return [it for it in named if owners[it] == wanted] or [it for it in named if owners[it].startswith(wanted)] or named
+
+
+def path_of(function):
+    """The end of the name that a check has for a function."""
+    return "::".join(it for it in (function.module, owner_name(function.owner) if function.owner else "", function.name) if it)
 
 
 class Edit:
@@ -249,10 +256,9 @@ class Trial:
         texts = {}
         for edit in pack:
             texts = edit.apply(texts, self.crate.folder)
-        ran = RT.checked(self.crate, texts, ["--jobs", "1"], self.kept)
-        said = ran.stdout.rstrip("\n").split("\n")
+        said = self.check(texts, [path_of(it) for edit in pack for it in edit.functions] if all(it.is_inside for it in pack) else [])
         unread = next((it for it in said if RT.unread(it, texts)), None)
-        if unread or not said[-1].startswith("logic="):
+        if unread or not said[-1].startswith(("logic=", "only=")):
             return self.divide(pack, unread or next((it for it in said if "error" in it), said[-1]))
         told = read_check(said)
         for edit in pack:
@@ -263,6 +269,15 @@ class Trial:
                 self.told[edit] = True, f"refused: {shown}"
             elif len(pack) == 1:
                 self.told[edit] = False, why_not(edit, self.crate.name, told)
+
+    def check(self, texts, paths):
+        """The lines of a check of these functions, or of the whole crate where there are none."""
+        only = [word for it in dict.fromkeys(paths) for word in ("--only", it)]
+        ran = RT.checked(self.crate, texts, ["--jobs", "1", *only], self.kept)
+        said = ran.stdout.rstrip("\n").split("\n")
+        unknown = next((found for found in map(UNKNOWN.search, said) if found), None)
+        # (a name that the check has not, or has twice, is left to a check of the whole)
+        return self.check(texts, []) if only and unknown else said
 
     def divide(self, pack, unread):
         """Tries the halves of a pack whose text can't be read."""

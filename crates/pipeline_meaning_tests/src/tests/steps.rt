@@ -141,7 +141,9 @@ fn a_number_is_repeated_often(rt: HostRuntime) -> Result<(), Fail> {
     for (stages, number) in rows {
         let (steps, _) = NumberSteps::front_of(rt.alloc(), stages)?;
         let found = made_at_once(rt.alloc(), &steps, &[7, 8])?;
-        assert!(rt; (found.len(), found.iter().filter(|x| **x == 7).count()) == (2 * number, number));
+        assert!(rt;
+            (found.len(), found.iter().filter(|x| **x == 7).count()) == (2 * number, number)
+        );
         assert!(rt; (found.first(), found.last()) == (Some(&7), Some(&8)));
     }
     Ok(())
