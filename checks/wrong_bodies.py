@@ -62,7 +62,7 @@ def functions_of(file, text):
     for number, line in enumerate(lines):
         if line.startswith("}"):
             owner = ""
-        owner = line if OWNER.match(line) else owner
+        owner = head_at(lines, number) if OWNER.match(line) else owner
         head = FUNCTION.match(line)
         if not head:
             continue
@@ -70,6 +70,12 @@ def functions_of(file, text):
         folders = (head[2], *(f"+{it}" for it in [head[2], *cycles]))
         found.append(Function(file, module, owner if head[1] else "", head[2], folders, number, last_line(lines, number, head[1])))
     return found
+
+
+def head_at(lines, first):
+    """The head of an impl or a trait, which may take several lines."""
+    last = next((at for at in range(first, len(lines)) if lines[at].endswith(("{", "{}"))), first)
+    return " ".join(line.strip() for line in lines[first : last + 1])
 
 
 def last_line(lines, first, indent):
@@ -91,20 +97,34 @@ def camel(type_text):
     return "".join("Ref" if word == "&" else word[0].upper() + word[1:] for word in words)
 
 
-def owner_name(owner):
-    """How the check's names of a method's function begin behind its module: the type, and the trait where there is one."""
-    if owner.startswith(("trait", "pub trait")):
-        return owner.partition("trait ")[2].split("<")[0].split(":")[0].split(" ")[0]
-    head, depth = owner.partition("impl")[2], 0
+def split_impl(owner):
+    """The parameters of an impl, its trait with that one's arguments (neither, where there is none), and its type."""
+    head, parameters, depth = owner.partition("impl")[2], "", 0
     if head.startswith("<"):
         for at, sign in enumerate(head):
             depth += (sign == "<") - (sign == ">" and head[at - 1] != "-")
             if depth == 0:
-                head = head[at + 1 :]
+                parameters, head = head[1:at], head[at + 1 :]
                 break
-    head = re.split(r"\bwhere\b|\{", head)[0].strip()
-    trait, _, of = head.rpartition(" for ")
-    return camel(of) + (camel(trait) if trait else "")
+    trait, _, of = re.split(r"\bwhere\b|\{", head)[0].strip().rpartition(" for ")
+    name, _, arguments = trait.partition("<")
+    names = re.findall(r"(?:^|[<,] ?)([\w']+)(?=:|,|$)", parameters.strip().rstrip(","))
+    return names, name, re.split(r", (?![^<(]*[>)])", arguments.rpartition(">")[0]), of
+
+
+def owner_name(owner, with_arguments=False):
+    """How the check's names of a method's function begin behind its module: the type, and the trait where there is one, with its arguments that are no parameters of the impl."""
+    if owner.startswith(("trait", "pub trait")):
+        return owner.partition("trait ")[2].split("<")[0].split(":")[0].split(" ")[0]
+    parameters, trait, arguments, of = split_impl(owner)
+    own = [camel(it) for it in arguments if it and it not in parameters]
+    lent = "Ref" if of.startswith("&") and of[1:] in parameters else ""
+    return (lent or camel(of)) + (camel(trait) if trait else "") + "".join(own if with_arguments else [])
+
+
+def path_of(function):
+    """The name that a check has for a function, without the crate's."""
+    return "::".join(it for it in (function.module, owner_name(function.owner, True) if function.owner else "", function.name) if it)
 
 
 def names_of(crate, function, told):
@@ -116,11 +136,6 @@ def names_of(crate, function, told):
     named = [name for name in told if name.startswith(path) and name.endswith("::" + function.name)]
     owners = {name: name[len(path) : -len(function.name) - 2] for name in named}
     return [it for it in named if owners[it] == wanted] or [it for it in named if owners[it].startswith(wanted)] or named
-
-
-def path_of(function):
-    """The end of the name that a check has for a function."""
-    return "::".join(it for it in (function.module, owner_name(function.owner) if function.owner else "", function.name) if it)
 
 
 class Edit:
@@ -275,9 +290,8 @@ class Trial:
         only = [word for it in dict.fromkeys(paths) for word in ("--only", it)]
         ran = RT.checked(self.crate, texts, ["--jobs", "1", *only], self.kept)
         said = ran.stdout.rstrip("\n").split("\n")
-        unknown = next((found for found in map(UNKNOWN.search, said) if found), None)
         # (a name that the check has not, or has twice, is left to a check of the whole)
-        return self.check(texts, []) if only and unknown else said
+        return self.check(texts, []) if only and any(map(UNKNOWN.search, said)) else said
 
     def divide(self, pack, unread):
         """Tries the halves of a pack whose text can't be read."""
