@@ -64,6 +64,9 @@ source-told body before items r same h =
     let Q : List ℤ → Type 0 = λ l. Tells (number_body_told body l) r in
     subst Q same h
 
-pub itself-told : (body : NumberBody) (items : List ℤ) (r : Result (String Global) ValueError)
-    → Tells (number_body_told body (flat_map (λ n. n ∷ []) items)) r → Tells (number_body_told body items) r
-itself-told body items r h = source-told body (flat_map (λ n. n ∷ []) items) items r (flat_map-one items) h
+pub narrowed-told : (terminal : NumberTerminal) (stages fewer : List NumberStage) (items narrowed : List ℤ) (r : Result (String Global) ValueError)
+    → number_stages fewer narrowed ≡ number_stages stages items → Tells (number_told terminal (number_stages fewer (flat_map (λ n. n ∷ []) narrowed))) r
+    → Tells (number_told terminal (number_stages stages items)) r
+narrowed-told terminal stages fewer items narrowed r same h =
+    let Q : List ℤ → Type 0 = λ l. Tells (number_told terminal l) r in
+    subst Q (ap (number_stages fewer) (flat_map-one narrowed) ∙ same) h

@@ -8,3 +8,4 @@ pub mod NumberContents
 pub mod Ranges
 pub mod TextContents
 pub mod Value
+pub mod Narrowing

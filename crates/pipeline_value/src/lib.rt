@@ -8,6 +8,7 @@ mod folds;
 mod gather;
 mod known_size;
 mod maps;
+mod narrowed;
 mod nested;
 mod number_end;
 mod number_groups;

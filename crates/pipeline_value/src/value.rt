@@ -7,6 +7,7 @@ ghost use Rattle.pipeline_value.specs.Ranges.{NumberBodyFits, NumberSourceFits, 
 ghost use Rattle.pipeline_value.specs.Value.{Tells, number_body_told, pipeline_told, source_numbers};
 
 use crate::known_size::known_count;
+use crate::narrowed::narrowed;
 use crate::numbers::{list_value, number_value};
 use crate::texts::text_value;
 use crate::told::{ValueError, told};
@@ -37,7 +38,7 @@ pub fn pipeline_value<R: Threads + Sync, H: Gate + Sync>(
         return told(alloc, &count);
     }
     match pipeline {
-        Pipeline::Numbers(source, body) => source_value(rt, alloc, hashes, source, &body, run),
+        Pipeline::Numbers(source, body) => source_value(rt, alloc, hashes, source, body, run),
         Pipeline::Texts(texts, body) => {
             text_value(
                 rt,
@@ -58,13 +59,13 @@ fn source_value<R: Threads + Sync, H: Gate + Sync>(
     alloc: Global,
     hashes: SeededHashes,
     source: NumberSource,
-    body: &NumberBody,
+    body: NumberBody,
     run: &Run<'_, H>,
 ) -> Result<String, ValueError>
     requires settings { IsLawfulRun run.now.workers run.now.target }
     requires source { NumberSourceFits source }
-    requires body { NumberBodyFits body.now }
-    ensures { Tells (number_body_told body.now (source_numbers source)) result }
+    requires body { NumberBodyFits body }
+    ensures { Tells (number_body_told body (source_numbers source)) result }
 {
     match source {
         NumberSource::Range(start, end) => range_value(rt, alloc, hashes, start, end, body, run),
@@ -85,20 +86,21 @@ fn source_value<R: Threads + Sync, H: Gate + Sync>(
     }
 }
 
-/// The text of the value of a body, over a range.
-fn integers_value<R: Threads + Sync, H: Gate + Sync>(
+/// The text of the value of a body, over a range, which is narrowed by the limits and skips that look at no item.
+fn narrowed_value<R: Threads + Sync, H: Gate + Sync>(
     rt: &R,
     alloc: Global,
     hashes: SeededHashes,
     range: RangeSplit,
-    body: &NumberBody,
+    mut body: NumberBody,
     run: &Run<'_, H>,
 ) -> Result<String, ValueError>
     requires settings { IsLawfulRun run.now.workers run.now.target }
-    requires body { NumberBodyFits body.now }
-    ensures { Tells (number_body_told body.now (⟦<RangeSplit as Spliterator>⟧.items range)) result }
+    requires body { NumberBodyFits body }
+    ensures { Tells (number_body_told body (⟦<RangeSplit as Spliterator>⟧.items range)) result }
 {
-    number_value(rt, alloc, hashes, range, Nothing::new(), body, run)
+    let range = narrowed(range, &mut body.stages);
+    number_value(rt, alloc, hashes, range, Nothing::new(), &body, run)
 }
 
 /// The text of the value of a body, over the integers from `start` up to, not including, `end`.
@@ -108,16 +110,16 @@ fn range_value<R: Threads + Sync, H: Gate + Sync>(
     hashes: SeededHashes,
     start: i64,
     end: i64,
-    body: &NumberBody,
+    body: NumberBody,
     run: &Run<'_, H>,
 ) -> Result<String, ValueError>
     requires settings { IsLawfulRun run.now.workers run.now.target }
     requires few { count_between start end ≤ 2 ^ 62 }
-    requires body { NumberBodyFits body.now }
-    ensures { Tells (number_body_told body.now (integers_between start end)) result }
+    requires body { NumberBodyFits body }
+    ensures { Tells (number_body_told body (integers_between start end)) result }
 {
     let range = RangeSplit::range(start, end).unwrap();
-    integers_value(rt, alloc, hashes, range, body, run)
+    narrowed_value(rt, alloc, hashes, range, body, run)
 }
 
 /// The same up to and including `last`.
@@ -127,14 +129,14 @@ fn closed_value<R: Threads + Sync, H: Gate + Sync>(
     hashes: SeededHashes,
     start: i64,
     last: i64,
-    body: &NumberBody,
+    body: NumberBody,
     run: &Run<'_, H>,
 ) -> Result<String, ValueError>
     requires settings { IsLawfulRun run.now.workers run.now.target }
     requires few { count_between start (last +ℤ pos 1) ≤ 2 ^ 62 }
-    requires body { NumberBodyFits body.now }
-    ensures { Tells (number_body_told body.now (integers_between start (last +ℤ pos 1))) result }
+    requires body { NumberBodyFits body }
+    ensures { Tells (number_body_told body (integers_between start (last +ℤ pos 1))) result }
 {
     let range = RangeSplit::closed(start, last).unwrap();
-    integers_value(rt, alloc, hashes, range, body, run)
+    narrowed_value(rt, alloc, hashes, range, body, run)
 }

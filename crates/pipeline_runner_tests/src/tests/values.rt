@@ -29,9 +29,23 @@ const REDUCTIONS: [(&[u8], &str); 18] = [
 ];
 
 /// Lists of numbers behind stages.
-const LISTS: [(&[u8], &str); 9] = [
+const LISTS: [(&[u8], &str); 13] = [
     (b"range 0 10\nlimit 0\ntolist\n", "[]\n"),
     (b"range 0 10\nlimit 3\ntolist\n", "[0, 1, 2]\n"),
+    // no run over so many numbers would end
+    (
+        b"range 0 4611686018427387904\nmap negate\nskip 5\nlimit 3\nskip 1\ntolist\n",
+        "[-6, -7]\n",
+    ),
+    (
+        b"closed 9223372036854775800 9223372036854775807\nskip 5\nlimit 9\ntolist\n",
+        "[9223372036854775805, 9223372036854775806, 9223372036854775807]\n",
+    ),
+    (
+        b"range 0 10\nfilter greater 4\nskip 2\nlimit 2\ntolist\n",
+        "[7, 8]\n",
+    ),
+    (b"range 0 10\nmap mod 3\ndistinct\ntolist\n", "[0, 1, 2]\n"),
     (b"numbers 3 1 3 2 1\ndistinct\ntolist\n", "[3, 1, 2]\n"),
     (b"numbers 1 2 5 1\ntakewhile less 3\ntolist\n", "[1, 2]\n"),
     (b"range 0 100\ntakewhile less 3\ntolist\n", "[0, 1, 2]\n"),

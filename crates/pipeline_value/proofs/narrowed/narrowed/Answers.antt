@@ -1,0 +1,33 @@
+use Rattle.std.proofs.Common.{◌≡◌, ◌<◌, ◌+◌, length, true, ap, sym, ◌∙◌, arith}
+use Rattle.std.specs.List.{slice_index_or}
+use Rattle.std.specs.Prelude.{remove}
+use Rattle.sources.specs.Integers.{integers}
+use Rattle.pipeline_meaning.specs.Stages.{is_number_map, number_stage, number_stages}
+use Rattle.pipeline_value.specs.Narrowing.{is_window, maps-more, maps-kept, done-first, fits-kept}
+use Rattle.pipeline_value.specs.Ranges.{NumberStageFits}
+use Rattle.pipeline_value.proofs.narrowed.narrowed.Goals.{then-is_map, else-is_map+in-Some}
+use Rattle.pipeline_value.proofs.narrowed.narrowed.Goals as goal
+
+pub loop-round-preserved : goal.loop-round-preserved
+loop-round-preserved c =
+    let stages = c.loop-round.stages.items in
+    let maps = c.loop-round.maps in
+    let d = c.index.result.now in
+    let within : maps < length stages = omega (arith, c.if-maps-len.false, c.len.ensures) in
+    elim c.if-is_map.branch [
+      | then-is_map w ↦
+          let passes : is_number_map (slice_index_or stages maps d) ≡ true = ap is_number_map (sym c.index.ensures) ∙ sym c.is_map.ensures ∙ w.if-is_map.true in
+          rw (w.maps-is, w.stages-is, w.range-is) (maps-more stages maps d within c.loop-round.invariant.0 passes, c.loop-round.invariant.1, c.loop-round.invariant.2)
+      | else-is_map+in-Some w ↦
+          let e = w.index-else-is_map.result.now in
+          let items = integers c.loop-round.range.next c.loop-round.range.left in
+          let at : e ≡ slice_index_or stages maps e = w.index-else-is_map.ensures in
+          let made = w.in-Some.ensures in
+          rw (w.maps-is, w.stages-is, w.range-is, w.remove.ensures.items) (
+            maps-kept stages maps within c.loop-round.invariant.0,
+            ap (number_stages (remove stages maps)) (made.part ∙ ap (λ s. number_stage s items) at)
+                ∙ done-first stages maps e items within c.loop-round.invariant.0 (λ some. ap is_window (sym at) ∙ made.window some)
+                ∙ c.loop-round.invariant.1,
+            fits-kept NumberStageFits stages maps c.loop-round.invariant.2,
+          )
+    ]
