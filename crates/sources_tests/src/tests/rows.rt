@@ -50,24 +50,22 @@ fn check_split<S: Spliterator>(
 fn ranges_split_in_half(rt: HostRuntime) -> Result<(), Fail> {
     let alloc = rt.alloc();
     check_told(&rt, RangeSplit::range(0, 10)?, 0x4555, 10);
-    check_split(
-        &rt,
-        alloc,
-        RangeSplit::range(0, 10)?,
-        Some(&[0, 1, 2, 3, 4]),
-        &[5, 6, 7, 8, 9],
-    )?;
-    check_split(
-        &rt,
-        alloc,
-        RangeSplit::range(0, 5)?,
-        Some(&[0, 1]),
-        &[2, 3, 4],
-    )?;
-    check_split(&rt, alloc, RangeSplit::range(7, 8)?, None, &[7])?;
     check_told(&rt, RangeSplit::range(5, 5)?, 0x4555, 0);
-    check_split(&rt, alloc, RangeSplit::range(5, 5)?, None, &[])?;
-    check_split(&rt, alloc, RangeSplit::range(5, -5)?, None, &[])?;
+    let rows = [
+        (
+            0,
+            10,
+            Some([0, 1, 2, 3, 4].as_slice()),
+            [5, 6, 7, 8, 9].as_slice(),
+        ),
+        (0, 5, Some([0, 1].as_slice()), [2, 3, 4].as_slice()),
+        (7, 8, None, [7].as_slice()),
+        (5, 5, None, [].as_slice()),
+        (5, -5, None, [].as_slice()),
+    ];
+    for (start, end, part, rest) in rows {
+        check_split(&rt, alloc, RangeSplit::range(start, end)?, part, rest)?;
+    }
     check_split(&rt, alloc, RangeSplit::closed(5, 4)?, None, &[])?;
     let greatest = [i64::MAX - 1, i64::MAX];
     check_items(
@@ -82,6 +80,17 @@ fn ranges_split_in_half(rt: HostRuntime) -> Result<(), Fail> {
         RangeSplit::closed(i64::MIN, i64::MIN)?,
         &[i64::MIN],
     )?;
+    Ok(())
+}
+
+#[test]
+fn ranges_lose_their_first_and_their_last(rt: HostRuntime) -> Result<(), Fail> {
+    let range = RangeSplit::closed(i64::MAX - 2, i64::MAX)?;
+    let items = [i64::MAX - 2, i64::MAX - 1, i64::MAX];
+    for (number, at) in [(0, 0), (1, 1), (3, 3), (u64::MAX, 3)] {
+        check_items(&rt, rt.alloc(), range.first(number), &items[..at])?;
+        check_items(&rt, rt.alloc(), range.after_first(number), &items[at..])?;
+    }
     Ok(())
 }
 
