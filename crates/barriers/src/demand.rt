@@ -43,7 +43,8 @@ pub trait Demand<T: Value> {
         ensures counting { result.1 ≡ count_by (counted self.now) (map T.content (take result.0 items.now)) }
         ensures most { result.1 ≤ wanted }
         ensures whole { result.1 < wanted → result.0 ≡ length items.now }
-        ensures shortest { 0 < result.0 → count_by (counted self.now) (map T.content (take (result.0 - 1) items.now)) < wanted }
+        ensures shortest { let before_last = map T.content (take (result.0 - 1) items.now) in
+            0 < result.0 → count_by (counted self.now) before_last < wanted }
     {
         // (without an exit, so that a compiler looks at several items at once)
         let mut all = 0;
