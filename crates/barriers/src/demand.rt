@@ -1,5 +1,5 @@
 //! How much of a list is enough.
-ghost use Rattle.std.specs.Prelude.{◌≡◌, ◌<◌, ◌≤◌, ◌^◌, ℕ, length, take, map, count_by, Bool, Option, Some, None, ⊤};
+ghost use Rattle.std.specs.Prelude.{◌≡◌, ◌<◌, ◌≤◌, ◌-◌, ◌^◌, ℕ, length, take, map, count_by, Bool, Option, Some, None, ⊤};
 ghost use Rattle.barriers.specs.Needs.{need_of, every_item, no_item, IsBelow, CountsNone};
 
 use spliterator::Value;
@@ -35,14 +35,25 @@ pub trait Demand<T: Value> {
         requires { ready self.now }
         ensures { result ≡ counted self.now (T.content x.now) };
 
-    /// How many items of a block are taken until so many count, and how many of these count: all items, where fewer count.
+    /// How many items of a block are taken until so many count, and how many of these count: all items, where fewer count. No item is
+    /// taken behind the last that is wanted.
     fn front(&self, items: &[T], wanted: u64) -> (usize, u64)
         requires { ready self.now }
         ensures within { result.0 ≤ length items.now }
         ensures counting { result.1 ≡ count_by (counted self.now) (map T.content (take result.0 items.now)) }
         ensures most { result.1 ≤ wanted }
         ensures whole { result.1 < wanted → result.0 ≡ length items.now }
+        ensures shortest { let before_last = map T.content (take (result.0 - 1) items.now) in
+            0 < result.0 → count_by (counted self.now) before_last < wanted }
     {
+        // (without an exit, so that a compiler looks at several items at once)
+        let mut all = 0;
+        for item in items {
+            all += u64::from(self.counts(item));
+        }
+        if all < wanted {
+            return (items.len(), all);
+        }
         let mut counting = 0;
         for (taken, item) in items.iter().enumerate() {
             if counting >= wanted {

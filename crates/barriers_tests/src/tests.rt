@@ -165,3 +165,22 @@ fn demands_say_how_much_is_enough(rt: HostRuntime) {
     assert!(rt; demand_of(&Skip::new(4)) == (Need::Never, none));
     assert!(rt; demand_of(&Distinct) == (Need::Never, none));
 }
+
+#[test]
+fn a_front_ends_where_enough_items_count(rt: HostRuntime) {
+    let hit = FirstHit::new(Below { limit: 3 });
+    let items = [5, 1, 2, 7, 0, 9];
+    let rows: [(u64, (usize, u64)); 5] = [
+        (0, (0, 0)),
+        (1, (2, 1)),
+        (2, (3, 2)),
+        (3, (5, 3)),
+        (4, (6, 3)),
+    ];
+    for (wanted, front) in rows {
+        assert!(rt; hit.front(&items, wanted) == front);
+    }
+    assert!(rt; hit.front(&[5, 7], 1) == (2, 0));
+    assert!(rt; Total::new(9).front(&items, 2) == (2, 2));
+    assert!(rt; Whole.front(&items, 1) == (6, 0));
+}

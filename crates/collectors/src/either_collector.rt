@@ -62,6 +62,18 @@ impl<A: Collector, B: Collector<Item = A::Item>> Collector for Either<A, B> {
         }
     }
 
+    fn accumulate_all(
+        &self,
+        acc: &mut Either<A::Acc, B::Acc>,
+        items: &[A::Item],
+    ) -> Result<(), NoMemory> {
+        match (self, acc) {
+            (Left(side), Left(acc)) => side.accumulate_all(acc, items),
+            (Right(side), Right(acc)) => side.accumulate_all(acc, items),
+            _ => Ok(()),
+        }
+    }
+
     fn combine(
         &self,
         left: &mut Either<A::Acc, B::Acc>,

@@ -1,5 +1,5 @@
 //! Reductions from the first item.
-ghost use Rattle.std.specs.Prelude.{◌≡◌, Option, None, option_map, OnOk};
+ghost use Rattle.std.specs.Prelude.{◌≡◌, Option, Some, None, option_map, IfOk, OnOk};
 ghost use Rattle.spliterator.specs.Clones.{ClonesAlike, TestsClonesAlike};
 ghost use Rattle.stages.specs.Operators.{IsAssociative, TestsAssociative, associative-tested};
 ghost use Rattle.collectors.specs.Reductions.{reduced, first, earlier, reduce_add, reduce_merge, reduce_laws, first_laws};
@@ -21,6 +21,23 @@ pub(crate) fn join_into<T: Value + Drop, O: Operator<T>>(
 {
     *joined = operator.join(joined, x)?;
     Ok(())
+}
+
+// What was joined before, if anything was, and a first item behind it.
+fn join_first<T: Value + Clone, O: Operator<T>>(
+    operator: &O,
+    before: Option<T>,
+    first: &T,
+) -> Result<T, NoMemory>
+    requires operator { O.ready operator.now }
+    requires clones { ClonesAlike T.is_clone T.content }
+    ensures { let joins = O.join operator.now in
+        IfOk result (λ joined. Some (T.content joined) ≡ reduce_add joins (option_map T.content before) (T.content first.now)) }
+{
+    match before {
+        Some(joined) => operator.join(&joined, first),
+        None => Ok(first.clone()?),
+    }
 }
 
 /// The items joined by an associative operator, from the first on. There is none where there are no items.
@@ -82,6 +99,19 @@ impl<T: Value + Clone, O: Operator<T>> Collector for Reducing<T, O> {
                 Ok(())
             }
         }
+    }
+
+    // What is joined so far stays out of the container.
+    fn accumulate_all(&self, acc: &mut Option<T>, items: &[T]) -> Result<(), NoMemory> {
+        let Some((first, rest)) = items.split_first() else {
+            return Ok(());
+        };
+        let mut joined = join_first(&self.operator, acc.take(), first)?;
+        for x in rest {
+            joined = self.operator.join(&joined, x)?;
+        }
+        *acc = Some(joined);
+        Ok(())
     }
 
     fn combine(&self, left: &mut Option<T>, right: Option<T>) -> Result<(), NoMemory> {

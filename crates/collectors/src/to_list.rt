@@ -58,6 +58,11 @@ impl<T: Value + Clone> Collector for ToList<T> {
         Ok(())
     }
 
+    fn accumulate_all(&self, acc: &mut Vec<T>, items: &[T]) -> Result<(), NoMemory> {
+        acc.extend_from_slice(items)?;
+        Ok(())
+    }
+
     fn combine(&self, left: &mut Vec<T>, mut right: Vec<T>) -> Result<(), NoMemory> {
         left.append(&mut right)?;
         Ok(())

@@ -1,8 +1,7 @@
 -- A block of consecutive integers, and those that follow.
-use Rattle.std.specs.Prelude.{◌≡◌, ℕ, ◌+◌, ◌-◌, ◌%◌, ◌^◌, ◌<◌, ◌≤◌, ℤ, pos, ◌+ℤ◌, ◌<ℤ◌, ◌≤ℤ◌, FitsSigned, List, [], ◌∷◌, ◌++◌, length, take, map, refl}
-use Rattle.std.proofs.Common.{sym, ap, ap₂, ◌∙◌, arith, rules, w64, to_z, of_z, ⊎_elim}
+use Rattle.std.specs.Prelude.{◌≡◌, ℕ, ◌+◌, ◌-◌, ◌%◌, ◌^◌, ◌<◌, ◌≤◌, ℤ, pos, ◌+ℤ◌, ◌<ℤ◌, FitsSigned, List, [], ◌∷◌, ◌++◌, length, take, map}
+use Rattle.std.proofs.Common.{sym, ap, ap₂, ◌∙◌, arith, w64, to_z, ⊎_elim}
 use Rattle.std.specs.Int.{int_wrap}
-use Rattle.std.proofs.Math.Facts.{sfits_to_z}
 use Rattle.std.proofs.lemmas.Int.{ints, to_z_pos, int_wrap_fits, wrapping_add-bits}
 use Rattle.std.proofs.lemmas.Bool.{cases_lt}
 use Rattle.std.proofs.lemmas.List.{map-id}

@@ -64,6 +64,14 @@ impl<'a, T: OrderedValue + Clone> Spliterator for SliceSplit<'a, T> {
         Ok(Some(item))
     }
 
+    fn next_block(&mut self, most: usize, room: &mut Vec<T>) -> Result<(), NoMemory> {
+        let (block, rest) = self.items.split_at(most.min(self.items.len()));
+        room.clear();
+        room.extend_from_slice(block)?;
+        self.items = rest;
+        Ok(())
+    }
+
     fn try_split(&mut self) -> Option<SliceSplit<'a, T>> {
         let half = self.items.len() / 2;
         if half == 0 {

@@ -47,7 +47,24 @@ fn append_later<S: Spliterator>(
     append_halves(split, items)
 }
 
-/// Reads a source in four ways: to its end, split once, split to the bottom, and split half way.
+/// Appends the items of some blocks of at most so many items.
+fn append_blocks<S: Spliterator>(
+    alloc: Global,
+    mut split: S,
+    blocks: usize,
+    most: usize,
+    items: &mut Vec<S::Item>,
+) -> Result<(), NoMemory> {
+    let mut block = Vec::new(alloc);
+    for _ in 0..blocks {
+        split.next_block(most, &mut block)?;
+        items.append(&mut block)?;
+    }
+    Ok(())
+}
+
+/// Reads a source in five ways: to its end, split once, split to the bottom, split half way, and by blocks of 1, of 2 and of more than
+/// there is.
 fn check<S: Spliterator>(
     rt: &impl Abort,
     alloc: Global,
@@ -64,11 +81,16 @@ fn check<S: Spliterator>(
     let mut later = Vec::new(alloc);
     append_later(split, expected.len() / 2, &mut later)?;
     assert!(rt; later.as_slice() == expected, "split half way");
+    for most in [1, 2, 99] {
+        let mut blocks = Vec::new(alloc);
+        append_blocks(alloc, split, expected.len(), most, &mut blocks)?;
+        assert!(rt; blocks.as_slice() == expected, "by blocks of {most}");
+    }
     Ok(())
 }
 
 #[test]
-fn numbers_are_read_in_four_ways(rt: HostRuntime) -> Result<(), Fail> {
+fn numbers_are_read_in_five_ways(rt: HostRuntime) -> Result<(), Fail> {
     let alloc = rt.alloc();
     let ten = [-4, -3, -2, -1, 0, 1, 2, 3, 4, 5];
     check(&rt, alloc, RangeSplit::range(-4, 6)?, &ten)?;
@@ -83,7 +105,7 @@ fn numbers_are_read_in_four_ways(rt: HostRuntime) -> Result<(), Fail> {
 }
 
 #[test]
-fn lines_are_read_in_four_ways(rt: HostRuntime) -> Result<(), Fail> {
+fn lines_are_read_in_five_ways(rt: HostRuntime) -> Result<(), Fail> {
     let alloc = rt.alloc();
     check(&rt, alloc, LinesSplit::new(""), &[])?;
     check(&rt, alloc, LinesSplit::new("\n"), &[""])?;
@@ -101,7 +123,7 @@ fn lines_are_read_in_four_ways(rt: HostRuntime) -> Result<(), Fail> {
 }
 
 #[test]
-fn two_sources_are_read_in_four_ways(rt: HostRuntime) -> Result<(), Fail> {
+fn two_sources_are_read_in_five_ways(rt: HostRuntime) -> Result<(), Fail> {
     let alloc = rt.alloc();
     let numbers: [i64; 3] = [7, 8, 9];
     let slice = SliceSplit::new(&numbers);

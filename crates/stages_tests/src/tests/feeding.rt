@@ -136,7 +136,7 @@ impl Sink<i64> for FirstFew {
     }
 }
 
-/// Pushes the numbers onto a list, and each again where it was refused: the list is then as it was.
+/// Pushes the numbers onto a list, and each again where it was refused: the list is then as it was. Fed as a block they give the same.
 fn pushed<S: Stage<In = i64, Out = i64>>(
     rt: &(impl Abort + Alloc<A = Global>),
     stage: &S,
@@ -145,6 +145,7 @@ fn pushed<S: Stage<In = i64, Out = i64>>(
 ) -> Result<Vec<i64>, Fail>
     requires { S.ready stage.now }
 {
+    let mut block = out.clone()?;
     for number in numbers {
         let before = out.clone()?;
         if stage.push(*number, &mut out) == Err(NoMemory) {
@@ -152,6 +153,8 @@ fn pushed<S: Stage<In = i64, Out = i64>>(
             stage.push(*number, &mut out)?;
         }
     }
+    stage.feed_all(&mut Vec::from_slice(rt.alloc(), numbers)?, &mut block)?;
+    assert!(rt; block == out, "as a block");
     Ok(out)
 }
 
@@ -217,6 +220,7 @@ fn nothing_is_fed_to_a_full_sink(rt: HostRuntime) -> Result<(), Fail> {
     assert_eq!(rt; few.kept.as_slice(), [10, 10].as_slice());
     assert_eq!(rt; few.came, 2);
     copies.feed(5, &mut few)?;
+    fused.feed_all(&mut Vec::from_array(alloc, [5, 5])?, &mut few)?;
     assert_eq!(rt; few.came, 2);
     Ok(())
 }

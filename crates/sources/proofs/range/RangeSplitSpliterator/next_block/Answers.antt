@@ -1,6 +1,6 @@
-use Rattle.std.proofs.Common.{◌≡◌, ◌≤◌, ◌<◌, ◌%◌, ◌+◌, pos, ◌+ℤ◌, take, drop, length, sym, ap, ◌∙◌, arith, rules, w64, to_z, of_z}
+use Rattle.std.proofs.Common.{◌≡◌, ◌≤◌, ◌<◌, ◌%◌, ◌+◌, pos, ◌+ℤ◌, drop, length, ap, ◌∙◌, arith, rules, w64, to_z, of_z}
 use Rattle.std.specs.Prelude.{FitsSigned}
-use Rattle.std.proofs.lemmas.Int.{ints, wrapping_add-bits}
+use Rattle.std.proofs.lemmas.Int.{ints}
 use Rattle.sources.specs.Integers.{integers}
 use Rattle.sources.proofs.RangeBlocks.{block_and_rest, stepped}
 use Rattle.sources.proofs.range.RangeSplitSpliterator.next_block.Goals as goal
