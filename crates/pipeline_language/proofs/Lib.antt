@@ -1,4 +1,5 @@
 pub mod BodyLemmas
+pub mod DigitLemmas
 pub mod FileLemmas
 pub mod FormLemmas
 pub mod LineAnswers
@@ -9,4 +10,5 @@ pub mod NumberPhrases
 pub mod NumbersLemmas
 pub mod PhraseLemmas
 pub mod SyntaxLemmas
+pub mod WordLemmas
 pub mod WordPhrases

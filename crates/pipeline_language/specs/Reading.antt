@@ -1,26 +1,18 @@
 -- Numbers and words, read one by one.
-use Rattle.std.specs.Prelude.{◌≡◌, ℕ, ℤ, pos, negsuc, Bool, true, false, ◌&&◌, ◌||◌, List, [], ◌∷◌, nat_eq, nat_le, nat_lt, int_le, unsigned_abs, Option, Some, None, Result, Ok, Err, if◌then◌else◌}
+use Rattle.std.specs.Prelude.{◌≡◌, ℕ, ℤ, pos, negsuc, Bool, true, false, ◌&&◌, List, [], ◌∷◌, ◌++◌, take, slice_index, nat_lt, int_le, unsigned_abs, Option, Some, None, Result, Ok, Err, if◌then◌else◌}
+use Rattle.std.specs.Borrow.{Bor}
 use Rattle.std.specs.Str.{is_utf8, bytes_eq}
 use Rattle.std.specs.Str.Parse.{signed_digits_value}
 use Rattle.std.specs.Fmt.{signed_decimal}
 use Rattle.pipeline_language.specs.declared.fault.FileError.{FileError}
 use Rattle.pipeline_language.specs.declared.fault.FileError.TheVariants.{BadText, UnknownWord, BadArity, BadNumber, WrongKind}
-use Rattle.pipeline_language.specs.Words.{words_of}
+use Rattle.pipeline_language.specs.Words.{words_of, words_left}
 use Rattle.pipeline_language.specs.Form.{lowest, Forms}
 
 infixl 10 ◌>>=◌
 abbrev pub ◌>>=◌ : {A B E : Type 0} → Result A E → (A → Result B E) → Result B E
 (Ok x) >>= f = f x
 (Err e) >>= f = Err e
-
--- a digit that isn't 0
-abbrev pub is_leading_digit : ℕ → Bool
-is_leading_digit b = nat_le 49 b && nat_le b 57
-
-abbrev pub is_plain_number : List ℕ → Bool
-is_plain_number [] = false
-is_plain_number (b ∷ []) = nat_eq b 48 || is_leading_digit b
-is_plain_number (b ∷ c ∷ bs) = is_leading_digit b || (nat_eq b 45 && is_leading_digit c)
 
 -- the number is in the range of 64 bits
 abbrev pub fits_signed : ℤ → Bool
@@ -30,6 +22,14 @@ fits_signed (negsuc n) = nat_lt n 9223372036854775808
 -- the number that writes the word
 unfoldable pub number_of : List ℕ → Option ℤ
 number_of word = let n = signed_digits_value 10 word in if fits_signed n && bytes_eq (signed_decimal n) word then Some n else None
+
+-- The first word of a line and what is left behind it, by the number that the word is.
+abbrev pub ReadsNumber : List ℕ → Option ℤ → Option (Bor (List ℕ)) → Type 0
+ReadsNumber line number left = (word : List ℕ) × (words_of line ≡ word ∷ words_left left) × (number ≡ number_of word)
+
+-- No number begins with the first n bytes and the one behind them.
+abbrev pub NoLonger : ℕ → List ℕ → Type 0
+NoLonger n line = (more : List ℕ) → number_of (take n line ++ slice_index line n ∷ more) ≡ None
 
 -- What is left of a line, and whether each number before it is one and in its range.
 pub record Left : Type 0 where
@@ -136,10 +136,6 @@ fitting forms x = if forms.takes_kind x then (if forms.in_limits x then Ok x els
 -- all the words of a line, with the kinds and the limits
 abbrev pub form_of : {X : Type 0} → Forms X → Reader X → List (List ℕ) → Result X FileError
 form_of forms read words = whole read words >>= fitting forms
-
--- the words of a line, which is a text
-unfoldable pub line_words : List ℕ → Result (List (List ℕ)) FileError
-line_words line = if is_utf8 line then Ok (words_of line) else Err BadText
 
 -- a line
 unfoldable pub line_of : {X : Type 0} → Forms X → Reader X → List ℕ → Result X FileError

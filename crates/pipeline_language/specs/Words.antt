@@ -1,5 +1,6 @@
 -- Lines of a file, words of a line, and numbers as words.
-use Rattle.std.specs.Prelude.{◌≡◌, ℕ, ℤ, List, [], ◌∷◌, ◌==◌, FitsSigned}
+use Rattle.std.specs.Prelude.{◌≡◌, ℕ, ℤ, List, [], ◌∷◌, ◌==◌, Option, Some, None, FitsSigned}
+use Rattle.std.specs.Borrow.{Bor}
 use Rattle.std.specs.Int.{w64}
 use Rattle.std.specs.List.{slice_split}
 use Rattle.std.specs.Fmt.{signed_decimal}
@@ -17,6 +18,11 @@ lines_of file = without_empty_last (slice_split (λ b. b == 10) file)
 -- the words of a line: the pieces between its spaces
 abbrev pub words_of : List ℕ → List (List ℕ)
 words_of line = slice_split (λ b. b == 32) line
+
+-- the same of what is left of a line, which may be nothing: then no word is left
+abbrev pub words_left : Option (Bor (List ℕ)) → List (List ℕ)
+words_left None = []
+words_left (Some line) = words_of line.now
 
 -- Each number has one text: the digits that write it, without leading zeros, behind a `-` where it is negative.
 abbrev pub IsNumber : List ℕ → ℤ → Type 0

@@ -1,14 +1,13 @@
 //! Lines of a file and words of a line.
 
-ghost use Rattle.std.specs.Prelude.{◌≡◌, ◌≤◌, ◌+◌, ◌∷◌, [], ℕ, List, length, IfOk, IfSome, IsUtf8, map, MatchOption, MatchResult, true, false};
+ghost use Rattle.std.specs.Prelude.{◌≡◌, ◌≤◌, ◌+◌, ◌∷◌, [], ℕ, List, length, IfSome, IsUtf8, MatchOption, MatchResult, true, false};
 ghost use Rattle.std.specs.Str.{is_utf8};
 ghost use Rattle.pipeline_language.specs.Pieces.{piece_bytes};
-ghost use Rattle.pipeline_language.specs.Words.{lines_of, words_of};
+ghost use Rattle.pipeline_language.specs.Words.{lines_of, words_left, words_of};
 
 use crate::fault::FileError;
 use memchr::memchr;
 use simdutf8::basic;
-use std::alloc::{AllocError, Global};
 use std::marker::Model;
 use std::str;
 
@@ -149,9 +148,26 @@ fn first_of_bytes(bytes: &[u8]) -> Option<(&[u8], &[u8])>
     }
 }
 
-/// The words of a line: the pieces between its spaces.
-pub(crate) fn words(alloc: Global, line: &str) -> Result<Vec<&str>, AllocError>
-    ensures { IfOk result (λ v. map (λ word. word.now) v.items ≡ words_of line.now) }
+/// The first word of a line, and what stands behind the space that ends it, where one does.
+pub(crate) fn first_word(line: &str) -> (&str, Option<&str>)
+    ensures text { IsUtf8 result.0.now × IfSome result.1 (λ left. IsUtf8 left.now) }
+    ensures word { words_of line.now ≡ result.0.now ∷ words_left result.1 }
 {
-    line.split(' ').collect(alloc)
+    match memchr(b' ', line.as_bytes()) {
+        Some(end) => {
+            let (word, behind) = line.split_at(end);
+            (word, Some(&behind[1..]))
+        }
+        None => (line, None),
+    }
+}
+
+/// What stands behind the first word of a line.
+pub(crate) fn behind_word(line: &[u8]) -> Option<&[u8]>
+    ensures { (word : List ℕ) × (words_of line.now ≡ word ∷ words_left result) }
+{
+    match memchr(b' ', line) {
+        Some(end) => Some(&line[end + 1..]),
+        None => None,
+    }
 }

@@ -7,14 +7,14 @@ ghost use Rattle.pipeline_language.specs.FileReading.{IfFault, LineGets, LineRea
 ghost use Rattle.pipeline_language.specs.Kinds.{number_line_content, text_line_content, source_content};
 ghost use Rattle.pipeline_language.specs.Language.{HasFault, Means};
 ghost use Rattle.pipeline_language.specs.Pieces.{piece_bytes};
-ghost use Rattle.pipeline_language.specs.Reading.{ReadAs, form_of, line_of, line_words};
+ghost use Rattle.pipeline_language.specs.Reading.{ReadAs, form_of, line_of};
 ghost use Rattle.pipeline_language.specs.Syntax.{NumberKind, Program, TextKind, bodies, origins};
 ghost use Rattle.pipeline_language.specs.SyntaxReading.{body_of, origin_words};
-ghost use Rattle.pipeline_language.specs.Words.{lines_of};
+ghost use Rattle.pipeline_language.specs.Words.{lines_of, words_of};
 
 use crate::fault::{FileError, FileFault, LineError, ReadError};
 use crate::kinds::{NumberLine, TextLine, number_line, text_line};
-use crate::lines::{Lines, Piece, first_of_text, words};
+use crate::lines::{Lines, Piece, first_of_text};
 use crate::pipeline::{NumberBody, NumberSource, Pipeline, TextBody, TextEnd};
 use crate::syntax::read_line;
 use crate::version::Version;
@@ -105,12 +105,11 @@ fn read_version(line: Piece<'_>) -> Result<Version, FileError>
 }
 
 /// A source line.
-#[tactic(auto, unfolding(crate::specs::Reading::line_of, crate::specs::Reading::line_words, crate::specs::Reading::whole))]
+#[tactic(auto, unfolding(crate::specs::Reading::line_of, crate::specs::Reading::whole))]
 fn read_source(alloc: Global, line: Piece<'_>) -> Result<Source, LineError>
     ensures { LineReads source_content result (line_of origins origin_words (piece_bytes line.entry)) }
 {
-    let all = line_words(alloc, line)?;
-    let mut words = Words::new(all.as_slice());
+    let mut words = Words::new(line.text()?);
     let source = read_source_words(alloc, &mut words)?;
     words.end()?;
     match source {
@@ -121,17 +120,9 @@ fn read_source(alloc: Global, line: Piece<'_>) -> Result<Source, LineError>
     }
 }
 
-/// The words of a line, which is a text.
-#[tactic(auto, unfolding(crate::specs::Reading::line_words))]
-fn line_words<'a>(alloc: Global, line: Piece<'a>) -> Result<Vec<&'a str>, LineError>
-    ensures { LineReads (λ words. map (λ word. word.now) words.items) result (line_words (piece_bytes line.entry)) }
-{
-    Ok(words(alloc, line.text()?)?)
-}
-
 /// The words of a source.
 #[tactic(auto, unfolding(crate::specs::SyntaxReading::origin_words))]
-fn read_source_words(alloc: Global, words: &mut Words<'_, '_>) -> Result<Source, LineError>
+fn read_source_words(alloc: Global, words: &mut Words<'_>) -> Result<Source, LineError>
     ensures { LineGets source_content (origin_words words.old) result words.new }
 {
     match words.any()? {
@@ -234,7 +225,7 @@ fn read_text_body<'a>(
     'lines: loop {
         let before = stages.len();
         let at = number + before as u64;
-        match read_text_first(alloc, version, lines, before, at) {
+        match read_text_first(version, lines, before, at) {
             Ok(TextLine::Stage(stage)) => stages.push(stage)?,
             Ok(TextLine::Lengths) => {
                 let body = read_number_body(alloc, version, lines, before + 1, at + 1)?;
@@ -265,7 +256,7 @@ fn read_number_body(
     let mut stages = Vec::new(alloc);
     'lines: loop {
         let read = stages.len();
-        match read_number_first(alloc, version, lines, before + read, number + read as u64)? {
+        match read_number_first(version, lines, before + read, number + read as u64)? {
             NumberLine::Stage(stage) => stages.push(stage)?,
             NumberLine::Terminal(terminal) => return Ok(NumberBody { stages, terminal }),
         }
@@ -275,7 +266,6 @@ fn read_number_body(
 /// The next line, over texts, with so many stages before it. Nothing follows where it is the terminal.
 #[tactic(auto, unfolding(crate::specs::FileReading::first_of))]
 fn read_text_first<'a>(
-    alloc: Global,
     version: Version,
     lines: &mut Lines<'a>,
     before: usize,
@@ -289,20 +279,19 @@ fn read_text_first<'a>(
     let Some(line) = lines.next() else {
         return Err(LineError::Fault(FileError::MissingTerminal).at(number));
     };
-    match read_text_line(alloc, version, line, before) {
+    match read_text_line(version, line, before) {
         Ok(TextLine::Terminal(terminal)) => {
             no_more(lines, number + 1)?;
             Ok(TextLine::Terminal(terminal))
         }
         Ok(line) => Ok(line),
-        Err(e) => Err(e.at(number)),
+        Err(e) => Err(LineError::Fault(e).at(number)),
     }
 }
 
 /// The same over numbers.
 #[tactic(auto, unfolding(crate::specs::FileReading::first_of))]
 fn read_number_first(
-    alloc: Global,
     version: Version,
     lines: &mut Lines<'_>,
     before: usize,
@@ -316,37 +305,35 @@ fn read_number_first(
     let Some(line) = lines.next() else {
         return Err(LineError::Fault(FileError::MissingTerminal).at(number));
     };
-    match read_number_line(alloc, version, line, before) {
+    match read_number_line(version, line, before) {
         Ok(NumberLine::Terminal(terminal)) => {
             no_more(lines, number + 1)?;
             Ok(NumberLine::Terminal(terminal))
         }
         Ok(line) => Ok(line),
-        Err(e) => Err(e.at(number)),
+        Err(e) => Err(LineError::Fault(e).at(number)),
     }
 }
 
 /// A line over texts with so many stages before it.
-#[tactic(auto, unfolding(crate::specs::Reading::line_of, crate::specs::Reading::line_words))]
+#[tactic(auto, unfolding(crate::specs::Reading::line_of))]
 fn read_text_line<'a>(
-    alloc: Global,
     version: Version,
     line: Piece<'a>,
     before: usize,
-) -> Result<TextLine<'a>, LineError>
-    ensures { LineReads text_line_content result (line_of (bodies (record { version = version; kind = TextKind; stages = before })) (body_of version) (piece_bytes line.entry)) }
+) -> Result<TextLine<'a>, FileError>
+    ensures { ReadAs text_line_content (line_of (bodies (record { version = version; kind = TextKind; stages = before })) (body_of version) (piece_bytes line.entry)) result }
 {
-    let all = line_words(alloc, line)?;
-    read_text_words(version, all.as_slice(), before).map_err(LineError::Fault)
+    read_text_words(version, line.text()?, before)
 }
 
 /// All the words of such a line.
 fn read_text_words<'a>(
     version: Version,
-    line: &[&'a str],
+    line: &'a str,
     before: usize,
 ) -> Result<TextLine<'a>, FileError>
-    ensures { ReadAs text_line_content (form_of (bodies (record { version = version; kind = TextKind; stages = before })) (body_of version) (map (λ word. word.now) line.now)) result }
+    ensures { ReadAs text_line_content (form_of (bodies (record { version = version; kind = TextKind; stages = before })) (body_of version) (words_of line.now)) result }
 {
     match read_line(version, line) {
         Ok(line) => text_line(line, before),
@@ -355,26 +342,20 @@ fn read_text_words<'a>(
 }
 
 /// The same over numbers.
-#[tactic(auto, unfolding(crate::specs::Reading::line_of, crate::specs::Reading::line_words))]
+#[tactic(auto, unfolding(crate::specs::Reading::line_of))]
 fn read_number_line(
-    alloc: Global,
     version: Version,
     line: Piece<'_>,
     before: usize,
-) -> Result<NumberLine, LineError>
-    ensures { LineReads number_line_content result (line_of (bodies (record { version = version; kind = NumberKind; stages = before })) (body_of version) (piece_bytes line.entry)) }
+) -> Result<NumberLine, FileError>
+    ensures { ReadAs number_line_content (line_of (bodies (record { version = version; kind = NumberKind; stages = before })) (body_of version) (piece_bytes line.entry)) result }
 {
-    let all = line_words(alloc, line)?;
-    read_number_words(version, all.as_slice(), before).map_err(LineError::Fault)
+    read_number_words(version, line.text()?, before)
 }
 
 /// All the words of such a line.
-fn read_number_words(
-    version: Version,
-    line: &[&str],
-    before: usize,
-) -> Result<NumberLine, FileError>
-    ensures { ReadAs number_line_content (form_of (bodies (record { version = version; kind = NumberKind; stages = before })) (body_of version) (map (λ word. word.now) line.now)) result }
+fn read_number_words(version: Version, line: &str, before: usize) -> Result<NumberLine, FileError>
+    ensures { ReadAs number_line_content (form_of (bodies (record { version = version; kind = NumberKind; stages = before })) (body_of version) (words_of line.now)) result }
 {
     match read_line(version, line) {
         Ok(line) => number_line(line, before),

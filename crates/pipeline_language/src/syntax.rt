@@ -1,9 +1,10 @@
 //! What a line says, name by name, before the kind of the items is asked for.
 
-ghost use Rattle.std.specs.Prelude.{Result, map};
+ghost use Rattle.std.specs.Prelude.{Result};
 ghost use Rattle.pipeline_language.specs.LineContent.{base_content, body_line_content, condition_content, expansion_content, function_content, inner_content, joint_content, merge_content, stage_line_content, summary_content, terminal_line_content};
 ghost use Rattle.pipeline_language.specs.Reading.{GetsAs, GetsNamed, ReadAs, whole};
 ghost use Rattle.pipeline_language.specs.SyntaxReading.{asking_names, base_names, base_of, body_of, collecting_names, condition_of, expansion_of, function_of, inner_of, joint_of, merge_of, nesting_summary_of, new_terminal_names, stage_names, summary_of, terminal_names};
+ghost use Rattle.pipeline_language.specs.Words.{words_of};
 
 use crate::fault::FileError;
 use crate::version::Version;
@@ -127,7 +128,7 @@ pub(crate) enum BodyLine<'a> {
 }
 
 #[tactic(auto, unfolding(crate::specs::SyntaxReading::function_of))]
-fn read_function(words: &mut Words<'_, '_>) -> Result<Function, FileError>
+fn read_function(words: &mut Words<'_>) -> Result<Function, FileError>
     ensures { GetsAs function_content (function_of words.old) result words.new }
 {
     match words.any()? {
@@ -142,7 +143,7 @@ fn read_function(words: &mut Words<'_, '_>) -> Result<Function, FileError>
 }
 
 #[tactic(auto, unfolding(crate::specs::SyntaxReading::condition_of))]
-fn read_condition<'a>(words: &mut Words<'_, 'a>) -> Result<Condition<'a>, FileError>
+fn read_condition<'a>(words: &mut Words<'a>) -> Result<Condition<'a>, FileError>
     ensures { GetsAs condition_content (condition_of words.old) result words.new }
 {
     match words.any()? {
@@ -158,7 +159,7 @@ fn read_condition<'a>(words: &mut Words<'_, 'a>) -> Result<Condition<'a>, FileEr
 }
 
 #[tactic(auto, unfolding(crate::specs::SyntaxReading::base_of))]
-fn read_base<'a>(words: &mut Words<'_, 'a>) -> Result<Base<'a>, FileError>
+fn read_base<'a>(words: &mut Words<'a>) -> Result<Base<'a>, FileError>
     ensures { GetsAs base_content (base_of words.old) result words.new }
 {
     let name = words.any()?;
@@ -167,7 +168,7 @@ fn read_base<'a>(words: &mut Words<'_, 'a>) -> Result<Base<'a>, FileError>
 
 /// What is made at once, behind its name.
 #[tactic(auto, unfolding(crate::specs::SyntaxReading::base_names))]
-fn base_named<'a>(name: &str, words: &mut Words<'_, 'a>) -> Result<Base<'a>, FileError>
+fn base_named<'a>(name: &str, words: &mut Words<'a>) -> Result<Base<'a>, FileError>
     ensures { GetsAs base_content (base_names name.now words.old) result words.new }
 {
     match name {
@@ -183,7 +184,7 @@ fn base_named<'a>(name: &str, words: &mut Words<'_, 'a>) -> Result<Base<'a>, Fil
 }
 
 #[tactic(auto, unfolding(crate::specs::SyntaxReading::inner_of))]
-fn read_inner<'a>(words: &mut Words<'_, 'a>) -> Result<Inner<'a>, FileError>
+fn read_inner<'a>(words: &mut Words<'a>) -> Result<Inner<'a>, FileError>
     ensures { GetsAs inner_content (inner_of words.old) result words.new }
 {
     match words.any()? {
@@ -193,7 +194,7 @@ fn read_inner<'a>(words: &mut Words<'_, 'a>) -> Result<Inner<'a>, FileError>
     }
 }
 
-fn read_summary<'a>(version: Version, words: &mut Words<'_, 'a>) -> Result<Summary<'a>, FileError>
+fn read_summary<'a>(version: Version, words: &mut Words<'a>) -> Result<Summary<'a>, FileError>
     ensures { GetsAs summary_content (summary_of version words.old) result words.new }
 {
     match version {
@@ -204,7 +205,7 @@ fn read_summary<'a>(version: Version, words: &mut Words<'_, 'a>) -> Result<Summa
 
 /// A collector that may stand around another.
 #[tactic(auto, unfolding(crate::specs::SyntaxReading::nesting_summary_of))]
-fn read_nesting_summary<'a>(words: &mut Words<'_, 'a>) -> Result<Summary<'a>, FileError>
+fn read_nesting_summary<'a>(words: &mut Words<'a>) -> Result<Summary<'a>, FileError>
     ensures { GetsAs summary_content (nesting_summary_of words.old) result words.new }
 {
     match words.any()? {
@@ -216,7 +217,7 @@ fn read_nesting_summary<'a>(words: &mut Words<'_, 'a>) -> Result<Summary<'a>, Fi
 }
 
 #[tactic(auto, unfolding(crate::specs::SyntaxReading::merge_of))]
-fn read_merge(words: &mut Words<'_, '_>) -> Result<Merge, FileError>
+fn read_merge(words: &mut Words<'_>) -> Result<Merge, FileError>
     ensures { GetsAs merge_content (merge_of words.old) result words.new }
 {
     match words.any()? {
@@ -230,7 +231,7 @@ fn read_merge(words: &mut Words<'_, '_>) -> Result<Merge, FileError>
 }
 
 #[tactic(auto, unfolding(crate::specs::SyntaxReading::expansion_of))]
-fn read_expansion(words: &mut Words<'_, '_>) -> Result<Expansion, FileError>
+fn read_expansion(words: &mut Words<'_>) -> Result<Expansion, FileError>
     ensures { GetsAs expansion_content (expansion_of words.old) result words.new }
 {
     match words.any()? {
@@ -242,8 +243,8 @@ fn read_expansion(words: &mut Words<'_, '_>) -> Result<Expansion, FileError>
 
 /// All the words of a line after the source.
 #[tactic(auto, unfolding(crate::specs::Reading::whole))]
-pub(crate) fn read_line<'a>(version: Version, line: &[&'a str]) -> Result<BodyLine<'a>, FileError>
-    ensures { ReadAs body_line_content (whole (body_of version) (map (λ word. word.now) line.now)) result }
+pub(crate) fn read_line<'a>(version: Version, line: &'a str) -> Result<BodyLine<'a>, FileError>
+    ensures { ReadAs body_line_content (whole (body_of version) (words_of line.now)) result }
 {
     let mut words = Words::new(line);
     match (read_body(version, &mut words), words.end()) {
@@ -255,7 +256,7 @@ pub(crate) fn read_line<'a>(version: Version, line: &[&'a str]) -> Result<BodyLi
 
 /// A line after the source: a stage, or the terminal.
 #[tactic(auto, unfolding(crate::specs::SyntaxReading::body_of))]
-fn read_body<'a>(version: Version, words: &mut Words<'_, 'a>) -> Result<BodyLine<'a>, FileError>
+fn read_body<'a>(version: Version, words: &mut Words<'a>) -> Result<BodyLine<'a>, FileError>
     ensures { GetsAs body_line_content (body_of version words.old) result words.new }
 {
     let name = words.any()?;
@@ -271,7 +272,7 @@ fn read_body<'a>(version: Version, words: &mut Words<'_, 'a>) -> Result<BodyLine
 
 /// A stage, behind its name, and none behind any other name.
 #[tactic(auto, unfolding(crate::specs::SyntaxReading::stage_names))]
-fn read_stage<'a>(name: &str, words: &mut Words<'_, 'a>) -> Result<Option<Stage<'a>>, FileError>
+fn read_stage<'a>(name: &str, words: &mut Words<'a>) -> Result<Option<Stage<'a>>, FileError>
     ensures { GetsNamed stage_line_content stage_names name.now words.old result words.new }
 {
     Ok(Some(match name {
@@ -292,7 +293,7 @@ fn read_stage<'a>(name: &str, words: &mut Words<'_, 'a>) -> Result<Option<Stage<
 fn read_terminal<'a>(
     version: Version,
     name: &str,
-    words: &mut Words<'_, 'a>,
+    words: &mut Words<'a>,
 ) -> Result<Terminal<'a>, FileError>
     ensures { GetsAs terminal_line_content (terminal_names version name.now words.old) result words.new }
 {
@@ -313,7 +314,7 @@ fn read_terminal<'a>(
 fn read_asking_terminal<'a>(
     version: Version,
     name: &str,
-    words: &mut Words<'_, 'a>,
+    words: &mut Words<'a>,
 ) -> Result<Terminal<'a>, FileError>
     ensures { GetsAs terminal_line_content (asking_names version name.now words.old) result words.new }
 {
@@ -331,7 +332,7 @@ fn read_asking_terminal<'a>(
 fn read_collecting_terminal<'a>(
     version: Version,
     name: &str,
-    words: &mut Words<'_, 'a>,
+    words: &mut Words<'a>,
 ) -> Result<Terminal<'a>, FileError>
     ensures { GetsAs terminal_line_content (collecting_names version name.now words.old) result words.new }
 {
@@ -359,7 +360,7 @@ fn read_collecting_terminal<'a>(
 fn read_new_terminal<'a>(
     version: Version,
     name: &str,
-    words: &mut Words<'_, 'a>,
+    words: &mut Words<'a>,
 ) -> Result<Terminal<'a>, FileError>
     ensures { GetsAs terminal_line_content (new_terminal_names version name.now words.old) result words.new }
 {
@@ -374,7 +375,7 @@ fn read_new_terminal<'a>(
 
 /// What follows the name `joining`: the text between, and a front and a back where anything is left.
 #[tactic(auto, unfolding(crate::specs::SyntaxReading::joint_of))]
-fn read_joint<'a>(words: &mut Words<'_, 'a>) -> Result<Joint<'a>, FileError>
+fn read_joint<'a>(words: &mut Words<'a>) -> Result<Joint<'a>, FileError>
     ensures { GetsAs joint_content (joint_of words.old) result words.new }
 {
     let between = words.any()?;

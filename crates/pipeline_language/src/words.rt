@@ -1,41 +1,48 @@
 //! Words.
 
-ghost use Rattle.std.specs.Prelude.{◌≡◌, map, Result, Ok, Err, MatchResult, IfOk, true};
-ghost use Rattle.pipeline_language.specs.Reading.{Left, Gets, next_word, next_number, next_natural, all_numbers, ended, is_done};
+ghost use Rattle.std.specs.Prelude.{◌≡◌, [], Result, Ok, Err, MatchResult, IfOk, true};
+ghost use Rattle.pipeline_language.specs.Reading.{Left, Gets, next_word, next_number, next_natural, all_numbers, numbers_from, ended, is_done};
+ghost use Rattle.pipeline_language.specs.Words.{words_left, words_of};
 
 use crate::fault::FileError;
-use crate::number::parse_number;
+use crate::lines::first_word;
+use crate::number::{first_number, parse_number};
 use std::alloc::{AllocError, Global};
 use std::marker::Model;
 
+/// What is left of a line, where anything is, and whether each number before it is one and in its range.
 #[derive(Drop)]
-pub(crate) struct Words<'w, 'a> {
-    rest: &'w [&'a str],
+pub(crate) struct Words<'a> {
+    rest: Option<&'a str>,
     good: bool,
 }
 
-impl<'w, 'a> Model for Words<'w, 'a> {
+impl<'a> Model for Words<'a> {
     ghost Value = { Left };
 
-    ghost view = { λ w. record { words = map (λ word. word.now) w.rest.now; good = w.good } };
+    ghost view = { λ w. record { words = words_left w.rest; good = w.good } };
 }
 
-impl<'w, 'a> Words<'w, 'a> {
-    pub(crate) fn new(rest: &'w [&'a str]) -> Self
-        ensures { result ≡ record { words = map (λ word. word.now) rest.now; good = true } }
+impl<'a> Words<'a> {
+    pub(crate) fn new(line: &'a str) -> Self
+        ensures { result ≡ record { words = words_of line.now; good = true } }
     {
-        Words { rest, good: true }
+        Words {
+            rest: Some(line),
+            good: true,
+        }
     }
 
     #[tactic(auto, unfolding(crate::specs::Reading::next_word))]
     pub(crate) fn any(&mut self) -> Result<&'a str, FileError>
         ensures { MatchResult result (λ word. next_word self.old ≡ Ok (word.now, self.new)) (λ e. next_word self.old ≡ Err e) }
     {
-        let [word, rest @ ..] = self.rest else {
+        let Some(rest) = self.rest else {
             return Err(FileError::BadArity);
         };
-        self.rest = rest;
-        Ok(*word)
+        let (word, behind) = first_word(rest);
+        self.rest = behind;
+        Ok(word)
     }
 
     #[tactic(auto, unfolding(crate::specs::Reading::next_number))]
@@ -65,17 +72,12 @@ impl<'w, 'a> Words<'w, 'a> {
     pub(crate) fn numbers(&mut self, alloc: Global) -> Result<Vec<i64>, AllocError>
         ensures { IfOk result (λ numbers. all_numbers self.old ≡ Ok (numbers.items, self.new)) }
     {
-        let mut numbers = Vec::new(alloc);
-        for word in self.rest {
-            match parse_number(word) {
-                Some(n) => numbers.push(n)?,
-                None => {
-                    self.good = false;
-                    numbers.push(i64::MIN)?;
-                }
-            }
-        }
-        self.rest = &[];
+        let Some(rest) = self.rest else {
+            return Ok(Vec::new(alloc));
+        };
+        let (numbers, good) = numbers_of(alloc, rest.as_bytes(), self.good)?;
+        self.rest = None;
+        self.good = good;
         Ok(numbers)
     }
 
@@ -83,14 +85,14 @@ impl<'w, 'a> Words<'w, 'a> {
     pub(crate) fn is_empty(&self) -> bool
         ensures { result ≡ is_done self.now.words }
     {
-        matches!(self.rest, [])
+        self.rest.is_none()
     }
 
     /// The end of the line.
     pub(crate) fn end(self) -> Result<(), FileError>
         ensures { result ≡ ended self.entry.words self.entry.good }
     {
-        if !self.rest.is_empty() {
+        if self.rest.is_some() {
             Err(FileError::BadArity)
         } else if self.good {
             Ok(())
@@ -98,4 +100,27 @@ impl<'w, 'a> Words<'w, 'a> {
             Err(FileError::BadNumber)
         }
     }
+}
+
+/// The numbers of a line, read in one pass, and whether each word is one, where those before are. A number and the space behind it have two
+/// bytes at least, so that the room is for no more than the line can hold. It isn't inlined, which leaves its loop registers enough.
+#[inline(never)]
+fn numbers_of(alloc: Global, line: &[u8], before: bool) -> Result<(Vec<i64>, bool), AllocError>
+    ensures { IfOk result (λ r. numbers_from (words_of line.now) before ≡ (r.0.items, record { words = []; good = r.1 })) }
+{
+    let mut numbers = Vec::with_capacity(alloc, line.len() / 2 + 1)?;
+    let mut good = before;
+    let mut left = Some(line);
+    while let Some(rest) = left {
+        let (number, behind) = first_number(rest);
+        match number {
+            Some(n) => numbers.push(n)?,
+            None => {
+                good = false;
+                numbers.push(i64::MIN)?;
+            }
+        }
+        left = behind;
+    }
+    Ok((numbers, good))
 }
