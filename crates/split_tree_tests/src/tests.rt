@@ -41,7 +41,7 @@ fn a_source_is_split_to_the_target(rt: HostRuntime) -> Result<(), Fail> {
     for (target, expected) in rows {
         let plan = plan(rt.alloc(), 10, target)?;
         let text = format!(in rt.alloc(); "{:?}", leaves(rt.alloc(), &plan)?)?;
-        assert_eq!(rt; text.as_str(), expected, "at target {target}");
+        assert!(rt; text.as_str() == expected, "at target {target}");
     }
     Ok(())
 }
@@ -49,10 +49,10 @@ fn a_source_is_split_to_the_target(rt: HostRuntime) -> Result<(), Fail> {
 #[test]
 fn the_default_target_is_four_leaves_a_worker(rt: HostRuntime) -> Result<(), Fail> {
     let ten = RangeSplit::range(0, 10)?;
-    assert_eq!(rt; Plan::make(rt.alloc(), ten, 1, 0)?.leaves(), 6);
-    assert_eq!(rt; Plan::make(rt.alloc(), ten, 7, 0)?.leaves(), 10);
+    assert!(rt; Plan::make(rt.alloc(), ten, 1, 0)?.leaves() == 6);
+    assert!(rt; Plan::make(rt.alloc(), ten, 7, 0)?.leaves() == 10);
     let thousand = RangeSplit::range(0, 1024)?;
-    assert_eq!(rt; Plan::make(rt.alloc(), thousand, 64, 0)?.leaves(), 256);
+    assert!(rt; Plan::make(rt.alloc(), thousand, 64, 0)?.leaves() == 256);
     Ok(())
 }
 
@@ -60,11 +60,10 @@ fn the_default_target_is_four_leaves_a_worker(rt: HostRuntime) -> Result<(), Fai
 fn the_tree_is_that_of_the_splits(rt: HostRuntime) -> Result<(), Fail> {
     let plan = plan(rt.alloc(), 5, 1)?;
     let text = format!(in rt.alloc(); "{:?}", leaves(rt.alloc(), &plan)?)?;
-    assert_eq!(rt; text.as_str(), "[[0], [1], [2], [3], [4]]");
+    assert!(rt; text.as_str() == "[[0], [1], [2], [3], [4]]");
     let text = format!(in rt.alloc(); "{:?}", plan.tree())?;
-    assert_eq!(rt;
-        text.as_str(),
-        "Node(Node(Leaf(0), Leaf(1)), Node(Leaf(2), Node(Leaf(3), Leaf(4))))"
+    assert!(rt;
+        text.as_str() == "Node(Node(Leaf(0), Leaf(1)), Node(Leaf(2), Node(Leaf(3), Leaf(4))))"
     );
     let Tree::Node(left, right) = plan.tree() else {
         return Err(Fail::from("a node was split"));
@@ -75,7 +74,7 @@ fn the_tree_is_that_of_the_splits(rt: HostRuntime) -> Result<(), Fail> {
         right.first_leaf(),
         right.last_leaf(),
     ];
-    assert_eq!(rt; ends.as_slice(), [0, 1, 2, 4].as_slice());
+    assert!(rt; ends.as_slice() == [0, 1, 2, 4].as_slice());
     Ok(())
 }
 
@@ -83,12 +82,9 @@ fn the_tree_is_that_of_the_splits(rt: HostRuntime) -> Result<(), Fail> {
 fn lines_are_split_after_line_feeds(rt: HostRuntime) -> Result<(), Fail> {
     let plan = Plan::make(rt.alloc(), LinesSplit::new("a\nb\nc\nd\n"), 1, 1)?;
     let text = format!(in rt.alloc(); "{:?}", leaves(rt.alloc(), &plan)?)?;
-    assert_eq!(rt; text.as_str(), "[[\"a\"], [\"b\"], [\"c\"], [\"d\"]]");
+    assert!(rt; text.as_str() == "[[\"a\"], [\"b\"], [\"c\"], [\"d\"]]");
     let text = format!(in rt.alloc(); "{:?}", plan.tree())?;
-    assert_eq!(rt;
-        text.as_str(),
-        "Node(Node(Node(Leaf(0), Leaf(1)), Leaf(2)), Leaf(3))"
-    );
+    assert!(rt; text.as_str() == "Node(Node(Node(Leaf(0), Leaf(1)), Leaf(2)), Leaf(3))");
     Ok(())
 }
 
@@ -97,15 +93,15 @@ fn a_concatenation_is_split_between_its_sides(rt: HostRuntime) -> Result<(), Fai
     let sides = Concat::new(RangeSplit::range(0, 2)?, RangeSplit::range(5, 6)?);
     let plan = Plan::make(rt.alloc(), sides, 1, 1)?;
     let text = format!(in rt.alloc(); "{:?}", leaves(rt.alloc(), &plan)?)?;
-    assert_eq!(rt; text.as_str(), "[[0], [1], [5]]");
+    assert!(rt; text.as_str() == "[[0], [1], [5]]");
     Ok(())
 }
 
 #[test]
 fn a_source_without_items_is_one_leaf(rt: HostRuntime) -> Result<(), Fail> {
     let plan = plan(rt.alloc(), 0, 0)?;
-    assert_eq!(rt; plan.leaves(), 1);
-    assert_eq!(rt; read(rt.alloc(), plan.leaf(0))?.len(), 0);
+    assert!(rt; plan.leaves() == 1);
+    assert!(rt; read(rt.alloc(), plan.leaf(0))?.len() == 0);
     assert!(rt; matches!(plan.tree(), Tree::Leaf(0)));
     Ok(())
 }
@@ -119,10 +115,10 @@ fn check_count(
     expected: (usize, usize),
 ) -> Result<(), Fail> {
     let plan = plan(alloc, end, target)?;
-    assert_eq!(rt; plan.leaves(), expected.0, "at target {target}");
+    assert!(rt; plan.leaves() == expected.0, "at target {target}");
     let first = read(alloc, plan.leaf(0))?;
-    assert_eq!(rt; first.len(), expected.1, "at target {target}");
-    assert_eq!(rt; first.first(), Some(&0), "at target {target}");
+    assert!(rt; first.len() == expected.1, "at target {target}");
+    assert!(rt; first.first() == Some(&0), "at target {target}");
     Ok(())
 }
 
@@ -141,9 +137,9 @@ fn a_great_target_is_refused(rt: HostRuntime) -> Result<(), Fail> {
     let split = RangeSplit::range(0, 10)?;
     let refused = Plan::make(rt.alloc(), split, 1, 4_611_686_018_427_387_905);
     assert!(rt; matches!(refused, Err(PlanError::BadTarget)));
-    assert_eq!(rt; MAX_TARGET, 4_611_686_018_427_387_904);
+    assert!(rt; MAX_TARGET == 4_611_686_018_427_387_904);
     let texts = format!(in rt.alloc(); "{}; {}", PlanError::BadTarget, PlanError::NoMemory)?;
-    assert_eq!(rt; texts.as_str(), "the target is above 2^62; out of memory");
+    assert!(rt; texts.as_str() == "the target is above 2^62; out of memory");
     Ok(())
 }
 
@@ -153,13 +149,10 @@ fn a_refused_plan_is_a_want_of_memory(rt: HostRuntime) -> Result<(), Fail> {
     let split = RangeSplit::range(0, 20)?;
     match Plan::make(rt.alloc(), split, 1, 1) {
         Ok(plan) => {
-            assert_eq!(rt; plan.leaves(), 20);
-            assert_eq!(rt;
-                (plan.tree().first_leaf(), plan.tree().last_leaf()),
-                (0, 19)
-            );
+            assert!(rt; plan.leaves() == 20);
+            assert!(rt; (plan.tree().first_leaf(), plan.tree().last_leaf()) == (0, 19));
         }
-        Err(error) => assert_eq!(rt; error, PlanError::NoMemory),
+        Err(error) => assert!(rt; error == PlanError::NoMemory),
     }
     Ok(())
 }

@@ -22,7 +22,7 @@ type NumberRow<'a> = (&'a [NumberStage], &'a [i64], &'a [i64], usize);
 fn check(rt: &(impl Abort + Alloc<A = Global>), rows: &[NumberRow<'_>]) -> Result<(), Fail> {
     for &(stages, items, wanted, taken) in rows {
         let (steps, number) = NumberSteps::front_of(rt.alloc(), stages)?;
-        assert_eq!(rt; number, taken);
+        assert!(rt; number == taken);
         let mut found = Vec::new(rt.alloc());
         for item in items {
             steps.push(*item, &mut found)?;
@@ -223,7 +223,7 @@ fn check_texts(rt: &(impl Abort + Alloc<A = Global>), rows: &[TextRow<'_>]) -> R
     for &(stages, items, wanted, taken) in rows {
         let (found, number) = made_of_texts(rt.alloc(), stages, items)?;
         assert!(rt; found.as_slice() == wanted, "{found:?}");
-        assert_eq!(rt; number, taken);
+        assert!(rt; number == taken);
     }
     Ok(())
 }

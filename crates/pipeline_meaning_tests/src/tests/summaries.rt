@@ -165,9 +165,6 @@ fn texts_of_values(rt: HostRuntime) -> Result<(), Fail> {
     false.write_to(&mut text)?;
     "as it stands".write_to(&mut text)?;
     (Some(5), -7).write_to(&mut text)?;
-    assert_eq!(rt;
-        text.as_str(),
-        "-9223372036854775808truefalseas it stands[Optional[5], -7]"
-    );
+    assert!(rt; text.as_str() == "-9223372036854775808truefalseas it stands[Optional[5], -7]");
     Ok(())
 }

@@ -42,11 +42,11 @@ impl OrderedValue for Mark {
 fn check<const N: usize>(rt: &impl Abort, told: u32, estimate: u64, half: u64) {
     let marks = [Mark; N];
     let mut rest = SliceSplit::new(&marks);
-    assert_eq!(rt; rest.characteristics(), told);
-    assert_eq!(rt; rest.estimate_size(), estimate);
+    assert!(rt; rest.characteristics() == told);
+    assert!(rt; rest.estimate_size() == estimate);
     let part = rest.try_split();
     assert_eq!(rt; part.and_then(|part| part.exact_size()), Some(half));
-    assert_eq!(rt; rest.exact_size(), Some(4_611_686_018_427_387_904));
+    assert!(rt; rest.exact_size() == Some(4_611_686_018_427_387_904));
 }
 
 #[test]

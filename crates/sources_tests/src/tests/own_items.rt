@@ -65,7 +65,7 @@ impl OrderedValue for Seat {
 fn check_refused<S: Spliterator>(rt: &impl Abort, mut split: S, left: u64) {
     for _ in 0..3 {
         assert!(rt; matches!(split.try_advance(), Err(NoMemory)));
-        assert_eq!(rt; split.exact_size(), Some(left));
+        assert!(rt; split.exact_size() == Some(left));
     }
 }
 
@@ -105,7 +105,7 @@ fn a_refused_clone_leaves_the_items_of_two_sources(rt: HostRuntime) -> Result<()
     check_refused(&rt, second, 2);
     assert!(rt; second.try_advance().is_err());
     assert!(rt; matches!(second, Concat::Alone(Right(_))));
-    assert_eq!(rt; second.exact_size(), Some(2));
+    assert!(rt; second.exact_size() == Some(2));
     let side: Either<SliceSplit<'_, Seat>, SliceSplit<'_, Seat>> = Right(SliceSplit::new(
         &seats[1..],
     ));

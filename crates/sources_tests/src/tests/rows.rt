@@ -8,13 +8,10 @@ use std::test::Fail;
 
 /// Checks what a source tells and estimates.
 fn check_told(rt: &impl Abort, split: impl Spliterator, told: u32, estimate: u64) {
-    assert_eq!(rt; split.characteristics(), told);
-    assert_eq!(rt; split.estimate_size(), estimate);
+    assert!(rt; split.characteristics() == told);
+    assert!(rt; split.estimate_size() == estimate);
     let is_sized = told & 0x40 == 0x40;
-    assert_eq!(rt;
-        split.exact_size(),
-        if is_sized { Some(estimate) } else { None }
-    );
+    assert!(rt; split.exact_size() == if is_sized { Some(estimate) } else { None });
 }
 
 /// Checks the items that are left.
@@ -96,7 +93,7 @@ fn ranges_lose_their_first_and_their_last(rt: HostRuntime) -> Result<(), Fail> {
 
 #[test]
 fn ranges_have_at_most_2_to_the_62_items(rt: HostRuntime) -> Result<(), Fail> {
-    assert_eq!(rt; MAX_RANGE, 4_611_686_018_427_387_904);
+    assert!(rt; MAX_RANGE == 4_611_686_018_427_387_904);
     check_told(
         &rt,
         RangeSplit::range(0, 4_611_686_018_427_387_904)?,
@@ -119,7 +116,7 @@ fn ranges_have_at_most_2_to_the_62_items(rt: HostRuntime) -> Result<(), Fail> {
         assert!(rt; matches!(range, Err(RangeTooLong)));
     }
     let text = format!(in rt.alloc(); "{RangeTooLong}")?;
-    assert_eq!(rt; text.as_str(), "a range of more than 2^62 items");
+    assert!(rt; text.as_str() == "a range of more than 2^62 items");
     Ok(())
 }
 
@@ -139,7 +136,7 @@ fn slices_split_in_half(rt: HostRuntime) -> Result<(), Fail> {
 fn a_deque_whose_storage_wraps_reads_like_any_other(rt: HostRuntime) -> Result<(), Fail> {
     let alloc = rt.alloc();
     let queue = wrapped(alloc)?;
-    assert_eq!(rt; queue.as_slices().1.len(), 2);
+    assert!(rt; queue.as_slices().1.len() == 2);
     check_told(&rt, DequeSplit::new(&queue), 0x4550, 3);
     check_items(&rt, alloc, DequeSplit::new(&queue), &[1, 2, 3])?;
     check_split(&rt, alloc, DequeSplit::new(&queue), Some(&[1]), &[2, 3])?;
@@ -188,7 +185,7 @@ fn lines_split_after_a_line_feed_near_the_middle(rt: HostRuntime) -> Result<(), 
 fn an_estimate_of_lines_is_the_bytes_left(rt: HostRuntime) -> Result<(), Fail> {
     let mut lines = LinesSplit::new("é\n\nab");
     for estimate in [6, 3, 2] {
-        assert_eq!(rt; lines.estimate_size(), estimate);
+        assert!(rt; lines.estimate_size() == estimate);
         assert!(rt; lines.try_advance()?.is_some());
     }
     check_told(&rt, lines, 0x510, 0);
@@ -253,9 +250,9 @@ fn a_concatenation_of_concatenations(rt: HostRuntime) -> Result<(), Fail> {
 #[test]
 fn a_side_that_is_left_alone_tells_by_itself(rt: HostRuntime) -> Result<(), Fail> {
     let mut ranges = Concat::new(RangeSplit::range(0, 1)?, RangeSplit::range(5, 8)?);
-    assert_eq!(rt; ranges.try_advance()?, Some(0));
+    assert!(rt; ranges.try_advance()? == Some(0));
     check_told(&rt, ranges, 0x4550, 3);
-    assert_eq!(rt; ranges.try_advance()?, Some(5));
+    assert!(rt; ranges.try_advance()? == Some(5));
     check_told(&rt, ranges, 0x4555, 2);
     let mut lines = Concat::new(LinesSplit::new(""), LinesSplit::new("a\nb"));
     check_told(&rt, lines, 0x510, 3);
@@ -276,7 +273,7 @@ fn either_side_does_what_it_does_alone(rt: HostRuntime) -> Result<(), Fail> {
     let mut right: Either<RangeSplit, SliceSplit<'_, i64>> = Right(SliceSplit::new(&seven));
     check_told(&rt, right, 0x4550, 1);
     assert!(rt; right.try_split().is_none());
-    assert_eq!(rt; right.try_advance()?, Some(7));
-    assert_eq!(rt; right.try_advance()?, None);
+    assert!(rt; right.try_advance()? == Some(7));
+    assert!(rt; right.try_advance()? == None);
     Ok(())
 }
