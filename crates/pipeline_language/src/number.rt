@@ -1,6 +1,6 @@
 //! Numbers as words of a file.
 
-ghost use Rattle.std.specs.Prelude.{◌≡◌, ◌<◌, ◌≤◌, ◌==◌, pos, neg_ℤ, false, length, take, slice_index, nat_lt, nat_le, All, Some, None, if◌then◌else◌};
+ghost use Rattle.std.specs.Prelude.{◌≡◌, ◌^◌, ◌<◌, ◌≤◌, ◌==◌, pos, neg_ℤ, false, length, take, slice_index, nat_lt, nat_le, All, Some, None, if◌then◌else◌};
 ghost use Rattle.std.specs.Int.{IsInRange};
 ghost use Rattle.std.specs.Str.Parse.{AllDigits, digits_value};
 ghost use Rattle.pipeline_language.specs.Reading.{NoLonger, ReadsNumber, number_of};
@@ -59,7 +59,7 @@ fn front_digits(bytes: &[u8]) -> (u64, usize)
     ensures within { result.1 ≤ length bytes.now }
     ensures digits { AllDigits 10 (take result.1 bytes.now) }
     ensures value { result.0 ≡ digits_value 10 (take result.1 bytes.now) }
-    ensures past { IsInRange 48 57 (slice_index bytes.now result.1) → 922337203685477580 < result.0 }
+    ensures end { IsInRange 48 57 (slice_index bytes.now result.1) → 922337203685477580 < result.0 }
 {
     let mut value: u64 = 0;
     for (index, byte) in bytes.iter().enumerate() {
@@ -74,7 +74,7 @@ fn front_digits(bytes: &[u8]) -> (u64, usize)
 }
 
 fn positive(value: u64) -> Option<i64>
-    ensures { result ≡ (if nat_lt value 9223372036854775808 then Some (pos value) else None) }
+    ensures { result ≡ (if nat_lt value (2 ^ 63) then Some (pos value) else None) }
 {
     if value <= i64::MAX as u64 {
         Some(value as i64)
@@ -84,7 +84,7 @@ fn positive(value: u64) -> Option<i64>
 }
 
 fn negative(value: u64) -> Option<i64>
-    ensures { result ≡ (if nat_le value 9223372036854775808 then Some (neg_ℤ (pos value)) else None) }
+    ensures { result ≡ (if nat_le value (2 ^ 63) then Some (neg_ℤ (pos value)) else None) }
 {
     if value <= i64::MAX as u64 {
         Some(-(value as i64))

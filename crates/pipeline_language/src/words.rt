@@ -1,6 +1,6 @@
 //! Words.
 
-ghost use Rattle.std.specs.Prelude.{◌≡◌, [], Result, Ok, Err, MatchResult, IfOk, true};
+ghost use Rattle.std.specs.Prelude.{◌≡◌, Result, Ok, Err, MatchResult, IfOk, true};
 ghost use Rattle.pipeline_language.specs.Reading.{Left, Gets, next_word, next_number, next_natural, all_numbers, numbers_from, ended, is_done};
 ghost use Rattle.pipeline_language.specs.Words.{words_left, words_of};
 
@@ -75,9 +75,8 @@ impl<'a> Words<'a> {
         let Some(rest) = self.rest else {
             return Ok(Vec::new(alloc));
         };
-        let (numbers, good) = numbers_of(alloc, rest.as_bytes(), self.good)?;
-        self.rest = None;
-        self.good = good;
+        let (numbers, behind) = numbers_of(alloc, rest.as_bytes(), self.good)?;
+        *self = behind;
         Ok(numbers)
     }
 
@@ -102,11 +101,15 @@ impl<'a> Words<'a> {
     }
 }
 
-/// The numbers of a line, read in one pass, and whether each word is one, where those before are. A number and the space behind it have two
-/// bytes at least, so that the room is for no more than the line can hold. It isn't inlined, which leaves its loop registers enough.
+/// The numbers of a line, read in one pass, and what is left: nothing, and whether each word so far is one. A number and the space behind it
+/// have two bytes at least, so that the room is for no more than the line can hold. It isn't inlined, which leaves its loop registers enough.
 #[inline(never)]
-fn numbers_of(alloc: Global, line: &[u8], before: bool) -> Result<(Vec<i64>, bool), AllocError>
-    ensures { IfOk result (λ r. numbers_from (words_of line.now) before ≡ (r.0.items, record { words = []; good = r.1 })) }
+fn numbers_of<'a>(
+    alloc: Global,
+    line: &'a [u8],
+    before: bool,
+) -> Result<(Vec<i64>, Words<'a>), AllocError>
+    ensures { IfOk result (λ r. numbers_from (words_of line.now) before ≡ (r.0.items, r.1)) }
 {
     let mut numbers = Vec::with_capacity(alloc, line.len() / 2 + 1)?;
     let mut good = before;
@@ -122,5 +125,5 @@ fn numbers_of(alloc: Global, line: &[u8], before: bool) -> Result<(Vec<i64>, boo
         }
         left = behind;
     }
-    Ok((numbers, good))
+    Ok((numbers, Words { rest: None, good }))
 }

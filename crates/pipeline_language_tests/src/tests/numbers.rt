@@ -1,5 +1,6 @@
 //! Pipelines of numbers that are read.
 
+use super::first_wrong;
 use pipeline_language::{
     NumberBase, NumberFunction, NumberMerge, NumberSource, NumberStage, NumberSummary,
     NumberTerminal, NumberTest, Pipeline, ReadError, read_pipeline,
@@ -56,6 +57,50 @@ fn reads_stages_over_numbers(rt: HostRuntime) -> Result<(), Fail> {
         NumberMerge::Last,
     );
     assert!(rt; is_of_numbers(rt.alloc(), file, &[5, -2, i64::MAX], &stages, terminal)?);
+    Ok(())
+}
+
+/// Numbers at the ends of 64 bits, and words past them, with leading zeros, with signs, and empty.
+const WORDS: [(&[u8], &str); 14] = [
+    (b"numbers 9223372036854775808\nsum\n", "line 2: BAD_NUMBER"),
+    (b"numbers -9223372036854775809\nsum\n", "line 2: BAD_NUMBER"),
+    (
+        b"numbers 1 18446744073709551617\nsum\n",
+        "line 2: BAD_NUMBER",
+    ),
+    (b"numbers 00\nsum\n", "line 2: BAD_NUMBER"),
+    (b"numbers 007 1\nsum\n", "line 2: BAD_NUMBER"),
+    (b"numbers -0\nsum\n", "line 2: BAD_NUMBER"),
+    (b"numbers 1 - 2\nsum\n", "line 2: BAD_NUMBER"),
+    (b"numbers 1-2\nsum\n", "line 2: BAD_NUMBER"),
+    (b"numbers 1  2\nsum\n", "line 2: BAD_NUMBER"),
+    (b"numbers 1 \nsum\n", "line 2: BAD_NUMBER"),
+    (b"numbers \nsum\n", "line 2: BAD_NUMBER"),
+    (
+        b"numbers\nmap add 9223372036854775808\nsum\n",
+        "line 3: BAD_NUMBER",
+    ),
+    (b"numbers\nmap add -\nsum\n", "line 3: BAD_NUMBER"),
+    (b"numbers\nmap add -9223372036854775808\nsum\n", "read"),
+];
+
+#[test]
+fn reads_the_numbers_of_a_line(rt: HostRuntime) -> Result<(), Fail> {
+    let none = b"pipeline 1\nnumbers\nsum\n";
+    assert!(rt; is_of_numbers(rt.alloc(), none, &[], &[], NumberTerminal::Sum)?);
+    let ends = b"pipeline 1\nnumbers 9223372036854775807 0 -1 -9223372036854775808 1000\nsum\n";
+    let wanted = [
+        9_223_372_036_854_775_807,
+        0,
+        -1,
+        -9_223_372_036_854_775_808,
+        1000,
+    ];
+    assert!(rt; is_of_numbers(rt.alloc(), ends, &wanted, &[], NumberTerminal::Sum)?);
+    assert_eq!(rt;
+        first_wrong(rt.alloc(), b"pipeline 1\n", WORDS.as_slice())?,
+        None
+    );
     Ok(())
 }
 

@@ -12,21 +12,21 @@ pub returns-in-49-to-57-clause-solid : goal.returns-in-49-to-57-clause-solid
 returns-in-49-to-57-clause-solid c =
     let r = c.front_digits-value-in-49-to-57.result in
     let e = c.front_digits-value-in-49-to-57.ensures in
-    let f : AreFront c.args.line.now r.0 r.1 = record { digits = e.digits; value = e.value; past = e.past; fits = omega arith; low = omega arith; high = omega arith } in
+    let f : AreFront c.args.line.now r.0 r.1 = record { digits = e.digits; value = e.value; past = e.end; fits = omega arith; low = omega arith; high = omega arith } in
     no_space_in _ f.digits
 
 pub returns-in-49-to-57-clause-number : goal.returns-in-49-to-57-clause-number
 returns-in-49-to-57-clause-number c =
     let r = c.front_digits-value-in-49-to-57.result in
     let e = c.front_digits-value-in-49-to-57.ensures in
-    let f : AreFront c.args.line.now r.0 r.1 = record { digits = e.digits; value = e.value; past = e.past; fits = omega arith; low = omega arith; high = omega arith } in
+    let f : AreFront c.args.line.now r.0 r.1 = record { digits = e.digits; value = e.value; past = e.end; fits = omega arith; low = omega arith; high = omega arith } in
     c.positive.ensures ∙ positive_front c.args.line.now r.0 r.1 f
 
 pub returns-in-49-to-57-clause-past : goal.returns-in-49-to-57-clause-past
 returns-in-49-to-57-clause-past c =
     let r = c.front_digits-value-in-49-to-57.result in
     let e = c.front_digits-value-in-49-to-57.ensures in
-    let f : AreFront c.args.line.now r.0 r.1 = record { digits = e.digits; value = e.value; past = e.past; fits = omega arith; low = omega arith; high = omega arith } in
+    let f : AreFront c.args.line.now r.0 r.1 = record { digits = e.digits; value = e.value; past = e.end; fits = omega arith; low = omega arith; high = omega arith } in
     positive_past c.args.line.now r.0 r.1 f
 
 pub returns-in-49-to-57-digits-clause-solid : goal.returns-in-49-to-57-digits-clause-solid
@@ -35,7 +35,7 @@ returns-in-49-to-57-digits-clause-solid c =
     let e = c.front_digits-value.ensures in
     let digits : List ℕ = take (length c.args.line.now - 1) (drop 1 c.args.line.now) in
     let sign : c.args.line.now ≡ 45 ∷ digits = has_sign c.args.line.now (omega arith) (omega arith) in
-    let f : AreFront digits r.0 r.1 = record { digits = e.digits; value = e.value; past = e.past; fits = omega arith; low = omega arith; high = omega arith } in
+    let f : AreFront digits r.0 r.1 = record { digits = e.digits; value = e.value; past = e.end; fits = omega arith; low = omega arith; high = omega arith } in
     negative_solid c.args.line.now digits r.0 r.1 sign f
 
 pub returns-in-49-to-57-digits-clause-number : goal.returns-in-49-to-57-digits-clause-number
@@ -44,7 +44,7 @@ returns-in-49-to-57-digits-clause-number c =
     let e = c.front_digits-value.ensures in
     let digits : List ℕ = take (length c.args.line.now - 1) (drop 1 c.args.line.now) in
     let sign : c.args.line.now ≡ 45 ∷ digits = has_sign c.args.line.now (omega arith) (omega arith) in
-    let f : AreFront digits r.0 r.1 = record { digits = e.digits; value = e.value; past = e.past; fits = omega arith; low = omega arith; high = omega arith } in
+    let f : AreFront digits r.0 r.1 = record { digits = e.digits; value = e.value; past = e.end; fits = omega arith; low = omega arith; high = omega arith } in
     c.negative.ensures ∙ negative_front c.args.line.now digits r.0 r.1 sign f
 
 pub returns-in-49-to-57-digits-clause-past : goal.returns-in-49-to-57-digits-clause-past
@@ -53,7 +53,7 @@ returns-in-49-to-57-digits-clause-past c =
     let e = c.front_digits-value.ensures in
     let digits : List ℕ = take (length c.args.line.now - 1) (drop 1 c.args.line.now) in
     let sign : c.args.line.now ≡ 45 ∷ digits = has_sign c.args.line.now (omega arith) (omega arith) in
-    let f : AreFront digits r.0 r.1 = record { digits = e.digits; value = e.value; past = e.past; fits = omega arith; low = omega arith; high = omega arith } in
+    let f : AreFront digits r.0 r.1 = record { digits = e.digits; value = e.value; past = e.end; fits = omega arith; low = omega arith; high = omega arith } in
     negative_past c.args.line.now digits r.0 r.1 sign f
 
 pub returns-in_default-digits-clause-number : goal.returns-in_default-digits-clause-number
