@@ -31,8 +31,9 @@ fn join_first<T: Value + Clone, O: Operator<T>>(
 ) -> Result<T, NoMemory>
     requires operator { O.ready operator.now }
     requires clones { ClonesAlike T.is_clone T.content }
-    ensures { let joins = O.join operator.now in
-        IfOk result (λ joined. Some (T.content joined) ≡ reduce_add joins (option_map T.content before) (T.content first.now)) }
+    ensures { let add = reduce_add (O.join operator.now) in
+        let after = add (option_map T.content before) (T.content first.now) in
+        IfOk result (λ joined. Some (T.content joined) ≡ after) }
 {
     match before {
         Some(joined) => operator.join(&joined, first),

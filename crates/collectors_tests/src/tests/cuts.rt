@@ -83,7 +83,7 @@ where
     Ok(())
 }
 
-/// Checks the result on a list: folded on one thread, and by all ways of cutting it in up to three parts. Empty parts are among them.
+/// Checks the result on a list: folded on one thread, taken in as a block, and by all ways of cutting it in up to three parts. Empty parts are among them.
 fn check_row<C: Collector>(
     rt: &impl Abort,
     alloc: Global,
@@ -96,6 +96,9 @@ where
     requires { C.ready collector.now }
 {
     check_text(rt, alloc, collect(collector, items)?, expected)?;
+    let mut block = collector.supply()?;
+    collector.accumulate_all(&mut block, items)?;
+    check_text(rt, alloc, collector.finish(block)?, expected)?;
     for cut in 0..=items.len() {
         check_parts(rt, alloc, collector, items.split_at(cut), expected)?;
     }

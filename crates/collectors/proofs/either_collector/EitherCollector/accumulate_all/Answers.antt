@@ -14,12 +14,12 @@ returns g c =
     let before = c.args.acc.now in
     let after = c.match-self.acc in
     elim c.match-self.branch [
-      in-Left-Left w ↦ rw w.result-is (on_ok_weaker w.accumulate_all.result
-      (takes-left is_value A.content B.content A.empty B.empty A.add B.add e before after xs w.in-Left-Left.side w.in-Left-Left.acc w.accumulate_all.new.acc w.in-Left-Left.is-0 w.in-Left-Left.is-1 w.acc-is)
-      w.accumulate_all.ensures)
-    | in-Right-Right w ↦ rw w.result-is (on_ok_weaker w.accumulate_all-in-Right-Right.result
-      (takes-right is_value A.content B.content A.empty B.empty A.add B.add e before after xs w.in-Right-Right.side w.in-Right-Right.acc w.accumulate_all-in-Right-Right.new.acc w.in-Right-Right.is-0 w.in-Right-Right.is-1 w.acc-is)
-      w.accumulate_all-in-Right-Right.ensures)
-    | in_default w ↦ rw w.result-is (stays-left is_value A.content B.content A.empty B.empty A.add B.add e before after xs w.in_default.field-0-0 w.in_default.field-0-1 w.in_default.is-0 w.in_default.is-1 w.acc-is)
-    | in_default-2 w ↦ rw w.result-is (stays-right is_value A.content B.content A.empty B.empty A.add B.add e before after xs w.in_default.field-0-0 w.in_default.field-0-1 w.in_default.is-0 w.in_default.is-1 w.acc-is)
+      | in-Left-Left w ↦ rw w.result-is (on_ok_weaker w.accumulate_all.result
+          (takes-left is_value A.content B.content A.empty B.empty A.add B.add e before after xs w.in-Left-Left.side w.in-Left-Left.acc w.accumulate_all.new.acc w.in-Left-Left.is-0 w.in-Left-Left.is-1 w.acc-is)
+          w.accumulate_all.ensures)
+      | in-Right-Right w ↦ rw w.result-is (on_ok_weaker w.accumulate_all-in-Right-Right.result
+          (takes-right is_value A.content B.content A.empty B.empty A.add B.add e before after xs w.in-Right-Right.side w.in-Right-Right.acc w.accumulate_all-in-Right-Right.new.acc w.in-Right-Right.is-0 w.in-Right-Right.is-1 w.acc-is)
+          w.accumulate_all-in-Right-Right.ensures)
+      | in_default w ↦ rw w.result-is (stays-left is_value A.content B.content A.empty B.empty A.add B.add e before after xs w.in_default.field-0-0 w.in_default.field-0-1 w.in_default.is-0 w.in_default.is-1 w.acc-is)
+      | in_default-2 w ↦ rw w.result-is (stays-right is_value A.content B.content A.empty B.empty A.add B.add e before after xs w.in_default.field-0-0 w.in_default.field-0-1 w.in_default.is-0 w.in_default.is-1 w.acc-is)
     ]
