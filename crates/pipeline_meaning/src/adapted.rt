@@ -80,6 +80,16 @@ where
         }
     }
 
+    fn accumulate_all(&self, acc: &mut D::Acc, items: &[D::Item]) -> Result<(), NoMemory> {
+        if let Adapting::Nothing = self.step {
+            return self.downstream.accumulate_all(acc, items);
+        }
+        for item in items {
+            self.accumulate(acc, item)?;
+        }
+        Ok(())
+    }
+
     fn combine(&self, left: &mut D::Acc, right: D::Acc) -> Result<(), NoMemory> {
         self.downstream.combine(left, right)
     }
