@@ -6,8 +6,8 @@
 Run it at the top of the repository, once the libraries are built (`rt ci`, or `rt all check`). An edit has the form of a must-fail edit:
 a line `file: src/..`, then pairs of lines `old: TEXT` and `new: TEXT`. One check tries as many edits of a crate as touch different
 functions, and reads no others than these and those that they call, over the work that earlier checks of the crate kept. An edit passes where
-the check says of the edited function itself that a goal isn't proved. That the function calls one that was refused, that a proof file names what the edit took away, or that the text can't be read
-is no refusal. What a pack doesn't show so is tried alone. An edit outside functions, of a constant say, is tried alone too, and passes where
+the check says of the edited function itself that a goal isn't proved. That the function calls one that was refused, that a proof file names what
+the edit took away, or that the text can't be read is no refusal. What a pack doesn't show so is tried alone. An edit outside functions, of a constant say, is tried alone too, and passes where
 any function is refused so.
 
 Prints a line an edit, and last `N passed, M failed`.
@@ -33,7 +33,6 @@ TOLD = re.compile(r"fn (\S+?): (.*)")
 UNPROVED_NOTE = re.compile(r"note: (src/\S+?):(\d+):\d+: it is not proved that ")
 PROOF_ERROR = re.compile(r"(?:\./)?proofs/(\S+?)/\w+\.antt:\d+:\d+: error: (.*)")
 GONE = re.compile(r"has no field|is not in scope|has no `|was not admitted")
-
 UNKNOWN = re.compile(r"rattle: error: `\w+` has ")
 
 Function = collections.namedtuple("Function", "file module owner name folders first last")
@@ -113,7 +112,8 @@ def split_impl(owner):
 
 
 def owner_name(owner, with_arguments=False):
-    """How the check's names of a method's function begin behind its module: the type, and the trait where there is one, with its arguments that are no parameters of the impl."""
+    """How the check's names of a method's function begin behind its module: the type, and the trait where there is one. They go on with those arguments
+    of the trait that are no parameters of the impl."""
     if owner.startswith(("trait", "pub trait")):
         return owner.partition("trait ")[2].split("<")[0].split(":")[0].split(" ")[0]
     parameters, trait, arguments, of = split_impl(owner)
