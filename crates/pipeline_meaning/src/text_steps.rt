@@ -17,7 +17,7 @@ use stages::{Operation, Sink, Stage, Test};
 use std::alloc::Global;
 
 /// One stage, prepared.
-#[derive(Clone, Copy, Debug)]
+#[derive(Clone, Copy)]
 enum TextStep<'a> {
     Itself,
     Filter(TextCheck<'a>),
@@ -51,7 +51,7 @@ impl<'a> TextStep<'a> {
 }
 
 /// Stages over texts up to the first that looks at more than one item, as one stage: a text walks through them.
-#[derive(Debug, Drop)]
+#[derive(Drop)]
 pub struct TextSteps<'a> {
     steps: Vec<TextStep<'a>>,
 }
