@@ -4,14 +4,15 @@ use Rattle.std.specs.Str.{is_utf8}
 use Rattle.std.proofs.lemmas.Bool.{cond_both, cond-true, cond-false, false_from_ne_true}
 use Rattle.std.proofs.lemmas.List.{append-nil, append_assoc, length-append}
 use Rattle.std.proofs.lemmas.Str.{is_utf8-from_IsUtf8, IsUtf8-from_is_utf8}
-use Rattle.pipeline_language.specs.declared.fault.FileError.{FileError}
-use Rattle.pipeline_language.specs.declared.fault.FileError.TheVariants.{BadText, MissingTerminal, AfterTerminal}
-use Rattle.pipeline_language.specs.declared.fault.FileFault.{FileFault}
+use Rattle.file_words.specs.declared.fault.FileError.{FileError}
+use Rattle.file_words.specs.declared.fault.FileError.TheVariants.{BadText, MissingTerminal, AfterTerminal}
+use Rattle.file_words.specs.declared.fault.FileFault.{FileFault}
 use Rattle.pipeline_language.specs.Content.{Body}
 use Rattle.pipeline_language.specs.Form.{IsLineOf}
 use Rattle.pipeline_language.specs.Syntax.{Stage, Terminal, BodyLine, StageLine, TerminalLine, Coming, after_stage, bodies}
 use Rattle.pipeline_language.specs.Language.{AreStageLines, after_stages, BodyPlace, EndPlace, FaultAt, FaultOfNext}
-use Rattle.pipeline_language.specs.Reading.{◌>>=◌, line_of}
+use Rattle.file_words.specs.WordReading.{◌>>=◌}
+use Rattle.pipeline_language.specs.Reading.{line_of}
 use Rattle.pipeline_language.specs.SyntaxReading.{body_of}
 use Rattle.pipeline_language.specs.FileReading.{at_line, after_end, no_more, with_stages, after_line, body_from, ending_with, first_of}
 use Rattle.pipeline_language.proofs.LineAnswers.{AnswersLine, line_answer, line_is_read, not_text}

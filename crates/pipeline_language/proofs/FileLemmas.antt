@@ -6,20 +6,21 @@ use Rattle.std.proofs.lemmas.Bool.{cond_both, cond-true, cond-false, le-ltb, lt-
 use Rattle.std.proofs.lemmas.List.{append-nil, append_assoc, length-append}
 use Rattle.std.proofs.lemmas.Slice.Eq.{bytes_eq-Decides}
 use Rattle.std.proofs.lemmas.Str.{is_utf8-from_IsUtf8, IsUtf8-from_is_utf8}
-use Rattle.pipeline_language.specs.declared.fault.FileError.{FileError}
-use Rattle.pipeline_language.specs.declared.fault.FileError.TheVariants.{BadText, TooLarge, BadVersion, MissingTerminal}
-use Rattle.pipeline_language.specs.declared.fault.FileFault.{FileFault}
-use Rattle.pipeline_language.specs.declared.fault.ReadError.{ReadError}
-use Rattle.pipeline_language.specs.declared.fault.ReadError.TheVariants.{Fault, NoMemory}
+use Rattle.file_words.specs.declared.fault.FileError.{FileError}
+use Rattle.file_words.specs.declared.fault.FileError.TheVariants.{BadText, TooLarge, BadVersion, MissingTerminal}
+use Rattle.file_words.specs.declared.fault.FileFault.{FileFault}
+use Rattle.file_words.specs.declared.fault.ReadError.{ReadError}
+use Rattle.file_words.specs.declared.fault.ReadError.TheVariants.{Fault, NoMemory}
 use Rattle.pipeline_language.specs.declared.pipeline.Pipeline.{Pipeline}
 use Rattle.pipeline_language.specs.declared.version.Version.{Version}
 use Rattle.pipeline_language.specs.declared.version.Version.TheVariants.{One, Two}
-use Rattle.pipeline_language.specs.Words.{lines_of}
+use Rattle.file_words.specs.Words.{lines_of}
 use Rattle.pipeline_language.specs.Form.{IsLineOf}
 use Rattle.pipeline_language.specs.Syntax.{Origin, origins, text_count, Coming, bodies, Program}
 use Rattle.pipeline_language.specs.Content.{Body, program_of}
 use Rattle.pipeline_language.specs.Language.{first_line, VersionFault, Place, VersionPlace, SourcePlace, TextPlace, BodyPlace, EndPlace, LeadsTo, FaultOfNext, IsProgramOf, AreTexts, IsBeginningOfTexts, IsBeginningOf, IsFaultOfLines, from_origin, after_stages, Means, HasFault, most_bytes}
-use Rattle.pipeline_language.specs.Reading.{◌>>=◌, line_of}
+use Rattle.file_words.specs.WordReading.{◌>>=◌}
+use Rattle.pipeline_language.specs.Reading.{line_of}
 use Rattle.pipeline_language.specs.SyntaxReading.{body_of, origin_words}
 use Rattle.pipeline_language.specs.FileReading.{IfFault, Reads, Texts, with_texts, texts_from, from_texts, at_line, version_of, after_end, no_more, with_stages, body_from, from_source, program_from, file_of}
 use Rattle.pipeline_language.proofs.LineAnswers.{AnswersLine, line_answer, line_is_read, fault_is_read, not_text}

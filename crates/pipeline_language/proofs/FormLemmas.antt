@@ -1,9 +1,9 @@
 -- One line has one reading: its thing or its fault, and never both.
 use Rattle.std.proofs.Common.{◌≡◌, ℕ, suc, List, [], ◌∷◌, length, refl, sym, ap, ◌∙◌, inl, inr}
-use Rattle.pipeline_language.specs.declared.fault.FileError.{FileError}
-use Rattle.pipeline_language.specs.declared.fault.FileError.TheVariants.{UnknownWord, BadArity, BadNumber, WrongKind}
+use Rattle.file_words.specs.declared.fault.FileError.{FileError}
+use Rattle.file_words.specs.declared.fault.FileError.TheVariants.{UnknownWord, BadArity, BadNumber, WrongKind}
 use Rattle.std.specs.Prelude.{true}
-use Rattle.pipeline_language.specs.Words.{words_of}
+use Rattle.file_words.specs.Words.{words_of}
 use Rattle.pipeline_language.specs.Form.{Slot, Name, EitherName, Number, AnyWord, NameFits, WordFits, NamesFit, WordsFit, Forms, AreWordsOf, IsLineOf, Tests, NoTest, Test, FirstFault, tests, WordsFault, LineFault}
 
 -- a word that fits its place has the place's name

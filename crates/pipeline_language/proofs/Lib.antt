@@ -1,14 +1,8 @@
 pub mod BodyLemmas
-pub mod DigitLemmas
 pub mod FileLemmas
 pub mod FormLemmas
 pub mod LineAnswers
-pub mod LineLemmas
-pub mod LoopLemmas
-pub mod NumberLemmas
 pub mod NumberPhrases
-pub mod NumbersLemmas
 pub mod PhraseLemmas
 pub mod SyntaxLemmas
-pub mod WordLemmas
 pub mod WordPhrases

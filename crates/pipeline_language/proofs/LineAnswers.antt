@@ -5,11 +5,12 @@ use Rattle.std.specs.Str.{is_utf8}
 use Rattle.std.proofs.lemmas.Bool.{cond_both, cond-true, false≢true}
 use Rattle.std.proofs.lemmas.List.{append-nil}
 use Rattle.std.proofs.lemmas.Str.{is_utf8-from_IsUtf8, IsUtf8-from_is_utf8}
-use Rattle.pipeline_language.specs.declared.fault.FileError.{FileError}
-use Rattle.pipeline_language.specs.declared.fault.FileError.TheVariants.{BadText, UnknownWord, BadArity, WrongKind}
-use Rattle.pipeline_language.specs.Words.{words_of}
+use Rattle.file_words.specs.declared.fault.FileError.{FileError}
+use Rattle.file_words.specs.declared.fault.FileError.TheVariants.{BadText, UnknownWord, BadArity, WrongKind}
+use Rattle.file_words.specs.Words.{words_of}
 use Rattle.pipeline_language.specs.Form.{NamesFit, WordsFit, Forms, AreWordsOf, IsLineOf, WordsFault, LineFault}
-use Rattle.pipeline_language.specs.Reading.{◌>>=◌, Left, Reader, ended, whole, fitting, line_of}
+use Rattle.file_words.specs.WordReading.{◌>>=◌, Left, Reader, ended}
+use Rattle.pipeline_language.specs.Reading.{whole, fitting, line_of}
 use Rattle.pipeline_language.proofs.FormLemmas.{stops_at_names, stops_at_length, stops_at_numbers, stops_at_kind, stops_at_limits, line_or_fault, one_line_fault}
 use Rattle.pipeline_language.proofs.PhraseLemmas.{AtEnd, Phrase, Found, NotUnknown, Enough}
 

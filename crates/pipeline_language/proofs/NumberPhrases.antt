@@ -6,10 +6,11 @@ use Rattle.std.specs.Fmt.{signed_decimal}
 use Rattle.std.proofs.lemmas.Bool.{cond_both, cond-true, false≢true, and_parts, and_from}
 use Rattle.std.proofs.lemmas.Float.{T_from_true}
 use Rattle.std.proofs.lemmas.Int.{ints}
-use Rattle.pipeline_language.specs.declared.fault.FileError.{FileError}
-use Rattle.pipeline_language.specs.Form.{Slot, Number, number, lowest, highest, NamesFit, WordsFit, all_known}
-use Rattle.pipeline_language.specs.Reading.{◌>>=◌, Left, next_word, next_number, next_natural, number_at, number_of, numbers_from, with_first, all_numbers}
-use Rattle.pipeline_language.proofs.NumberLemmas.{number_of_number, number_is, fits_bounds, bounds_fit}
+use Rattle.file_words.specs.declared.fault.FileError.{FileError}
+use Rattle.pipeline_language.specs.Form.{Slot, Number, number, NamesFit, WordsFit, all_known}
+use Rattle.file_words.specs.Words.{lowest, highest}
+use Rattle.file_words.specs.WordReading.{◌>>=◌, Left, next_word, next_number, next_natural, number_at, number_of, numbers_from, with_first, all_numbers}
+use Rattle.file_words.proofs.NumberLemmas.{number_of_number, number_is, fits_bounds, bounds_fit}
 use Rattle.pipeline_language.proofs.PhraseLemmas.{Anything, AtEnd, Found, NotUnknown, Enough, Spelled, Phrase, none_left}
 
 le_true : (a b : ℤ) → a ≤ℤ b → int_le a b ≡ true

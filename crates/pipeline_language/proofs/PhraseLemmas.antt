@@ -5,10 +5,11 @@ use Rattle.std.specs.Str.{bytes_eq}
 use Rattle.std.proofs.lemmas.Bool.{cond_both, and_from, and_parts}
 use Rattle.std.proofs.lemmas.List.{append_assoc, length-append}
 use Rattle.std.proofs.lemmas.Slice.Eq.{bytes_eq-Decides}
-use Rattle.pipeline_language.specs.declared.fault.FileError.{FileError}
-use Rattle.pipeline_language.specs.declared.fault.FileError.TheVariants.{UnknownWord, BadArity}
+use Rattle.file_words.specs.declared.fault.FileError.{FileError}
+use Rattle.file_words.specs.declared.fault.FileError.TheVariants.{UnknownWord, BadArity}
 use Rattle.pipeline_language.specs.Form.{Slot, Name, EitherName, NameFits, WordFits, NamesFit, WordsFit, all_known}
-use Rattle.pipeline_language.specs.Reading.{◌>>=◌, Left, Reader, ByName, next_word, nothing, both, named, made_of, unknown, by_name}
+use Rattle.file_words.specs.WordReading.{◌>>=◌, Left, Reader, next_word}
+use Rattle.pipeline_language.specs.Reading.{ByName, nothing, both, named, made_of, unknown, by_name}
 use Rattle.pipeline_language.proofs.FormLemmas.{name_of_word}
 
 -- what may follow a thing: anything, or nothing

@@ -5,9 +5,11 @@ use Rattle.std.specs.Int.Signed.{le_z_yes}
 use Rattle.std.proofs.lemmas.Bool.{false≢true}
 use Rattle.pipeline_language.specs.declared.version.Version.{Version}
 use Rattle.pipeline_language.specs.declared.version.Version.TheVariants.{One, Two}
-use Rattle.pipeline_language.specs.Form.{Name, EitherName, Number, AnyWord, number, divisor, natural, lowest, highest, all_known}
+use Rattle.pipeline_language.specs.Form.{Name, EitherName, Number, AnyWord, number, divisor, natural, all_known}
+use Rattle.file_words.specs.Words.{lowest, highest}
 use Rattle.pipeline_language.specs.Syntax.{Function, Add, Mul, Negate, Mod, Length, Itself, Condition, Less, Greater, Equals, Divisible, Empty, Starts, Longer, Base, CountItems, SumItems, Greatest, Least, FirstItem, ItemList, Joined, Inner, InnerBase, InnerMapped, InnerFiltered, Summary, OfBase, Mapped, Filtered, Grouped, Merge, KeepFirst, KeepLast, AddUp, KeepGreatest, KeepLeast, Expansion, Copies, Pieces, MapBy, FilterBy, ExpandBy, Distinct, Limit, Skip, TakeWhile, DropWhile, Sum, Product, Max, Min, Count, FindFirst, ToList, AllMatch, AnyMatch, NoneMatch, Joining, GroupBy, Partition, ToMap, ToMapStrict, Teeing, Origin, Range, Closed, Numbers, Lines, BodyLine, StageLine, TerminalLine, function_slots, condition_slots, base_slots, inner_slots, summary_slots, merge_slots, expansion_slots, body_slots, origin_slots, has_new_names, summary_known, body_known}
-use Rattle.pipeline_language.specs.Reading.{Left, ByName, next_number, next_natural, nothing, both, made_of, by_name}
+use Rattle.file_words.specs.WordReading.{Left, next_number, next_natural}
+use Rattle.pipeline_language.specs.Reading.{ByName, nothing, both, made_of, by_name}
 use Rattle.pipeline_language.specs.SyntaxReading.{function_names, function_of, condition_names, condition_of, base_names, base_of, inner_names, inner_of, nesting_summary_names, nesting_summary_of, summary_of, merge_names, merge_of, expansion_names, expansion_of, body_names, new_terminal_names, terminal_names, body_of, origin_names, origin_words, asking_names, collecting_names, stage_names}
 use Rattle.pipeline_language.proofs.PhraseLemmas.{Anything, AtEnd, Phrase, Knows, FoundAfter, nothing_phrase, both_phrase, unknown_found, name_found, either_found, made_of_found, name_knows, either_knows, by_one, by_either, made_of_knows, made_reader_knows, carried, by_name_phrase, at_end}
 use Rattle.pipeline_language.proofs.NumberPhrases.{number_phrase, natural_phrase, all_numbers_phrase}

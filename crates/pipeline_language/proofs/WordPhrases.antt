@@ -1,10 +1,10 @@
 -- Words that may be any.
 use Rattle.std.proofs.Common.{◌≡◌, ℕ, Bool, List, [], ◌∷◌, ◌++◌, length, Result, Ok, refl, sym, ap, subst, ◌∙◌, inr, arith}
 use Rattle.std.proofs.lemmas.List.{append-nil}
-use Rattle.pipeline_language.specs.declared.fault.FileError.{FileError}
+use Rattle.file_words.specs.declared.fault.FileError.{FileError}
 use Rattle.pipeline_language.specs.Form.{Slot, AnyWord, NamesFit, WordsFit, all_known}
 use Rattle.pipeline_language.specs.Syntax.{Joint, Plain, Within, joint_slots}
-use Rattle.pipeline_language.specs.Reading.{Left, next_word}
+use Rattle.file_words.specs.WordReading.{Left, next_word}
 use Rattle.pipeline_language.specs.SyntaxReading.{joint_of}
 use Rattle.pipeline_language.proofs.PhraseLemmas.{Anything, AtEnd, Found, NotUnknown, Enough, Spelled, Phrase}
 

@@ -1,20 +1,25 @@
 -- Reading a file, line by line.
 use Rattle.std.specs.Prelude.{◌≡◌, ℕ, zero, suc, ◌+◌, List, [], ◌∷◌, ◌++◌, length, nat_lt, Result, Ok, Err, if◌then◌else◌}
 use Rattle.std.specs.Str.{is_utf8, bytes_eq}
-use Rattle.pipeline_language.specs.declared.fault.FileError.{FileError}
-use Rattle.pipeline_language.specs.declared.fault.FileError.TheVariants.{BadText, TooLarge, BadVersion, MissingTerminal, AfterTerminal}
-use Rattle.pipeline_language.specs.declared.fault.FileFault.{FileFault}
-use Rattle.pipeline_language.specs.declared.fault.ReadError.{ReadError}
-use Rattle.pipeline_language.specs.declared.fault.ReadError.TheVariants as errors
-use Rattle.pipeline_language.specs.declared.fault.LineError.{LineError}
-use Rattle.pipeline_language.specs.declared.fault.LineError.TheVariants as line_errors
+use Rattle.file_words.specs.declared.fault.FileError.{FileError}
+use Rattle.file_words.specs.declared.fault.FileError.TheVariants.{BadText, TooLarge, BadVersion, MissingTerminal, AfterTerminal}
+use Rattle.file_words.specs.declared.fault.FileFault.{FileFault}
+use Rattle.file_words.specs.declared.fault.ReadError.{ReadError}
+use Rattle.file_words.specs.declared.fault.ReadError.TheVariants as errors
+use Rattle.file_words.specs.declared.fault.LineError.{LineError}
+use Rattle.file_words.specs.declared.fault.LineError.TheVariants as line_errors
 use Rattle.pipeline_language.specs.declared.version.Version.{Version}
 use Rattle.pipeline_language.specs.declared.version.Version.TheVariants.{One, Two}
+use Rattle.pipeline_language.specs.declared.kinds.NumberLine.{NumberLine}
+use Rattle.pipeline_language.specs.declared.kinds.TextLine.{TextLine}
+use Rattle.pipeline_language.specs.declared.line.Source.{Source}
 use Rattle.pipeline_language.specs.Content.{Body}
-use Rattle.pipeline_language.specs.Words.{lines_of}
-use Rattle.pipeline_language.specs.Syntax.{Origin, origins, text_count, Stage, BodyLine, StageLine, TerminalLine, Coming, after_stage, bodies, Program}
+use Rattle.pipeline_language.specs.Kinds.{number_line_content, text_line_content, source_content}
+use Rattle.file_words.specs.Words.{lines_of}
+use Rattle.pipeline_language.specs.Syntax.{Origin, origins, text_count, Stage, BodyLine, StageLine, TerminalLine, NumberKind, TextKind, Coming, comes, after_stage, bodies, Program}
 use Rattle.pipeline_language.specs.Language.{most_bytes, first_line, from_origin}
-use Rattle.pipeline_language.specs.Reading.{◌>>=◌, Left, line_of}
+use Rattle.file_words.specs.WordReading.{◌>>=◌, Left}
+use Rattle.pipeline_language.specs.Reading.{ReadAs, line_of}
 use Rattle.pipeline_language.specs.SyntaxReading.{body_of, origin_words}
 
 unfoldable pub version_of : List ℕ → Result Version FileError
@@ -101,6 +106,17 @@ abbrev pub LineReads : {X Y : Type 0} → (X → Y) → Result X LineError → R
 LineReads content (Ok x) read = read ≡ Ok (content x)
 LineReads content (Err line_errors.NoMemory) read = Unit {0}
 LineReads content (Err (line_errors.Fault kind)) read = read ≡ Err kind
+
+-- A source line, and a line over numbers or over texts with so many stages before it: what a function returned is what the line says, or
+-- its fault.
+abbrev pub ReadsSource : List ℕ → Result Source LineError → Type 0
+ReadsSource line result = LineReads source_content result (line_of origins origin_words line)
+
+abbrev pub ReadsNumberLine : Version → ℕ → List ℕ → Result NumberLine FileError → Type 0
+ReadsNumberLine version before line result = ReadAs number_line_content (line_of (bodies (comes version NumberKind before)) (body_of version) line) result
+
+abbrev pub ReadsTextLine : Version → ℕ → List ℕ → Result TextLine FileError → Type 0
+ReadsTextLine version before line result = ReadAs text_line_content (line_of (bodies (comes version TextKind before)) (body_of version) line) result
 
 -- the same of the words of a line, with what is left of them
 abbrev pub LineGets : {X Y : Type 0} → (X → Y) → Result (Y × Left) FileError → Result X LineError → Left → Type 0

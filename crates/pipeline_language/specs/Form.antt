@@ -1,9 +1,9 @@
 -- Forms of a line: which words a line has, and which fault it has where no form fits.
-use Rattle.std.specs.Prelude.{◌≡◌, ◌⊎◌, ℕ, ◌≤ℤ◌, ℤ, pos, negsuc, Bool, true, List, [], ◌∷◌, length, IsUtf8}
+use Rattle.std.specs.Prelude.{◌≡◌, ◌⊎◌, ℕ, ◌≤ℤ◌, ℤ, pos, Bool, true, List, [], ◌∷◌, length, IsUtf8}
 use Rattle.std.specs.Fmt.{signed_decimal}
-use Rattle.pipeline_language.specs.Words.{words_of}
-use Rattle.pipeline_language.specs.declared.fault.FileError.{FileError}
-use Rattle.pipeline_language.specs.declared.fault.FileError.TheVariants.{BadText, UnknownWord, BadArity, BadNumber, WrongKind}
+use Rattle.file_words.specs.Words.{lowest, highest, words_of}
+use Rattle.file_words.specs.declared.fault.FileError.{FileError}
+use Rattle.file_words.specs.declared.fault.FileError.TheVariants.{BadText, UnknownWord, BadArity, BadNumber, WrongKind}
 
 -- a place in a form: a name, either of two names, a number in a range, or any word
 pub data Slot : Type 0 where
@@ -11,12 +11,6 @@ pub data Slot : Type 0 where
   EitherName : List ℕ → List ℕ → Slot
   Number : ℤ → ℤ → ℤ → Slot
   AnyWord : List ℕ → Slot
-
-abbrev pub lowest : ℤ
-lowest = negsuc 9223372036854775807
-
-abbrev pub highest : ℤ
-highest = pos 9223372036854775807
 
 -- a number of any size that the language has; one that isn't negative; one that is positive
 abbrev pub number : ℤ → Slot

@@ -1,15 +1,15 @@
 -- Which things of a line the items take.
 use Rattle.std.specs.Prelude.{◌≡◌, Bool, true, false, ◌&&◌, Result, Ok, Err}
-use Rattle.pipeline_language.specs.declared.fault.FileError.{FileError}
-use Rattle.pipeline_language.specs.declared.fault.FileError.TheVariants.{WrongKind}
+use Rattle.file_words.specs.declared.fault.FileError.{FileError}
+use Rattle.file_words.specs.declared.fault.FileError.TheVariants.{WrongKind}
 use Rattle.pipeline_language.specs.declared.kinds.NumberLine.{NumberLine}
 use Rattle.pipeline_language.specs.declared.kinds.NumberLine.TheVariants as number_lines
 use Rattle.pipeline_language.specs.declared.kinds.TextLine.{TextLine}
 use Rattle.pipeline_language.specs.declared.kinds.TextLine.TheVariants as text_lines
 use Rattle.pipeline_language.specs.declared.pipeline.TextValue.{TextValue}
 use Rattle.pipeline_language.specs.declared.pipeline.TextValue.TheVariants as values
-use Rattle.pipeline_language.specs.declared.reading.Source.{Source}
-use Rattle.pipeline_language.specs.declared.reading.Source.TheVariants as sources
+use Rattle.pipeline_language.specs.declared.line.Source.{Source}
+use Rattle.pipeline_language.specs.declared.line.Source.TheVariants as sources
 use Rattle.pipeline_language.specs.Content.{number_origin, number_merge, number_stage, number_terminal, text_merge, text_stage, text_terminal}
 use Rattle.pipeline_language.specs.Syntax.{Origin, Lines, Function, Length, Itself, Merge, TextKind, MapBy, BodyLine, StageLine, TerminalLine, function_takes, merge_takes, value_kind}
 

@@ -1,11 +1,11 @@
 -- The pipeline language: which file means which pipeline, and which fault a file has.
 use Rattle.std.specs.Prelude.{◌≡◌, ◌⊎◌, ℕ, ◌+◌, ◌<◌, ◌≤◌, List, [], ◌∷◌, ◌++◌, length, IsUtf8, codes}
-use Rattle.pipeline_language.specs.declared.fault.FileError.{FileError}
-use Rattle.pipeline_language.specs.declared.fault.FileError.TheVariants.{BadText, TooLarge, BadVersion, MissingTerminal, AfterTerminal}
-use Rattle.pipeline_language.specs.declared.fault.FileFault.{FileFault}
+use Rattle.file_words.specs.declared.fault.FileError.{FileError}
+use Rattle.file_words.specs.declared.fault.FileError.TheVariants.{BadText, TooLarge, BadVersion, MissingTerminal, AfterTerminal}
+use Rattle.file_words.specs.declared.fault.FileFault.{FileFault}
 use Rattle.pipeline_language.specs.declared.version.Version.{Version}
 use Rattle.pipeline_language.specs.declared.version.Version.TheVariants.{One, Two}
-use Rattle.pipeline_language.specs.Words.{lines_of}
+use Rattle.file_words.specs.Words.{lines_of}
 use Rattle.pipeline_language.specs.Form.{IsLineOf, LineFault}
 use Rattle.pipeline_language.specs.Syntax.{Origin, origins, origin_kind, text_count, Stage, StageLine, TerminalLine, Coming, after_stage, bodies, Program}
 

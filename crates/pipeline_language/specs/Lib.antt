@@ -1,13 +1,10 @@
 pub mod Content
-pub mod Faults
 pub mod FileReading
 pub mod Form
 pub mod Kinds
 pub mod Language
 pub mod LineContent
-pub mod Pieces
 pub mod Reading
 pub mod Steps
 pub mod Syntax
 pub mod SyntaxReading
-pub mod Words

@@ -1,6 +1,6 @@
 -- What may stand in a file, each thing with its words, and the items that it takes.
 use Rattle.std.specs.Prelude.{ℕ, ◌+◌, ◌+ℤ◌, ◌-ℤ◌, ℤ, pos, Bool, true, false, ◌&&◌, nat_le, nat_lt, List, [], ◌∷◌, ◌++◌, map, codes}
-use Rattle.pipeline_language.specs.declared.fault.FileError.TheVariants.{RangeTooLong, TooManyStages}
+use Rattle.file_words.specs.declared.fault.FileError.TheVariants.{RangeTooLong, TooManyStages}
 use Rattle.pipeline_language.specs.declared.version.Version.{Version}
 use Rattle.pipeline_language.specs.declared.version.Version.TheVariants.{One, Two}
 use Rattle.pipeline_language.specs.Steps.{steps_up}
@@ -376,6 +376,10 @@ pub record Coming : Type 0 where
   pub version : Version
   pub kind : Kind
   pub stages : ℕ
+
+-- what comes to a line with so many stages before it
+abbrev pub comes : Version → Kind → ℕ → Coming
+comes version kind before = record { version = version; kind = kind; stages = before }
 
 -- what comes to the line after a stage
 abbrev pub after_stage : Coming → Stage → Coming

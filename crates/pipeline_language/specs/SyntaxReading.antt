@@ -1,11 +1,12 @@
 -- Readings of the things of a line: a name, and what follows it by that name.
 use Rattle.std.specs.Prelude.{ℕ, ℤ, pos, List, codes, Result, Ok, if◌then◌else◌}
-use Rattle.pipeline_language.specs.declared.fault.FileError.{FileError}
+use Rattle.file_words.specs.declared.fault.FileError.{FileError}
 use Rattle.pipeline_language.specs.declared.version.Version.{Version}
 use Rattle.pipeline_language.specs.declared.version.Version.TheVariants.{One, Two}
-use Rattle.pipeline_language.specs.Form.{lowest, highest}
+use Rattle.file_words.specs.Words.{lowest, highest}
 use Rattle.pipeline_language.specs.Syntax.{Function, Add, Mul, Negate, Mod, Length, Itself, Condition, Less, Greater, Equals, Divisible, Empty, Starts, Longer, Base, CountItems, SumItems, Greatest, Least, FirstItem, ItemList, Joined, Inner, InnerBase, InnerMapped, InnerFiltered, Summary, OfBase, Mapped, Filtered, Grouped, Merge, KeepFirst, KeepLast, AddUp, KeepGreatest, KeepLeast, Expansion, Copies, Pieces, MapBy, FilterBy, ExpandBy, Distinct, Limit, Skip, TakeWhile, DropWhile, Joint, Plain, Within, Sum, Product, Max, Min, Count, FindFirst, ToList, AllMatch, AnyMatch, NoneMatch, Joining, GroupBy, Partition, ToMap, ToMapStrict, Teeing, Origin, Range, Closed, Numbers, Lines, BodyLine, StageLine, TerminalLine}
-use Rattle.pipeline_language.specs.Reading.{◌>>=◌, Left, is_done, Reader, ByName, named, made_of, unknown, by_name, nothing, both, next_word, next_number, next_natural, all_numbers}
+use Rattle.file_words.specs.WordReading.{◌>>=◌, Left, is_done, Reader, next_word, next_number, next_natural, all_numbers}
+use Rattle.pipeline_language.specs.Reading.{ByName, named, made_of, unknown, by_name, nothing, both}
 
 abbrev pub any_number : Reader ℤ
 any_number = next_number lowest highest

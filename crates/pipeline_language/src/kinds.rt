@@ -7,29 +7,31 @@ ghost use Rattle.pipeline_language.specs.LineContent.{base_content, body_line_co
 ghost use Rattle.pipeline_language.specs.declared.syntax.BodyLine.TheVariants as body_lines;
 ghost use Rattle.pipeline_language.specs.Reading.{ReadAs, fitting};
 ghost use Rattle.pipeline_language.specs.declared.version.Version.{Version};
-ghost use Rattle.pipeline_language.specs.Syntax.{NumberKind, TextKind, base_takes, bodies, body_takes, condition_takes, function_takes, inner_takes, merge_takes, stage_takes, summary_takes, terminal_takes};
+ghost use Rattle.pipeline_language.specs.Syntax.{NumberKind, TextKind, base_takes, bodies, body_takes, comes, condition_takes, function_takes, inner_takes, merge_takes, stage_takes, summary_takes, terminal_takes};
 
-use crate::fault::FileError;
 use crate::pipeline::{
     NumberBase, NumberFunction, NumberInner, NumberMerge, NumberStage, NumberSummary,
     NumberTerminal, NumberTest, TextBase, TextFunction, TextInner, TextMerge, TextStage,
     TextSummary, TextTerminal, TextTest, TextValue,
 };
-use crate::reading::MOST_STAGES;
 use crate::syntax::{
     Base, BodyLine, Condition, Expansion, Function, Inner, Joint, Merge, Stage, Summary, Terminal,
 };
+use file_words::FileError;
+
+/// The most stage lines of a file.
+pub const MOST_STAGES: usize = 32;
 
 /// A line over numbers.
 #[derive(Clone, Copy)]
-pub(crate) enum NumberLine {
+pub enum NumberLine {
     Stage(NumberStage),
     Terminal(NumberTerminal),
 }
 
 /// A line over texts.
 #[derive(Clone, Copy)]
-pub(crate) enum TextLine<'a> {
+pub enum TextLine<'a> {
     Stage(TextStage<'a>),
     /// `map length`.
     Lengths,
@@ -38,7 +40,7 @@ pub(crate) enum TextLine<'a> {
 
 /// A line over numbers, with so many stages before it.
 pub(crate) fn number_line(line: BodyLine<'_>, before: usize) -> Result<NumberLine, FileError>
-    ensures { (version : Version) → ReadAs number_line_content (fitting (bodies (record { version = version; kind = NumberKind; stages = before })) (body_line_content line.entry)) result }
+    ensures { (version : Version) → ReadAs number_line_content (fitting (bodies (comes version NumberKind before)) (body_line_content line.entry)) result }
 {
     match line {
         BodyLine::Stage(stage) => {
@@ -57,7 +59,7 @@ pub(crate) fn number_line(line: BodyLine<'_>, before: usize) -> Result<NumberLin
 
 /// A line over texts, with so many stages before it.
 pub(crate) fn text_line(line: BodyLine<'_>, before: usize) -> Result<TextLine<'_>, FileError>
-    ensures { (version : Version) → ReadAs text_line_content (fitting (bodies (record { version = version; kind = TextKind; stages = before })) (body_line_content line.entry)) result }
+    ensures { (version : Version) → ReadAs text_line_content (fitting (bodies (comes version TextKind before)) (body_line_content line.entry)) result }
 {
     match line {
         BodyLine::Stage(stage) => {

@@ -1,20 +1,19 @@
-//! The language of pipeline files: what a file means, and its reader.
+//! The language of pipeline files: what a file means, and the reading of its lines.
 #![tactic(auto)]
 
-mod fault;
 mod kinds;
-mod lines;
-mod number;
+mod line;
+mod meaning;
 mod pipeline;
-mod reading;
 mod syntax;
 mod version;
-mod words;
 
-pub use fault::{FileError, FileFault, ReadError};
+pub use kinds::{MOST_STAGES, NumberLine, TextLine};
+pub use line::{Source, read_number_line, read_source, read_text_line, read_version};
+pub use meaning::one_reading;
 pub use pipeline::{
     NumberBase, NumberBody, NumberFunction, NumberInner, NumberMerge, NumberSource, NumberStage,
     NumberSummary, NumberTerminal, NumberTest, Pipeline, TextBase, TextBody, TextEnd, TextFunction,
     TextInner, TextMerge, TextStage, TextSummary, TextTerminal, TextTest, TextValue,
 };
-pub use reading::{MOST_BYTES, MOST_STAGES, one_reading, read_pipeline};
+pub use version::Version;

@@ -5,28 +5,28 @@ ghost use Rattle.std.specs.Prelude.{◌≡◌, ◌<◌, ◌-ℤ◌};
 ghost use Rattle.pipeline_language.specs.Steps.{steps_up};
 
 /// A whole pipeline. Texts borrow from the file's bytes.
-#[derive(Debug, Drop)]
+#[derive(Drop)]
 pub enum Pipeline<'a> {
     Numbers(NumberSource, NumberBody),
     Texts(Vec<&'a str>, TextBody<'a>),
 }
 
 /// Stages over numbers in their order, and what is made of their items.
-#[derive(Debug, Drop)]
+#[derive(Drop)]
 pub struct NumberBody {
     pub stages: Vec<NumberStage>,
     pub terminal: NumberTerminal,
 }
 
 /// Stages over texts in their order, and what follows them.
-#[derive(Debug, Drop)]
+#[derive(Drop)]
 pub struct TextBody<'a> {
     pub stages: Vec<TextStage<'a>>,
     pub end: TextEnd<'a>,
 }
 
 /// What follows stages over texts.
-#[derive(Debug, Drop)]
+#[derive(Drop)]
 pub enum TextEnd<'a> {
     Terminal(TextTerminal<'a>),
     /// `map length`: the texts' lengths, and what follows over numbers.
@@ -34,7 +34,7 @@ pub enum TextEnd<'a> {
 }
 
 /// Where numbers come from.
-#[derive(Debug, Drop)]
+#[derive(Drop)]
 pub enum NumberSource {
     /// `range A B`: A, A + 1, .., B - 1.
     Range(i64, i64),
@@ -45,7 +45,7 @@ pub enum NumberSource {
 }
 
 /// What one number is mapped to. Sums and products wrap.
-#[derive(Clone, Copy, Debug, PartialEq, Eq)]
+#[derive(Clone, Copy, PartialEq)]
 pub enum NumberFunction {
     Add(i64),
     Mul(i64),
@@ -57,7 +57,7 @@ pub enum NumberFunction {
 }
 
 /// What one text is mapped to.
-#[derive(Clone, Copy, Debug, PartialEq, Eq)]
+#[derive(Clone, Copy, PartialEq)]
 pub enum TextFunction {
     /// The number of its bytes.
     Length,
@@ -66,7 +66,7 @@ pub enum TextFunction {
 }
 
 /// What is asked of one number.
-#[derive(Clone, Copy, Debug, PartialEq, Eq)]
+#[derive(Clone, Copy, PartialEq)]
 pub enum NumberTest {
     Less(i64),
     Greater(i64),
@@ -76,7 +76,7 @@ pub enum NumberTest {
 }
 
 /// What is asked of one text.
-#[derive(Clone, Copy, Debug, PartialEq, Eq)]
+#[derive(Clone, Copy, PartialEq)]
 pub enum TextTest<'a> {
     Empty,
     Starts(&'a str),
@@ -85,7 +85,7 @@ pub enum TextTest<'a> {
 }
 
 /// A stage over numbers.
-#[derive(Clone, Copy, Debug, PartialEq, Eq)]
+#[derive(Clone, Copy, PartialEq)]
 pub enum NumberStage {
     Map(NumberFunction),
     Filter(NumberTest),
@@ -99,7 +99,7 @@ pub enum NumberStage {
 }
 
 /// A stage over texts that gives texts.
-#[derive(Clone, Copy, Debug, PartialEq, Eq)]
+#[derive(Clone, Copy, PartialEq)]
 pub enum TextStage<'a> {
     /// `map self`.
     MapItself,
@@ -116,7 +116,7 @@ pub enum TextStage<'a> {
 }
 
 /// What is made of numbers at once.
-#[derive(Clone, Copy, Debug, PartialEq, Eq)]
+#[derive(Clone, Copy, PartialEq)]
 pub enum NumberBase {
     /// `count`, or `counting`.
     Count,
@@ -128,7 +128,7 @@ pub enum NumberBase {
 }
 
 /// What is made of numbers inside another collector.
-#[derive(Clone, Copy, Debug, PartialEq, Eq)]
+#[derive(Clone, Copy, PartialEq)]
 pub enum NumberInner {
     Base(NumberBase),
     /// Of the values of the numbers.
@@ -138,7 +138,7 @@ pub enum NumberInner {
 }
 
 /// What is made of some of the numbers.
-#[derive(Clone, Copy, Debug, PartialEq, Eq)]
+#[derive(Clone, Copy, PartialEq)]
 pub enum NumberSummary {
     Base(NumberBase),
     /// Of the values of the numbers.
@@ -150,7 +150,7 @@ pub enum NumberSummary {
 }
 
 /// What is made of texts at once.
-#[derive(Clone, Copy, Debug, PartialEq, Eq)]
+#[derive(Clone, Copy, PartialEq)]
 pub enum TextBase<'a> {
     /// `count`, or `counting`.
     Count,
@@ -161,7 +161,7 @@ pub enum TextBase<'a> {
 }
 
 /// What is made of texts inside another collector.
-#[derive(Clone, Copy, Debug, PartialEq, Eq)]
+#[derive(Clone, Copy, PartialEq)]
 pub enum TextInner<'a> {
     Base(TextBase<'a>),
     /// `mapping length`: of the lengths of the texts.
@@ -173,7 +173,7 @@ pub enum TextInner<'a> {
 }
 
 /// What is made of some of the texts.
-#[derive(Clone, Copy, Debug, PartialEq, Eq)]
+#[derive(Clone, Copy, PartialEq)]
 pub enum TextSummary<'a> {
     Base(TextBase<'a>),
     /// `mapping length`: of the lengths of the texts.
@@ -187,7 +187,7 @@ pub enum TextSummary<'a> {
 }
 
 /// What becomes of two numbers of one key.
-#[derive(Clone, Copy, Debug, PartialEq, Eq)]
+#[derive(Clone, Copy, PartialEq)]
 pub enum NumberMerge {
     First,
     Last,
@@ -197,21 +197,21 @@ pub enum NumberMerge {
 }
 
 /// What becomes of two texts of one key.
-#[derive(Clone, Copy, Debug, PartialEq, Eq)]
+#[derive(Clone, Copy, PartialEq)]
 pub enum TextMerge {
     First,
     Last,
 }
 
 /// The value that a text has in a map, and what becomes of two values of one key.
-#[derive(Clone, Copy, Debug, PartialEq, Eq)]
+#[derive(Clone, Copy, PartialEq)]
 pub enum TextValue {
     Length(NumberMerge),
     Itself(TextMerge),
 }
 
 /// What is made of all the numbers.
-#[derive(Clone, Copy, Debug, PartialEq, Eq)]
+#[derive(Clone, Copy, PartialEq)]
 pub enum NumberTerminal {
     Sum,
     Product,
@@ -234,7 +234,7 @@ pub enum NumberTerminal {
 }
 
 /// What is made of all the texts.
-#[derive(Clone, Copy, Debug, PartialEq, Eq)]
+#[derive(Clone, Copy, PartialEq)]
 pub enum TextTerminal<'a> {
     Count,
     FindFirst,

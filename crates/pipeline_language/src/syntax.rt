@@ -2,13 +2,13 @@
 
 ghost use Rattle.std.specs.Prelude.{Result};
 ghost use Rattle.pipeline_language.specs.LineContent.{base_content, body_line_content, condition_content, expansion_content, function_content, inner_content, joint_content, merge_content, stage_line_content, summary_content, terminal_line_content};
-ghost use Rattle.pipeline_language.specs.Reading.{GetsAs, GetsNamed, ReadAs, whole};
+ghost use Rattle.file_words.specs.WordReading.{GetsAs};
+ghost use Rattle.pipeline_language.specs.Reading.{GetsNamed, ReadAs, whole};
 ghost use Rattle.pipeline_language.specs.SyntaxReading.{asking_names, base_names, base_of, body_of, collecting_names, condition_of, expansion_of, function_of, inner_of, joint_of, merge_of, nesting_summary_of, new_terminal_names, stage_names, summary_of, terminal_names};
-ghost use Rattle.pipeline_language.specs.Words.{words_of};
+ghost use Rattle.file_words.specs.Words.{words_of};
 
-use crate::fault::FileError;
 use crate::version::Version;
-use crate::words::Words;
+use file_words::{FileError, Words};
 
 /// A function of either kind.
 #[derive(Clone, Copy)]

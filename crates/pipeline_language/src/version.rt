@@ -2,7 +2,7 @@
 
 /// A version of the language. The second has all forms of the first, and some more.
 #[derive(Clone, Copy)]
-pub(crate) enum Version {
+pub enum Version {
     One,
     Two,
 }

@@ -4,7 +4,7 @@ use Rattle.std.proofs.Math.ListN.{replicate}
 use Rattle.std.specs.Ordering.{int_eq}
 use Rattle.stages.specs.Distinct.{distinct}
 use Rattle.barriers.specs.Whiles.{drop_while}
-use Rattle.pipeline_language.specs.Words.{words_of}
+use Rattle.file_words.specs.Words.{words_of}
 use Rattle.pipeline_language.specs.declared.pipeline.NumberStage.{NumberStage}
 use Rattle.pipeline_language.specs.declared.pipeline.NumberStage.TheVariants as numbers
 use Rattle.pipeline_language.specs.declared.pipeline.TextStage.{TextStage}

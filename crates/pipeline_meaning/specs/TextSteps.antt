@@ -5,7 +5,7 @@ use Rattle.std.proofs.Common.{sym, true≢false}
 use Rattle.std.specs.List.{list_all}
 use Rattle.std.specs.declared.cmp.Ordering.{Ordering}
 use Rattle.stages.specs.Flags.{KeepsSound}
-use Rattle.pipeline_language.specs.Words.{words_of}
+use Rattle.file_words.specs.Words.{words_of}
 use Rattle.pipeline_meaning.specs.Functions.{text_holds}
 use Rattle.pipeline_meaning.specs.Rows.{row_of, size_of}
 use Rattle.pipeline_meaning.specs.Walks.{images_after}

@@ -161,7 +161,7 @@ impl Test<i64> for NumberCheck {
 }
 
 /// What is asked of a text.
-#[derive(Clone, Copy, Debug)]
+#[derive(Clone, Copy)]
 pub struct TextCheck<'a> {
     pub test: TextTest<'a>,
 }
@@ -188,7 +188,7 @@ impl<T: Text> Test<T> for TextCheck<'_> {
 }
 
 /// What becomes of two numbers of one key.
-#[derive(Clone, Copy, Debug)]
+#[derive(Clone, Copy)]
 pub struct NumberMerging {
     pub merge: NumberMerge,
 }
@@ -219,7 +219,7 @@ impl Operator<i64> for NumberMerging {
 }
 
 /// What becomes of two texts of one key.
-#[derive(Clone, Copy, Debug)]
+#[derive(Clone, Copy)]
 pub struct TextMerging {
     pub merge: TextMerge,
 }

@@ -4,7 +4,7 @@ ghost use Rattle.std.specs.List.{HoldsAt, list_all};
 ghost use Rattle.std.specs.Ordering.{nat_cmp};
 ghost use Rattle.std.specs.Cmp.Lexicographic.{slice_cmp};
 ghost use Rattle.std.proofs.Math.ListN.{replicate};
-ghost use Rattle.pipeline_language.specs.Words.{words_of};
+ghost use Rattle.file_words.specs.Words.{words_of};
 ghost use Rattle.pipeline_meaning.specs.Rows.{row_of, size_of};
 ghost use Rattle.pipeline_meaning.specs.TextSteps.{text_images, text_step_images, walked_images, IsFewer, words_left, letters_left, is_map_step, only_maps, KeepsSound-text_steps};
 ghost use Rattle.pipeline_meaning.specs.Stages.{text_stage, text_stages, is_text_barrier, is_text_map};
@@ -17,7 +17,7 @@ use stages::{Operation, Sink, Stage, Test};
 use std::alloc::Global;
 
 /// One stage, prepared.
-#[derive(Clone, Copy, Debug)]
+#[derive(Clone, Copy)]
 enum TextStep<'a> {
     Itself,
     Filter(TextCheck<'a>),
@@ -51,7 +51,7 @@ impl<'a> TextStep<'a> {
 }
 
 /// Stages over texts up to the first that looks at more than one item, as one stage: a text walks through them.
-#[derive(Debug, Drop)]
+#[derive(Drop)]
 pub struct TextSteps<'a> {
     steps: Vec<TextStep<'a>>,
 }

@@ -3,8 +3,8 @@
 ghost use Rattle.parallel_streams.specs.Runs.{IsLawfulRun};
 
 use parallel_streams::Run;
-use pipeline_language::read_pipeline;
 use pipeline_meaning::SeededHashes;
+use pipeline_reader::read_pipeline;
 use pipeline_value::{ValueError, pipeline_value};
 use spliterator::NoMemory;
 use std::alloc::Global;

@@ -1,6 +1,6 @@
 use Rattle.std.proofs.Common.{◌+◌, ◌*◌, flat_map, length}
 use Rattle.std.proofs.Math.ListN.{replicate}
-use Rattle.pipeline_language.specs.Words.{words_of}
+use Rattle.file_words.specs.Words.{words_of}
 use Rattle.pipeline_meaning.specs.TextSteps.{text_images, words_left, letters_left}
 use Rattle.pipeline_meaning.proofs.text_steps.+feeding_texts.Given as goal
 

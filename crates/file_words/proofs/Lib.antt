@@ -1,0 +1,5 @@
+mod DigitLemmas
+mod LineLemmas
+pub mod NumberLemmas
+mod NumbersLemmas
+mod WordLemmas

@@ -1,0 +1,106 @@
+-- Cutting a file into lines.
+use Rattle.std.proofs.Common.{◌≡◌, ◌==◌, ℕ, suc, ◌+◌, ◌<◌, ◌≤◌, Bool, false, List, [], ◌∷◌, ◌++◌, length, take, drop, slice_index, get_or, All, le_refl, suc-le-suc, refl, subst, sym, ap, ◌∙◌, arith}
+use Rattle.std.specs.List.{slice_split}
+use Rattle.std.proofs.lemmas.Bool.{false_from_ne_true, eqb-true}
+use Rattle.std.proofs.lemmas.List.{take-append-drop, drop-drop, take_all, length-take, get_or-take, get_or-drop, length-drop}
+use Rattle.std.proofs.lemmas.List.Elements.{All-from_get_or}
+use Rattle.std.proofs.Math.Seq.{drop-cons}
+use Rattle.std.proofs.lemmas.List.Sums.{count_by-le-length}
+use Rattle.std.proofs.lemmas.List.Splits.{slice_split_none, slice_split_at, length-slice_split}
+use Rattle.std.specs.Prelude.{IsUtf8}
+use Rattle.std.specs.Str.{IsCharBoundary}
+use Rattle.std.proofs.lemmas.Str.{IsUtf8-drop, IsUtf8-take, IsCharBoundary-before_ascii, IsCharBoundary-after_ascii}
+use Rattle.file_words.specs.Words.{lines_of, without_empty_last, words_of}
+use Rattle.memchr.specs.Find.{Nowhere, NoneBefore, Passes, is_byte}
+
+abbrev is_end : ℕ → Bool
+is_end b = b == 10
+
+clear_front : (byte : ℕ) (bytes : List ℕ) (n : ℕ) → n ≤ length bytes → Nowhere (Passes (is_byte byte) bytes) 0 n → All (λ b. (b == byte) ≡ false) (take n bytes)
+clear_front byte bytes n within none =
+    All-from_get_or (λ b. (b == byte) ≡ false) (take n bytes) 0
+    (λ i l.
+    let below : i < n = omega (arith, length-take n bytes) in
+    ap (λ b. b == byte) (get_or-take n bytes i 0 below) ∙ false_from_ne_true _ (none i (omega arith) below))
+
+-- no such byte
+abbrev pub no_byte : ℕ → List ℕ → Type 0
+no_byte byte bytes = Nowhere (Passes (is_byte byte) bytes) 0 (length bytes)
+
+-- the first one
+abbrev pub first_byte : ℕ → ℕ → List ℕ → Type 0
+first_byte byte end bytes = NoneBefore (Passes (is_byte byte) bytes) 0 (length bytes) end × Passes (is_byte byte) bytes end
+
+-- where no such byte is, one piece
+uncut : (byte : ℕ) (bytes : List ℕ) → no_byte byte bytes → slice_split (λ b. b == byte) bytes ≡ bytes ∷ []
+uncut byte bytes none = slice_split_none (λ b. b == byte) bytes (subst (All (λ b. (b == byte) ≡ false)) (take_all (length bytes) bytes (le_refl _)) (clear_front byte bytes (length bytes) (le_refl _) none))
+
+suc-add : (n : ℕ) → suc n ≡ n + 1
+suc-add n = omega arith
+
+-- the piece in front of the first one, and the others
+cut_at : (byte : ℕ) (bytes : List ℕ) (end : ℕ) → first_byte byte end bytes → slice_split (λ b. b == byte) bytes ≡ take end bytes ∷ slice_split (λ b. b == byte) (drop (end + 1) bytes)
+cut_at byte bytes end first =
+    let parts : bytes ≡ take end bytes ++ slice_index bytes end ∷ drop (end + 1) bytes = sym (take-append-drop end bytes) ∙ ap (λ l. take end bytes ++ l) (drop-cons bytes end 0 first.0.high ∙ ap (λ n. slice_index bytes end ∷ drop n bytes) (suc-add end)) in
+    ap (slice_split (λ b. b == byte)) parts
+    ∙ slice_split_at (λ b. b == byte) (take end bytes) (slice_index bytes end) (drop (end + 1) bytes) (clear_front byte bytes end (omega (arith, first.0.high)) first.0.before) first.1
+
+-- the same with what stands behind it
+cut_behind : (byte : ℕ) (bytes behind rest : List ℕ) (end : ℕ) → first_byte byte end bytes → behind ≡ drop end bytes → rest ≡ drop 1 behind
+    → slice_split (λ b. b == byte) bytes ≡ take end bytes ∷ slice_split (λ b. b == byte) rest
+cut_behind byte bytes behind rest end first back left =
+    let rest_left : drop (end + 1) bytes ≡ rest = sym (left ∙ ap (drop 1) back ∙ drop-drop 1 end bytes) in
+    cut_at byte bytes end first ∙ ap (λ l. take end bytes ∷ slice_split (λ b. b == byte) l) rest_left
+
+-- the last line, which nothing ends
+pub line_alone : (bytes : List ℕ) → 0 < length bytes → no_byte 10 bytes → lines_of bytes ≡ bytes ∷ []
+line_alone [] some none = absurd (omega arith)
+line_alone (b ∷ bs) some none = ap without_empty_last (uncut 10 (b ∷ bs) none)
+
+cut_first : (line : List ℕ) (pieces : List (List ℕ)) → 0 < length pieces → without_empty_last (line ∷ pieces) ≡ line ∷ without_empty_last pieces
+cut_first line [] some = absurd (omega arith)
+cut_first [] (piece ∷ pieces) some = refl
+cut_first (b ∷ bs) (piece ∷ pieces) some = refl
+
+-- the first line, and what stands behind its end
+pub line_cut : (bytes line behind rest : List ℕ) (end : ℕ) → first_byte 10 end bytes → line ≡ take end bytes → behind ≡ drop end bytes → rest ≡ drop 1 behind → lines_of bytes ≡ line ∷ lines_of rest
+line_cut bytes line behind rest end first front back left =
+    ap without_empty_last (cut_behind 10 bytes behind rest end first back left)
+    ∙ cut_first (take end bytes) (slice_split is_end rest) (omega (arith, length-slice_split is_end rest)) ∙ ap (λ l. l ∷ lines_of rest) (sym front)
+
+-- the same of words and the spaces between them
+pub word_alone : (line : List ℕ) → no_byte 32 line → words_of line ≡ line ∷ []
+word_alone line none = uncut 32 line none
+
+pub word_cut : (line word behind rest : List ℕ) (end : ℕ) → first_byte 32 end line → word ≡ take end line → behind ≡ drop end line → rest ≡ drop 1 behind → words_of line ≡ word ∷ words_of rest
+word_cut line word behind rest end first front back left = cut_behind 32 line behind rest end first back left ∙ ap (λ w. w ∷ words_of rest) (sym front)
+
+plus_zero : (n : ℕ) → n + 0 ≡ n
+plus_zero n = omega arith
+
+-- a text may be cut behind the first such byte
+pub cut_is_boundary : (byte : ℕ) (bytes behind : List ℕ) (end : ℕ) → byte < 128 → IsUtf8 bytes → first_byte byte end bytes → behind ≡ drop end bytes → IsCharBoundary behind 1
+cut_is_boundary byte bytes behind end ascii text first back =
+    let at : slice_index bytes end ≡ byte = eqb-true _ _ first.1 in
+    let rest : IsUtf8 behind = subst IsUtf8 (sym back) (IsUtf8-drop bytes end text (IsCharBoundary-before_ascii bytes end first.0.high (omega (arith, at)))) in
+    let some : 0 < length behind = omega (arith, first.0.high, ap length back, length-drop end bytes) in
+    let head : get_or behind 0 0 ≡ get_or bytes (end + 0) 0 = ap (λ l. get_or l 0 0) back ∙ get_or-drop end bytes 0 0 in
+    IsCharBoundary-after_ascii behind 0 rest some (omega (arith, head ∙ ap (λ n. get_or bytes n 0) (plus_zero end), at))
+
+-- what is cut there is text
+pub cut_is_text : (byte : ℕ) (bytes line behind rest : List ℕ) (end : ℕ) → byte < 128 → IsUtf8 bytes → first_byte byte end bytes → line ≡ take end bytes → behind ≡ drop end bytes → rest ≡ drop 1 behind → IsUtf8 line × IsUtf8 rest
+cut_is_text byte bytes line behind rest end ascii text first front back left =
+    let at : slice_index bytes end ≡ byte = eqb-true _ _ first.1 in
+    let bound = IsCharBoundary-before_ascii bytes end first.0.high (omega (arith, at)) in
+    let later : IsUtf8 behind = subst IsUtf8 (sym back) (IsUtf8-drop bytes end text bound) in
+    (subst IsUtf8 (sym front) (IsUtf8-take bytes end text bound), subst IsUtf8 (sym left) (IsUtf8-drop behind 1 later (cut_is_boundary byte bytes behind end ascii text first back)))
+
+-- a file has no more lines than bytes, and one
+fewer : (pieces : List (List ℕ)) → length (without_empty_last pieces) ≤ length pieces
+fewer [] = le_refl 0
+fewer ([] ∷ []) = omega arith
+fewer ((b ∷ bs) ∷ []) = le_refl 1
+fewer (piece ∷ next ∷ pieces) = suc-le-suc (fewer (next ∷ pieces))
+
+pub line_count : (bytes : List ℕ) → length (lines_of bytes) ≤ length bytes + 1
+line_count bytes = omega (arith, fewer (slice_split is_end bytes), length-slice_split is_end bytes, count_by-le-length is_end bytes)

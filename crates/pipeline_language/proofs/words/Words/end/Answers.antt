@@ -1,7 +1,0 @@
-use Rattle.std.proofs.Common.{◌∙◌, ap, sym}
-use Rattle.pipeline_language.specs.Reading.{ended}
-use Rattle.pipeline_language.proofs.WordLemmas.{left_over}
-use Rattle.pipeline_language.proofs.words.Words.end.Goals as goal
-
-pub returns-then-is_some : goal.returns-then-is_some
-returns-then-is_some c = left_over c.self.inside.rest c.self.inside.good (sym c.is_some.ensures ∙ c.if-is_some.true) ∙ ap (λ left. ended left.words left.good) c.self.view_is

@@ -1,7 +1,0 @@
-use Rattle.std.proofs.Common.{◌∙◌, ap}
-use Rattle.pipeline_language.specs.Reading.{is_done}
-use Rattle.pipeline_language.proofs.WordLemmas.{is_empty}
-use Rattle.pipeline_language.proofs.words.Words.is_empty.Goals as goal
-
-pub returns : goal.returns
-returns c = is_empty c.self.inside.rest c.is_none.result c.is_none.ensures ∙ ap (λ left. is_done left.words) c.self.view_is

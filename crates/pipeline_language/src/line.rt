@@ -1,0 +1,120 @@
+//! Lines of a file, each read at its place.
+
+ghost use Rattle.std.specs.Prelude.{◌≡◌};
+ghost use Rattle.file_words.specs.Pieces.{piece_bytes};
+ghost use Rattle.file_words.specs.Words.{words_of};
+ghost use Rattle.pipeline_language.specs.FileReading.{LineGets, ReadsNumberLine, ReadsSource, ReadsTextLine, version_of};
+ghost use Rattle.pipeline_language.specs.Kinds.{number_line_content, source_content, text_line_content};
+ghost use Rattle.pipeline_language.specs.Reading.{ReadAs, form_of};
+ghost use Rattle.pipeline_language.specs.Syntax.{NumberKind, TextKind, bodies, comes};
+ghost use Rattle.pipeline_language.specs.SyntaxReading.{body_of, origin_words};
+
+use crate::kinds::{NumberLine, TextLine, number_line, text_line};
+use crate::pipeline::NumberSource;
+use crate::syntax::read_line;
+use crate::version::Version;
+use file_words::{FileError, LineError, Piece, Words};
+use std::alloc::Global;
+
+/// Where items come from: numbers of their own, or so many lines.
+#[derive(Drop)]
+pub enum Source {
+    Numbers(NumberSource),
+    Lines(u64),
+}
+
+/// The first line of a file.
+#[tactic(auto, unfolding(crate::specs::FileReading::version_of))]
+pub fn read_version(line: Piece<'_>) -> Result<Version, FileError>
+    ensures { result ≡ version_of (piece_bytes line.entry) }
+{
+    match line.text()? {
+        "pipeline 1" => Ok(Version::One),
+        "pipeline 2" => Ok(Version::Two),
+        _ => Err(FileError::BadVersion),
+    }
+}
+
+/// A source line, of a range that isn't too long.
+#[tactic(auto, unfolding(crate::specs::Reading::line_of, crate::specs::Reading::whole))]
+pub fn read_source(alloc: Global, line: Piece<'_>) -> Result<Source, LineError>
+    ensures { ReadsSource (piece_bytes line.entry) result }
+{
+    let mut words = Words::new(line.text()?);
+    let source = read_source_words(alloc, &mut words)?;
+    words.end()?;
+    match source {
+        Source::Numbers(source) if !source.is_within_limit() => {
+            Err(LineError::Fault(FileError::RangeTooLong))
+        }
+        source => Ok(source),
+    }
+}
+
+/// The words of a source.
+#[tactic(auto, unfolding(crate::specs::SyntaxReading::origin_words))]
+fn read_source_words(alloc: Global, words: &mut Words<'_>) -> Result<Source, LineError>
+    ensures { LineGets source_content (origin_words words.old) result words.new }
+{
+    match words.any()? {
+        "range" => Ok(Source::Numbers(NumberSource::Range(
+            words.number(i64::MIN, i64::MAX)?,
+            words.number(i64::MIN, i64::MAX)?,
+        ))),
+        "closed" => Ok(Source::Numbers(NumberSource::Closed(
+            words.number(i64::MIN, i64::MAX)?,
+            words.number(i64::MIN, i64::MAX)?,
+        ))),
+        "numbers" => Ok(Source::Numbers(NumberSource::Numbers(words.numbers(alloc)?))),
+        "lines" => Ok(Source::Lines(words.natural(1_000_000)?)),
+        _ => Err(LineError::Fault(FileError::UnknownWord)),
+    }
+}
+
+/// A line over texts, with so many stages before it.
+#[tactic(auto, unfolding(crate::specs::Reading::line_of))]
+pub fn read_text_line<'a>(
+    version: Version,
+    line: Piece<'a>,
+    before: usize,
+) -> Result<TextLine<'a>, FileError>
+    ensures { ReadsTextLine version before (piece_bytes line.entry) result }
+{
+    read_text_words(version, line.text()?, before)
+}
+
+/// All the words of such a line.
+fn read_text_words<'a>(
+    version: Version,
+    line: &'a str,
+    before: usize,
+) -> Result<TextLine<'a>, FileError>
+    ensures { ReadAs text_line_content (form_of (bodies (comes version TextKind before)) (body_of version) (words_of line.now)) result }
+{
+    match read_line(version, line) {
+        Ok(line) => text_line(line, before),
+        Err(e) => Err(e),
+    }
+}
+
+/// A line over numbers, with so many stages before it.
+#[tactic(auto, unfolding(crate::specs::Reading::line_of))]
+pub fn read_number_line(
+    version: Version,
+    line: Piece<'_>,
+    before: usize,
+) -> Result<NumberLine, FileError>
+    ensures { ReadsNumberLine version before (piece_bytes line.entry) result }
+{
+    read_number_words(version, line.text()?, before)
+}
+
+/// All the words of such a line.
+fn read_number_words(version: Version, line: &str, before: usize) -> Result<NumberLine, FileError>
+    ensures { ReadAs number_line_content (form_of (bodies (comes version NumberKind before)) (body_of version) (words_of line.now)) result }
+{
+    match read_line(version, line) {
+        Ok(line) => number_line(line, before),
+        Err(e) => Err(e),
+    }
+}

@@ -1,5 +1,0 @@
-//! The tests of `pipeline_language`.
-#![tactic(auto)]
-
-#[cfg(test)]
-mod tests;

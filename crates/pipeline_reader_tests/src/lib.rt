@@ -1,0 +1,5 @@
+//! The tests of `pipeline_reader`.
+#![tactic(auto)]
+
+#[cfg(test)]
+mod tests;

@@ -1,0 +1,191 @@
+//! Pipelines of numbers that are read.
+
+use super::first_wrong;
+use file_words::ReadError;
+use pipeline_language::{
+    NumberBase, NumberFunction, NumberMerge, NumberSource, NumberStage, NumberSummary,
+    NumberTerminal, NumberTest, Pipeline,
+};
+use pipeline_reader::read_pipeline;
+use std::alloc::{AllocError, Global};
+use std::test::Fail;
+
+/// Whether the file is a pipeline of the numbers with the stages and the terminal.
+fn is_of_numbers(
+    alloc: Global,
+    file: &[u8],
+    numbers: &[i64],
+    stages: &[NumberStage],
+    terminal: NumberTerminal,
+) -> Result<bool, AllocError> {
+    match read_pipeline(alloc, file) {
+        Ok(Pipeline::Numbers(source, body)) => {
+            let same_source =
+                matches!(&source, NumberSource::Numbers(read) if read.as_slice() == numbers);
+            Ok(same_source && body.stages.as_slice() == stages && body.terminal == terminal)
+        }
+        Ok(Pipeline::Texts(_texts, _body)) => Ok(false),
+        Err(ReadError::Fault(_)) => Ok(false),
+        Err(ReadError::NoMemory) => Err(AllocError),
+    }
+}
+
+#[test]
+fn reads_stages_over_numbers(rt: HostRuntime) -> Result<(), Fail> {
+    let file =
+        b"pipeline 1\nnumbers 5 -2 9223372036854775807\nmap add -3\nmap mul 2\nmap negate\nmap mod 7\nmap self\n\
+        filter less 1\nfilter greater 2\nfilter equals 3\nfilter divisible 4\nflatmap repeat 1000\ndistinct\nlimit 0\n\
+        skip 9223372036854775807\ntakewhile less 5\ndropwhile less 6\ntomap self negate last\n";
+    let stages = [
+        NumberStage::Map(NumberFunction::Add(-3)),
+        NumberStage::Map(NumberFunction::Mul(2)),
+        NumberStage::Map(NumberFunction::Negate),
+        NumberStage::Map(NumberFunction::Mod(7)),
+        NumberStage::Map(NumberFunction::Itself),
+        NumberStage::Filter(NumberTest::Less(1)),
+        NumberStage::Filter(NumberTest::Greater(2)),
+        NumberStage::Filter(NumberTest::Equals(3)),
+        NumberStage::Filter(NumberTest::Divisible(4)),
+        NumberStage::Repeat(1000),
+        NumberStage::Distinct,
+        NumberStage::Limit(0),
+        NumberStage::Skip(9_223_372_036_854_775_807),
+        NumberStage::TakeWhile(NumberTest::Less(5)),
+        NumberStage::DropWhile(NumberTest::Less(6)),
+    ];
+    let terminal = NumberTerminal::ToMap(
+        NumberFunction::Itself,
+        NumberFunction::Negate,
+        NumberMerge::Last,
+    );
+    assert!(rt; is_of_numbers(rt.alloc(), file, &[5, -2, i64::MAX], &stages, terminal)?);
+    Ok(())
+}
+
+/// Numbers at the ends of 64 bits, and words past them, with leading zeros, with signs, and empty.
+const WORDS: [(&[u8], &str); 14] = [
+    (b"numbers 9223372036854775808\nsum\n", "line 2: BAD_NUMBER"),
+    (b"numbers -9223372036854775809\nsum\n", "line 2: BAD_NUMBER"),
+    (
+        b"numbers 1 18446744073709551617\nsum\n",
+        "line 2: BAD_NUMBER",
+    ),
+    (b"numbers 00\nsum\n", "line 2: BAD_NUMBER"),
+    (b"numbers 007 1\nsum\n", "line 2: BAD_NUMBER"),
+    (b"numbers -0\nsum\n", "line 2: BAD_NUMBER"),
+    (b"numbers 1 - 2\nsum\n", "line 2: BAD_NUMBER"),
+    (b"numbers 1-2\nsum\n", "line 2: BAD_NUMBER"),
+    (b"numbers 1  2\nsum\n", "line 2: BAD_NUMBER"),
+    (b"numbers 1 \nsum\n", "line 2: BAD_NUMBER"),
+    (b"numbers \nsum\n", "line 2: BAD_NUMBER"),
+    (
+        b"numbers\nmap add 9223372036854775808\nsum\n",
+        "line 3: BAD_NUMBER",
+    ),
+    (b"numbers\nmap add -\nsum\n", "line 3: BAD_NUMBER"),
+    (b"numbers\nmap add -9223372036854775808\nsum\n", "read"),
+];
+
+#[test]
+fn reads_the_numbers_of_a_line(rt: HostRuntime) -> Result<(), Fail> {
+    let none = b"pipeline 1\nnumbers\nsum\n";
+    assert!(rt; is_of_numbers(rt.alloc(), none, &[], &[], NumberTerminal::Sum)?);
+    let ends = b"pipeline 1\nnumbers 9223372036854775807 0 -1 -9223372036854775808 1000\nsum\n";
+    let wanted = [
+        9_223_372_036_854_775_807,
+        0,
+        -1,
+        -9_223_372_036_854_775_808,
+        1000,
+    ];
+    assert!(rt; is_of_numbers(rt.alloc(), ends, &wanted, &[], NumberTerminal::Sum)?);
+    assert!(rt; first_wrong(rt.alloc(), b"pipeline 1\n", WORDS.as_slice())?.is_none());
+    Ok(())
+}
+
+/// The terminal of a pipeline over no numbers, of a version, whose last line is the given one.
+fn number_terminal(
+    alloc: Global,
+    version: u64,
+    line: &str,
+) -> Result<Option<NumberTerminal>, AllocError> {
+    let file = format!(in alloc; "pipeline {version}\nnumbers\n{line}\n")?;
+    match read_pipeline(alloc, file.as_bytes()) {
+        Ok(Pipeline::Numbers(_source, body)) => Ok(Some(body.terminal)),
+        Ok(Pipeline::Texts(_texts, _body)) => Ok(None),
+        Err(ReadError::Fault(_)) => Ok(None),
+        Err(ReadError::NoMemory) => Err(AllocError),
+    }
+}
+
+/// The first of the rows whose line isn't read as its terminal, or is read at all in a version that doesn't know it, by its place.
+pub(super) fn first_other(
+    alloc: Global,
+    version: u64,
+    is_known: bool,
+    rows: &[(&str, NumberTerminal)],
+) -> Result<Option<usize>, AllocError> {
+    for (index, (line, wanted)) in rows.iter().enumerate() {
+        let terminal = number_terminal(alloc, version, line)?;
+        if terminal != is_known.then_some(*wanted) {
+            return Ok(Some(index));
+        }
+    }
+    Ok(None)
+}
+
+const BELOW: NumberTest = NumberTest::Less(3);
+
+const ODD: NumberFunction = NumberFunction::Mod(2);
+
+/// Terminals that both versions have.
+const TERMINALS: [(&str, NumberTerminal); 16] = [
+    ("sum", NumberTerminal::Sum),
+    ("product", NumberTerminal::Product),
+    ("max", NumberTerminal::Max),
+    ("min", NumberTerminal::Min),
+    ("count", NumberTerminal::Count),
+    ("findfirst", NumberTerminal::FindFirst),
+    ("tolist", NumberTerminal::ToList),
+    ("allmatch less 3", NumberTerminal::AllMatch(BELOW)),
+    ("anymatch less 3", NumberTerminal::AnyMatch(BELOW)),
+    ("nonematch less 3", NumberTerminal::NoneMatch(BELOW)),
+    (
+        "groupby mod 2 counting",
+        NumberTerminal::GroupBy(ODD, NumberSummary::Base(NumberBase::Count)),
+    ),
+    (
+        "groupby mod 2 count",
+        NumberTerminal::GroupBy(ODD, NumberSummary::Base(NumberBase::Count)),
+    ),
+    (
+        "partition less 3 tolist",
+        NumberTerminal::Partition(BELOW, NumberSummary::Base(NumberBase::ToList)),
+    ),
+    (
+        "teeing sum first",
+        NumberTerminal::Teeing(
+            NumberSummary::Base(NumberBase::Sum),
+            NumberSummary::Base(NumberBase::First),
+        ),
+    ),
+    (
+        "teeing max min",
+        NumberTerminal::Teeing(
+            NumberSummary::Base(NumberBase::Max),
+            NumberSummary::Base(NumberBase::Min),
+        ),
+    ),
+    (
+        "tomap mod 2 mod 2 sum",
+        NumberTerminal::ToMap(ODD, ODD, NumberMerge::Sum),
+    ),
+];
+
+#[test]
+fn reads_terminals_of_numbers(rt: HostRuntime) -> Result<(), Fail> {
+    for version in [1, 2] {
+        assert!(rt; first_other(rt.alloc(), version, true, TERMINALS.as_slice())?.is_none());
+    }
+    Ok(())
+}
