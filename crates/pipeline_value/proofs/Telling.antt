@@ -16,15 +16,21 @@ use Rattle.pipeline_value.specs.declared.told.ValueError.{ValueError}
 use Rattle.pipeline_value.specs.Value.{Tells, number_body_told, number_told, text_end_told}
 use Rattle.pipeline_value.proofs.Stages.{numbers-cut, numbers-whole, texts-cut}
 
+-- what holds of what the stages behind a barrier make of the barrier's list holds of what all make of the items
+pub list-cut : (Q : List ℤ → Type 0) (stages : List NumberStage) (at : ℕ) (d : NumberStage) (items before kept : List ℤ) (through : List ℤ → List ℤ)
+    → at < length stages → before ≡ items → ((l : List ℤ) → through l ≡ number_stages (take at stages) l) → kept ≡ number_stage (slice_index_or stages at d) (through before)
+    → Q (number_stages (take (length stages - (at + 1)) (drop (at + 1) stages)) kept) → Q (number_stages stages items)
+list-cut Q stages at d items before kept through within same means is h =
+    let barrier = slice_index_or stages at d in
+    let rest = take (length stages - (at + 1)) (drop (at + 1) stages) in
+    let kept_is : kept ≡ number_stage barrier (number_stages (take at stages) items) = is ∙ ap (λ l. number_stage barrier (through l)) same ∙ ap (number_stage barrier) (means items) in
+    subst Q (sym (numbers-cut stages at d items within ∙ ap (number_stages rest) (sym kept_is))) h
+
 pub list-told : (terminal : NumberTerminal) (stages : List NumberStage) (at : ℕ) (d : NumberStage) (items before kept : List ℤ) (through : List ℤ → List ℤ) (r : Result (String Global) ValueError)
     → at < length stages → before ≡ items → ((l : List ℤ) → through l ≡ number_stages (take at stages) l) → kept ≡ number_stage (slice_index_or stages at d) (through before)
     → Tells (number_told terminal (number_stages (take (length stages - (at + 1)) (drop (at + 1) stages)) kept)) r → Tells (number_told terminal (number_stages stages items)) r
-list-told terminal stages at d items before kept through r within same means is h =
-    let barrier = slice_index_or stages at d in
-    let rest = take (length stages - (at + 1)) (drop (at + 1) stages) in
-    let Q : List ℤ → Type 0 = λ l. Tells (number_told terminal l) r in
-    let kept_is : kept ≡ number_stage barrier (number_stages (take at stages) items) = is ∙ ap (λ l. number_stage barrier (through l)) same ∙ ap (number_stage barrier) (means items) in
-    subst Q (sym (numbers-cut stages at d items within ∙ ap (number_stages rest) (sym kept_is))) h
+list-told terminal stages at d items before kept through r =
+    list-cut (λ l. Tells (number_told terminal l) r) stages at d items before kept through
 
 pub front-told : {X : Type 0} (terminal : NumberTerminal) (stages : List NumberStage) (at : ℕ) (items : List X) (front : X → List ℤ) (steps : ℤ → List ℤ) (r : Result (String Global) ValueError)
     → at ≡ length stages → ((l : List ℤ) → flat_map steps l ≡ number_stages (take at stages) l)

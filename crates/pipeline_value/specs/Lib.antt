@@ -3,6 +3,7 @@ pub mod ContentLaws
 pub mod DistinctLaws
 pub mod FitLaws
 pub mod Folds
+pub mod Fronts
 pub mod KnownSizes
 pub mod NumberContents
 pub mod Ranges

@@ -5,6 +5,7 @@ mod arranged;
 mod collected;
 mod distinct_items;
 mod folds;
+mod fronts;
 mod gather;
 mod known_size;
 mod maps;

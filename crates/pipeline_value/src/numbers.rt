@@ -13,7 +13,7 @@ use barriers::{DropWhile, Limit, Skip, TakeWhile};
 use parallel_streams::{Run, Stream, of};
 use pipeline_language::{NumberBody, NumberStage, NumberTerminal};
 use pipeline_meaning::{NumberCheck, NumberSteps, SeededHashes};
-use sources::SliceSplit;
+use sources::{RangeSplit, SliceSplit};
 use spliterator::{NoMemory, Spliterator};
 use stages::{Stage, Then};
 use std::alloc::Global;
@@ -88,6 +88,50 @@ pub(crate) fn list_value<R: Threads + Sync, H: Gate + Sync>(
     let kept = through_barrier(rt, alloc, hashes, source, &steps, &stages[taken], run)?;
     drop(items);
     list_value(rt, alloc, hashes, kept, &stages[taken + 1..], terminal, run)
+}
+
+/// What stages leave of a range.
+pub(crate) fn range_items<R: Threads + Sync, H: Gate + Sync>(
+    rt: &R,
+    alloc: Global,
+    hashes: SeededHashes,
+    range: RangeSplit,
+    stages: &[NumberStage],
+    run: &Run<'_, H>,
+) -> Result<Vec<i64>, NoMemory>
+    requires settings { IsLawfulRun run.now.workers run.now.target }
+    requires fits { All NumberStageFits stages.now }
+    ensures { IfOk result (λ kept. kept.items ≡ number_stages stages.now (⟦<RangeSplit as Spliterator>⟧.items range)) }
+{
+    let (steps, taken) = NumberSteps::front_of(alloc, stages)?;
+    if taken == stages.len() {
+        return gather(rt, alloc, range, &steps, &Skip::new(0), run);
+    }
+    let kept = through_barrier(rt, alloc, hashes, range, &steps, &stages[taken], run)?;
+    list_items(rt, alloc, hashes, kept, &stages[taken + 1..], run)
+}
+
+/// What stages leave of a list.
+fn list_items<R: Threads + Sync, H: Gate + Sync>(
+    rt: &R,
+    alloc: Global,
+    hashes: SeededHashes,
+    items: Vec<i64>,
+    stages: &[NumberStage],
+    run: &Run<'_, H>,
+) -> Result<Vec<i64>, NoMemory>
+    requires settings { IsLawfulRun run.now.workers run.now.target }
+    requires fits { All NumberStageFits stages.now }
+    ensures { IfOk result (λ kept. kept.items ≡ number_stages stages.now items.items) }
+{
+    let (steps, taken) = NumberSteps::front_of(alloc, stages)?;
+    let source = SliceSplit::new(items.as_slice());
+    if taken == stages.len() {
+        return gather(rt, alloc, source, &steps, &Skip::new(0), run);
+    }
+    let kept = through_barrier(rt, alloc, hashes, source, &steps, &stages[taken], run)?;
+    drop(items);
+    list_items(rt, alloc, hashes, kept, &stages[taken + 1..], run)
 }
 
 /// What a barrier leaves of a source's items behind a stage. Distinct items are hashed by `hashes`.

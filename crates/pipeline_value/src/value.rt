@@ -6,6 +6,7 @@ ghost use Rattle.sources.specs.Integers.{count_between, integers_between};
 ghost use Rattle.pipeline_value.specs.Ranges.{NumberBodyFits, NumberSourceFits, PipelineFits};
 ghost use Rattle.pipeline_value.specs.Value.{Tells, number_body_told, pipeline_told, source_numbers};
 
+use crate::fronts::front_value;
 use crate::known_size::known_count;
 use crate::narrowed::narrowed;
 use crate::numbers::{list_value, number_value};
@@ -86,7 +87,8 @@ fn source_value<R: Threads + Sync, H: Gate + Sync>(
     }
 }
 
-/// The text of the value of a body, over a range, which is narrowed by the limits and skips that look at no item.
+/// The text of the value of a body, over a range, which is narrowed by the limits and skips that look at no item, and of which a short front
+/// may be enough.
 fn narrowed_value<R: Threads + Sync, H: Gate + Sync>(
     rt: &R,
     alloc: Global,
@@ -100,6 +102,9 @@ fn narrowed_value<R: Threads + Sync, H: Gate + Sync>(
     ensures { Tells (number_body_told body (⟦<RangeSplit as Spliterator>⟧.items range)) result }
 {
     let range = narrowed(range, &mut body.stages);
+    if let Some(told) = front_value(rt, alloc, hashes, range, &body, run) {
+        return told;
+    }
     number_value(rt, alloc, hashes, range, Nothing::new(), &body, run)
 }
 

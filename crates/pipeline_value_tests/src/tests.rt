@@ -3,6 +3,7 @@
 
 mod answers;
 mod distinct;
+mod fronts;
 mod groups;
 mod known_sizes;
 mod numbers;

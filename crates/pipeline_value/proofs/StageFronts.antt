@@ -1,0 +1,133 @@
+-- What stages make of a front is a front of what they make of the whole.
+use Rattle.std.proofs.Common.{◌≡◌, ◌≤◌, Bool, true, false, ℕ, zero, suc, ℤ, List, [], ◌∷◌, ◌++◌, length, take, drop, map, flat_map, ap, refl, sym, subst, ◌<◌, ◌+◌, arith, ◌∙◌}
+use Rattle.std.specs.Prelude.{cond, not, filter, take_while, count_by}
+use Rattle.std.specs.List.{list_any, prefix_len, slice_index_or}
+use Rattle.std.specs.Global.{Global}
+use Rattle.std.specs.Prelude.{String, Result}
+use Rattle.std.specs.Ordering.{int_eq}
+use Rattle.std.proofs.lemmas.Grind.{flat_map-append}
+use Rattle.std.proofs.lemmas.List.Elements.{filter-append}
+use Rattle.std.proofs.lemmas.List.Sums.{take_while-cons}
+use Rattle.std.proofs.Math.ListN.{replicate}
+use Rattle.std.proofs.lemmas.List.{take-append-le, take-append-drop}
+use Rattle.barriers.specs.NeedLaws.{KeepsEnough-take_while}
+use Rattle.barriers.specs.Whiles.{drop_while}
+use Rattle.stages.specs.Distinct.{distinct, distinct_after}
+use Rattle.parallel_streams.specs.Meeting.{KeepsEnough-any, all-by-any}
+use Rattle.parallel_streams.specs.Terminals.{any_meets, all_meet}
+use Rattle.pipeline_language.specs.declared.pipeline.NumberStage.{NumberStage}
+use Rattle.pipeline_language.specs.declared.pipeline.NumberStage.TheVariants.{Map, Filter, Repeat, Distinct, Limit, Skip, TakeWhile, DropWhile}
+use Rattle.pipeline_language.specs.declared.pipeline.NumberTerminal.{NumberTerminal}
+use Rattle.pipeline_meaning.specs.Functions.{number_image, number_holds}
+use Rattle.pipeline_meaning.specs.Stages.{number_stage, number_stages}
+use Rattle.pipeline_value.specs.Fronts.{IsFrontOf}
+use Rattle.pipeline_value.specs.Value.{Tells, number_told}
+use Rattle.pipeline_value.specs.declared.told.ValueError.{ValueError}
+
+cons-front : {X : Type 0} (x : X) (front whole : List X) → IsFrontOf front whole → IsFrontOf (x ∷ front) (x ∷ whole)
+cons-front x front whole (rest, joins) = (rest, ap (λ l. x ∷ l) joins)
+
+map-front : {X Y : Type 0} (f : X → Y) (front rest : List X) → IsFrontOf (map f front) (map f (front ++ rest))
+map-front f [] rest = (map f rest, refl)
+map-front f (x ∷ front) rest = cons-front (f x) (map f front) (map f (front ++ rest)) (map-front f front rest)
+
+limit-front : {X : Type 0} (n : ℕ) (front rest : List X) → IsFrontOf (take n front) (take n (front ++ rest))
+limit-front zero front rest = ([], refl)
+limit-front (suc n) [] rest = (take (suc n) rest, refl)
+limit-front (suc n) (x ∷ front) rest = cons-front x (take n front) (take n (front ++ rest)) (limit-front n front rest)
+
+skip-front : {X : Type 0} (n : ℕ) (front rest : List X) → IsFrontOf (drop n front) (drop n (front ++ rest))
+skip-front zero front rest = (rest, refl)
+skip-front (suc n) [] rest = (drop (suc n) rest, refl)
+skip-front (suc n) (x ∷ front) rest = skip-front n front rest
+
+take_while-front : {X : Type 0} (p : X → Bool) (front rest : List X) → IsFrontOf (take_while p front) (take_while p (front ++ rest))
+take_while-front p [] rest = (take_while p rest, refl)
+take_while-front {X} p (x ∷ front) rest = rw (take_while-cons p x front, take_while-cons p x (front ++ rest)) (choice (p x) (take_while-front p front rest))
+  where
+    choice : (b : Bool) → IsFrontOf (take_while p front) (take_while p (front ++ rest)) → IsFrontOf (cond b (x ∷ take_while p front) []) (cond b (x ∷ take_while p (front ++ rest)) [])
+    choice true more = cons-front x (take_while p front) (take_while p (front ++ rest)) more
+    choice false more = ([], refl)
+
+next : (n : ℕ) → 1 + n ≡ suc n
+next n = omega arith
+
+drop_while-cons : {X : Type 0} (p : X → Bool) (x : X) (l : List X) → drop_while p (x ∷ l) ≡ cond (p x) (drop_while p l) (x ∷ l)
+drop_while-cons p x l = at (p x)
+  where
+    at : (b : Bool) → drop (cond b (1 + prefix_len p l) 0) (x ∷ l) ≡ cond b (drop_while p l) (x ∷ l)
+    at true = ap (λ n. drop n (x ∷ l)) (next (prefix_len p l))
+    at false = refl
+
+drop_while-front : {X : Type 0} (p : X → Bool) (front rest : List X) → IsFrontOf (drop_while p front) (drop_while p (front ++ rest))
+drop_while-front p [] rest = (drop_while p rest, refl)
+drop_while-front p (x ∷ front) rest = rw (drop_while-cons p x front, drop_while-cons p x (front ++ rest)) (choice (p x) (drop_while-front p front rest))
+  where
+    choice : (b : Bool) → IsFrontOf (drop_while p front) (drop_while p (front ++ rest)) → IsFrontOf (cond b (drop_while p front) (x ∷ front)) (cond b (drop_while p (front ++ rest)) (x ∷ front ++ rest))
+    choice true more = more
+    choice false more = (rest, refl)
+
+distinct-front : {X : Type 0} (same : X → X → Bool) (earlier front rest : List X) → IsFrontOf (distinct_after same earlier front) (distinct_after same earlier (front ++ rest))
+distinct-front same earlier [] rest = (distinct_after same earlier rest, refl)
+distinct-front {X} same earlier (x ∷ front) rest = choice (list_any (same x) earlier) (distinct-front same (earlier ++ x ∷ []) front rest)
+  where
+    first : List X
+    first = distinct_after same (earlier ++ x ∷ []) front
+
+    all : List X
+    all = distinct_after same (earlier ++ x ∷ []) (front ++ rest)
+
+    choice : (b : Bool) → IsFrontOf first all → IsFrontOf (cond b first (x ∷ first)) (cond b all (x ∷ all))
+    choice true more = more
+    choice false more = cons-front x first all more
+
+stage-front : (s : NumberStage) (front rest : List ℤ) → IsFrontOf (number_stage s front) (number_stage s (front ++ rest))
+stage-front (Map f) front rest = map-front (number_image f) front rest
+stage-front (Filter p) front rest = (filter (number_holds p) rest, filter-append (number_holds p) front rest)
+stage-front (Repeat n) front rest = (flat_map (replicate n) rest, flat_map-append (replicate n) front rest)
+stage-front Distinct front rest = distinct-front int_eq [] front rest
+stage-front (Limit n) front rest = limit-front n front rest
+stage-front (Skip n) front rest = skip-front n front rest
+stage-front (TakeWhile p) front rest = take_while-front (number_holds p) front rest
+stage-front (DropWhile p) front rest = drop_while-front (number_holds p) front rest
+
+pub stages-front : (stages : List NumberStage) (front whole : List ℤ) → IsFrontOf front whole → IsFrontOf (number_stages stages front) (number_stages stages whole)
+stages-front [] front whole is = is
+stages-front (s ∷ stages) front whole (rest, joins) =
+    subst (λ l. IsFrontOf (number_stages (s ∷ stages) front) (number_stages (s ∷ stages) l)) (sym joins) (stages-front stages (number_stage s front) (number_stage s (front ++ rest)) (stage-front s front rest))
+
+-- the end of a front that decides what is asked
+pub any-front : (p : ℤ → Bool) (front whole : List ℤ) → 1 ≤ count_by p front → IsFrontOf front whole → any_meets p whole ≡ any_meets p front
+any-front p front whole enough (rest, joins) = ap (any_meets p) joins ∙ KeepsEnough-any p front rest enough
+
+pub all-front : (p : ℤ → Bool) (front whole : List ℤ) → 1 ≤ count_by (λ x. not (p x)) front → IsFrontOf front whole → all_meet p whole ≡ all_meet p front
+all-front p front whole enough is = all-by-any p whole ∙ ap not (any-front (λ x. not (p x)) front whole enough is) ∙ sym (all-by-any p front)
+
+pub while-front : (p : ℤ → Bool) (front whole : List ℤ) → 1 ≤ count_by (λ x. not (p x)) front → IsFrontOf front whole → take_while p whole ≡ take_while p front
+while-front p front whole enough (rest, joins) = ap (take_while p) joins ∙ KeepsEnough-take_while p front rest enough
+
+pub least-front : (n : ℕ) (front whole : List ℤ) → n ≤ length front → IsFrontOf front whole → take n whole ≡ take n front
+least-front n front whole enough (rest, joins) = ap (take n) joins ∙ take-append-le n front rest enough
+
+-- where the first stage makes the same of two lists, so do all
+pub stages-decided : (stages : List NumberStage) (d s : NumberStage) (front whole : List ℤ) → 0 < length stages → s ≡ slice_index_or stages 0 d
+    → number_stage s whole ≡ number_stage s front → number_stages stages whole ≡ number_stages stages front
+stages-decided [] d s front whole within is same = absurd (omega arith)
+stages-decided (t ∷ stages) d s front whole within is same = ap (number_stages stages) (subst (λ u. number_stage u whole ≡ number_stage u front) is same)
+
+stages-append : (a b : List NumberStage) (l : List ℤ) → number_stages (a ++ b) l ≡ number_stages b (number_stages a l)
+stages-append [] b l = refl
+stages-append (s ∷ a) b l = stages-append a b (number_stage s l)
+
+-- what is told of a front that is enough is told of the whole
+pub told-by-front : (terminal : NumberTerminal) (stages before asking : List NumberStage) (size : ℕ) (whole items : List ℤ) (r : Result (String Global) ValueError)
+    → before ++ asking ≡ stages → items ≡ number_stages before (take size whole)
+    → ((l : List ℤ) → IsFrontOf items l → number_told terminal (number_stages asking l) ≡ number_told terminal (number_stages asking items))
+    → Tells (number_told terminal (number_stages asking items)) r → Tells (number_told terminal (number_stages stages whole)) r
+told-by-front terminal stages before asking size whole items r joins is enough told =
+    let front : IsFrontOf (number_stages before (take size whole)) (number_stages before whole) =
+    stages-front before (take size whole) whole (drop size whole, sym (take-append-drop size whole)) in
+    let begins : IsFrontOf items (number_stages before whole) = subst (λ l. IsFrontOf l (number_stages before whole)) (sym is) front in
+    let same : number_told terminal (number_stages stages whole) ≡ number_told terminal (number_stages asking items) =
+    ap (λ s. number_told terminal (number_stages s whole)) (sym joins) ∙ ap (number_told terminal) (stages-append before asking whole) ∙ enough (number_stages before whole) begins in
+    subst (λ t. Tells t r) (sym same) told

@@ -1,0 +1,6 @@
+use Rattle.pipeline_meaning.specs.Functions.{number_holds}
+use Rattle.pipeline_value.proofs.StageFronts.{least-front, while-front}
+use Rattle.pipeline_value.proofs.fronts.stage_decides.Goals as goal
+
+pub returns-in-TakeWhile : goal.returns-in-TakeWhile
+returns-in-TakeWhile c = λ hit whole is. rw c.in-TakeWhile.is (while-front (number_holds c.in-TakeWhile.test) c.args.items.now whole (c.some_fails.ensures hit) is)

@@ -1,0 +1,67 @@
+//! Long ranges of which a short front is enough, or isn't.
+
+use super::answers::all_told;
+use std::test::Fail;
+
+/// A front decides these. At target 1 the whole range has 65,536 leaves, and the fronts of all rows and the lists behind them fewer.
+const BY_FRONT: [(&str, &str); 6] = [
+    (
+        "range 0 1000000\nfilter divisible 3\ndistinct\nfindfirst",
+        "0",
+    ),
+    (
+        "range 0 1000000\nfilter divisible 3\nskip 2\nlimit 2\ntolist",
+        "[6, 9]",
+    ),
+    (
+        "range 0 1000000\nmap mod 7\ndistinct\ntakewhile less 3\nsum",
+        "3",
+    ),
+    (
+        "range 0 1000000\ndropwhile less 10\nanymatch equals 12",
+        "true",
+    ),
+    (
+        "range 0 1000000\ndropwhile less 10\nallmatch greater 10",
+        "false",
+    ),
+    (
+        "range 0 1000000\nfilter divisible 5\nskip 1\nnonematch equals 10",
+        "false",
+    ),
+];
+
+/// No front of 4,096 decides these.
+const BEHIND_FRONT: [(&str, &str); 6] = [
+    (
+        "range 0 4000000\ndropwhile less 100000\nfindfirst",
+        "100000",
+    ),
+    (
+        "range 0 1000000\ndropwhile less 500000\nfindfirst",
+        "500000",
+    ),
+    ("range 0 100000\ndropwhile less 100000\nfindfirst", "none"),
+    (
+        "range 0 100000\nmap mod 7\ndistinct\nanymatch greater 6",
+        "false",
+    ),
+    ("range 0 100000\nmap mod 7\ndistinct\nlimit 8\ncount", "7"),
+    (
+        "range 0 100000\nfilter divisible 3\nskip 30000\nlimit 2\ntolist",
+        "[90000, 90003]",
+    ),
+];
+
+#[test]
+fn a_front_is_enough(rt: HostRuntime) -> Result<(), Fail> {
+    let leaves = all_told(&rt, rt.alloc(), &BY_FRONT)?;
+    assert!(rt; leaves.most < 65_536);
+    Ok(())
+}
+
+#[test]
+fn a_front_in_vain_changes_nothing(rt: HostRuntime) -> Result<(), Fail> {
+    all_told(&rt, rt.alloc(), &BEHIND_FRONT)?;
+    Ok(())
+}
