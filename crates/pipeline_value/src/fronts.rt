@@ -20,11 +20,11 @@ use std::alloc::Global;
 use std::thread::Threads;
 use stealing_pool::Gate;
 
-/// The sizes of the fronts. The greatest is read by one worker in about a millisecond.
+/// The sizes of the fronts. One worker reads each, since threads take longer to start than they would save.
 const FRONTS: [u64; 2] = [1 << 12, 1 << 17];
 
 /// A front is read where the range is at least so many times longer, so that a front in vain costs little.
-const TIMES_LONGER: u64 = 16;
+const TIMES_LONGER: u64 = 64;
 
 /// The text of a body's value over a range, where a short front of the range decides it.
 ///
@@ -74,6 +74,11 @@ fn value_by_front<R: Threads + Sync, H: Gate + Sync>(
         return None;
     }
     let (before, asking) = body.stages.split_at(at);
+    let run = &Run {
+        workers: 1,
+        target: run.target,
+        gate: run.gate,
+    };
     let Ok(items) = range_items(rt, alloc, hashes, range.first(size), before, run) else {
         return Some(Err(ValueError::NoMemory));
     };

@@ -34,22 +34,22 @@ const BY_FRONT: [(&str, &str); 6] = [
 /// No front of 4,096 decides these.
 const BEHIND_FRONT: [(&str, &str); 6] = [
     (
-        "range 0 4000000\ndropwhile less 100000\nfindfirst",
+        "range 0 9000000\ndropwhile less 100000\nfindfirst",
         "100000",
     ),
     (
         "range 0 1000000\ndropwhile less 500000\nfindfirst",
         "500000",
     ),
-    ("range 0 100000\ndropwhile less 100000\nfindfirst", "none"),
+    ("range 0 300000\ndropwhile less 300000\nfindfirst", "none"),
     (
-        "range 0 100000\nmap mod 7\ndistinct\nanymatch greater 6",
+        "range 0 300000\nmap mod 7\ndistinct\nanymatch greater 6",
         "false",
     ),
-    ("range 0 100000\nmap mod 7\ndistinct\nlimit 8\ncount", "7"),
+    ("range 0 300000\nmap mod 7\ndistinct\nlimit 8\ncount", "7"),
     (
-        "range 0 100000\nfilter divisible 3\nskip 30000\nlimit 2\ntolist",
-        "[90000, 90003]",
+        "range 0 300000\nfilter divisible 3\nskip 90000\nlimit 2\ntolist",
+        "[270000, 270003]",
     ),
 ];
 
