@@ -1,4 +1,4 @@
-use Rattle.std.proofs.Common.{◌≡◌, ◌<◌, ◌≤◌, ◌-◌, ◌∙◌, ℕ, List, Some, ap, sym, subst, length, take, drop, arith}
+use Rattle.std.proofs.Common.{◌≡◌, ◌<◌, ◌≤◌, ◌-◌, ◌∙◌, ℕ, List, Some, ap, sym, subst, length, take, drop, arith, rules}
 use Rattle.std.specs.Prelude.{slice_get}
 use Rattle.std.proofs.lemmas.List.{length-drop, length-take-le}
 use Rattle.std.proofs.lemmas.Bool.Decides.{nat_tests}
@@ -90,3 +90,10 @@ combine_part-returns g t c =
     let on_left = stands_take work c.in_ok-kept.kept row c.split_off.new.self.items m (omega arith) start (subst L c.deref-3.ensures c.in_ok-kept.ensures.left) in
     let on_right = subst D tail (subst R c.deref-4.ensures c.in_ok-kept.ensures.right) in
     subst P (sym size) (stands_both work c.in_ok-kept.kept c.in_ok-kept.following c.combine.new.left row m n (some_leaf left) within on_left on_right c.in_ok-combine.ensures)
+
+-- bounded: a wrong body would search to its limit
+pub combine_both-returns-clause-left : goal.combine_both-returns-clause-left
+combine_both-returns-clause-left g t c = search rules fits 60 depth 3
+
+pub combine_both-returns-clause-right : goal.combine_both-returns-clause-right
+combine_both-returns-clause-right g t c = search rules fits 60 depth 3

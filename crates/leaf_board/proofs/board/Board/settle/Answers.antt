@@ -1,4 +1,4 @@
-use Rattle.std.proofs.Common.{◌^◌, ℕ, ◌≡◌, ◌+◌, min, inl, arith, ap, sym, ◌∙◌, subst, suc, List, ◌∷◌}
+use Rattle.std.proofs.Common.{◌^◌, ℕ, ◌≡◌, ◌+◌, min, inl, arith, rules, ap, sym, ◌∙◌, subst, suc, List, ◌∷◌}
 use Rattle.leaf_board.specs.Case.{sum_to, sum_below}
 use Rattle.leaf_board.specs.Knowledge.{Knowledge, known_count}
 use Rattle.barriers.specs.Needs.{need_of, IsBelow}
@@ -63,3 +63,7 @@ loop-at-preserved g c =
       sum = subst (λ n. c.add-sum.result ≡ min (sum_below (known_count c.look-word.new.seat.knows) n) 18446744073709551615) next s;
       none = none_more g.C.Case.case c.look-word.new.seat.knows c.loop-at.at none (λ h. let m = enough_means g.C.Case.case c.in-Reach.need _ e h in let small = subst (λ n. IsBelow (need_of n) (2 ^ 63)) c.in-Reach.is c.self.invariant.8 in omega arith);
     }
+
+-- bounded: a wrong body would search to its limit
+pub returns-clause-settles : goal.returns-clause-settles
+returns-clause-settles g c = search rules fits 60 depth 3
