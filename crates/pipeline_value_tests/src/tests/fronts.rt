@@ -7,7 +7,7 @@ use std::test::Fail;
 const BY_FRONT: [(&str, &str); 6] = [
     (
         "range 0 1000000\nfilter divisible 3\ndistinct\nfindfirst",
-        "0",
+        "Optional[0]",
     ),
     (
         "range 0 1000000\nfilter divisible 3\nskip 2\nlimit 2\ntolist",
@@ -31,22 +31,16 @@ const BY_FRONT: [(&str, &str); 6] = [
     ),
 ];
 
-/// No front of 4,096 decides these.
-const BEHIND_FRONT: [(&str, &str); 6] = [
+/// The first front doesn't decide these; the second decides one of them.
+const BEHIND_FRONT: [(&str, &str); 3] = [
     (
-        "range 0 9000000\ndropwhile less 100000\nfindfirst",
-        "100000",
+        "range 0 9000000\ndropwhile less 5000\nfindfirst",
+        "Optional[5000]",
     ),
-    (
-        "range 0 1000000\ndropwhile less 500000\nfindfirst",
-        "500000",
-    ),
-    ("range 0 300000\ndropwhile less 300000\nfindfirst", "none"),
     (
         "range 0 300000\nmap mod 7\ndistinct\nanymatch greater 6",
         "false",
     ),
-    ("range 0 300000\nmap mod 7\ndistinct\nlimit 8\ncount", "7"),
     (
         "range 0 300000\nfilter divisible 3\nskip 90000\nlimit 2\ntolist",
         "[270000, 270003]",
@@ -61,7 +55,7 @@ fn a_front_is_enough(rt: HostRuntime) -> Result<(), Fail> {
 }
 
 #[test]
-fn a_front_in_vain_changes_nothing(rt: HostRuntime) -> Result<(), Fail> {
+fn a_front_in_vain_is_read_on(rt: HostRuntime) -> Result<(), Fail> {
     all_told(&rt, rt.alloc(), &BEHIND_FRONT)?;
     Ok(())
 }
