@@ -10,3 +10,6 @@ returns-clause-steps g c = search rules fits 60 depth 3
 
 pub returns-clause-drained : goal.returns-clause-drained
 returns-clause-drained g c = search rules fits 60 depth 3
+
+pub loop-passed-init : goal.loop-passed-init
+loop-passed-init g c = search rules fits 60 depth 3

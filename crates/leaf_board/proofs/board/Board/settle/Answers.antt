@@ -67,3 +67,6 @@ loop-at-preserved g c =
 -- bounded: a wrong body would search to its limit
 pub returns-clause-settles : goal.returns-clause-settles
 returns-clause-settles g c = search rules fits 60 depth 3
+
+pub returns-clause-first : goal.returns-clause-first
+returns-clause-first g c = search rules fits 60 depth 3
