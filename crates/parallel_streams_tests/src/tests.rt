@@ -20,9 +20,27 @@ mod strict;
 mod texts;
 mod words;
 
-/// The targets that each row runs at: a leaf an item, and the default.
-const TARGETS: [u64; 2] = [1, 0];
+use parallel_streams::Run;
+use stealing_pool::NoGate;
 
-/// The numbers of workers that each row runs with at each target. Requests for memory are refused in turn by checks/refused_tests.py, which
-/// stops at a test's first 1,000: mostly those of the first number.
-const WORKERS: [u32; 4] = [1, 7, 2, 64];
+/// The workers and the target of each row: at target 1 there is a leaf an item, and 0 is the default. Requests for memory are refused in turn by
+/// checks/refused_tests.py, which stops at a test's first 1,000: mostly those of the first setting.
+const SETTINGS: [(u32, u64); 8] = [
+    (1, 1),
+    (7, 1),
+    (2, 1),
+    (64, 1),
+    (1, 0),
+    (7, 0),
+    (2, 0),
+    (64, 0),
+];
+
+/// A run at a setting, which holds nobody.
+fn at((workers, target): (u32, u64)) -> Run<'static, NoGate> {
+    Run {
+        workers,
+        target,
+        gate: &NoGate,
+    }
+}

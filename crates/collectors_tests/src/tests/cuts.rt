@@ -48,61 +48,57 @@ fn right_first<C: Collector>(
     finish_container(collector, whole)
 }
 
-/// Checks the text of a result.
-fn check_text<R: Shown + Drop>(
-    rt: &impl Abort,
-    alloc: Global,
-    value: R,
-    expected: &str,
-) -> Result<(), Fail> {
-    let text = text_of(alloc, &value)?;
-    assert_eq!(rt; text.as_str(), expected);
-    Ok(())
+/// Whether this is the text of a result.
+fn has_text<R: Shown + Drop>(alloc: Global, value: R, wanted: &str) -> Result<bool, NoMemory> {
+    Ok(text_of(alloc, &value)?.as_str() == wanted)
 }
 
-/// Checks the result on a list whose first part is `left`, the rest being cut in every two parts.
-fn check_parts<C: Collector>(
-    rt: &impl Abort,
+/// Whether this is the result on a list whose first part is `left`, the rest being cut in every two parts.
+fn parts_give<C: Collector>(
     alloc: Global,
     collector: &C,
-    parts: (&[C::Item], &[C::Item]),
-    expected: &str,
-) -> Result<(), Fail>
+    left: &[C::Item],
+    rest: &[C::Item],
+    wanted: &str,
+) -> Result<bool, NoMemory>
 where
     C::Out: Shown,
     requires { C.ready collector.now }
 {
-    let (left, rest) = parts;
     for cut in 0..=rest.len() {
         let (middle, right) = rest.split_at(cut);
-        let result = left_first(collector, left, middle, right)?;
-        check_text(rt, alloc, result, expected)?;
-        let result = right_first(collector, left, middle, right)?;
-        check_text(rt, alloc, result, expected)?;
+        let first = left_first(collector, left, middle, right)?;
+        let second = right_first(collector, left, middle, right)?;
+        if !has_text(alloc, first, wanted)? || !has_text(alloc, second, wanted)? {
+            return Ok(false);
+        }
     }
-    Ok(())
+    Ok(true)
 }
 
-/// Checks the result on a list: folded on one thread, taken in as a block, and by all ways of cutting it in up to three parts. Empty parts are among them.
-fn check_row<C: Collector>(
-    rt: &impl Abort,
+/// Whether this is the result on a list: folded on one thread, taken in as a block, and by all ways of cutting it in up to three parts.
+/// Empty parts are among them.
+fn gives<C: Collector>(
     alloc: Global,
     collector: &C,
     items: &[C::Item],
-    expected: &str,
-) -> Result<(), Fail>
+    wanted: &str,
+) -> Result<bool, NoMemory>
 where
     C::Out: Shown,
     requires { C.ready collector.now }
 {
-    check_text(rt, alloc, collect(collector, items)?, expected)?;
+    for cut in 0..=items.len() {
+        let (left, rest) = items.split_at(cut);
+        if !parts_give(alloc, collector, left, rest, wanted)? {
+            return Ok(false);
+        }
+    }
     let mut block = collector.supply()?;
     collector.accumulate_all(&mut block, items)?;
-    check_text(rt, alloc, collector.finish(block)?, expected)?;
-    for cut in 0..=items.len() {
-        check_parts(rt, alloc, collector, items.split_at(cut), expected)?;
-    }
-    Ok(())
+    let of_block = collector.finish(block)?;
+    let at_once = collect(collector, items)?;
+    Ok(has_text(alloc, of_block, wanted)? && has_text(alloc, at_once, wanted)?)
 }
 
 /// Checks the results on lists, each beside the result that is wanted.
@@ -116,8 +112,8 @@ where
     C::Out: Shown,
     requires { C.ready collector }
 {
-    for row in rows {
-        check_row(rt, alloc, &collector, row.0, row.1)?;
+    for (items, wanted) in rows {
+        assert!(rt; gives(alloc, &collector, items, wanted)?, "{wanted}");
     }
     Ok(())
 }

@@ -40,28 +40,33 @@ impl Shown for String {
     }
 }
 
+/// Appends the text of a value between two texts.
+fn append<R: Shown>(
+    alloc: Global,
+    text: &mut String,
+    before: &str,
+    value: &R,
+    after: &str,
+) -> Result<(), NoMemory> {
+    text.push_str(before)?;
+    value.show(alloc, text)?;
+    text.push_str(after)?;
+    Ok(())
+}
+
 impl<A: Shown, B: Shown> Shown for (A, B) {
     fn show(&self, alloc: Global, text: &mut String) -> Result<(), NoMemory> {
-        text.push_str("(")?;
-        self.0.show(alloc, text)?;
-        text.push_str(", ")?;
-        self.1.show(alloc, text)?;
-        text.push_str(")")?;
-        Ok(())
+        append(alloc, text, "(", &self.0, ", ")?;
+        append(alloc, text, "", &self.1, ")")
     }
 }
 
 impl<R: Shown> Shown for Option<R> {
     fn show(&self, alloc: Global, text: &mut String) -> Result<(), NoMemory> {
         match self {
-            Some(value) => {
-                text.push_str("Optional[")?;
-                value.show(alloc, text)?;
-                text.push_str("]")?;
-            }
-            None => text.push_str("Optional.empty")?,
+            Some(value) => append(alloc, text, "Optional[", value, "]"),
+            None => "Optional.empty".show(alloc, text),
         }
-        Ok(())
     }
 }
 
@@ -69,23 +74,17 @@ impl<R: Shown> Shown for Vec<R> {
     fn show(&self, alloc: Global, text: &mut String) -> Result<(), NoMemory> {
         let mut between = "[";
         for item in self {
-            text.push_str(between)?;
-            item.show(alloc, text)?;
+            append(alloc, text, between, item, "")?;
             between = ", ";
         }
-        text.push_str(if self.is_empty() { "[]" } else { "]" })?;
-        Ok(())
+        (if self.is_empty() { "[]" } else { "]" }).show(alloc, text)
     }
 }
 
 impl<R: Shown> Shown for Partition<R> {
     fn show(&self, alloc: Global, text: &mut String) -> Result<(), NoMemory> {
-        text.push_str("{false=")?;
-        self.no.show(alloc, text)?;
-        text.push_str(", true=")?;
-        self.yes.show(alloc, text)?;
-        text.push_str("}")?;
-        Ok(())
+        append(alloc, text, "{false=", &self.no, ", true=")?;
+        append(alloc, text, "", &self.yes, "}")
     }
 }
 
@@ -93,14 +92,11 @@ impl<K: Shown + Eq + Hash, V: Shown, S: BuildHasher> Shown for IndexMap<K, V, S>
     fn show(&self, alloc: Global, text: &mut String) -> Result<(), NoMemory> {
         let mut between = "{";
         for (key, value) in self.iter() {
-            text.push_str(between)?;
-            key.show(alloc, text)?;
-            text.push_str("=")?;
+            append(alloc, text, between, key, "=")?;
             value.show(alloc, text)?;
             between = ", ";
         }
-        text.push_str(if self.is_empty() { "{}" } else { "}" })?;
-        Ok(())
+        (if self.is_empty() { "{}" } else { "}" }).show(alloc, text)
     }
 }
 
@@ -108,10 +104,7 @@ impl<M: Shown, K: Shown> Shown for Result<M, DuplicateKey<K>> {
     fn show(&self, alloc: Global, text: &mut String) -> Result<(), NoMemory> {
         match self {
             Ok(map) => map.show(alloc, text),
-            Err(duplicate) => {
-                text.push_str("duplicate key ")?;
-                duplicate.key.show(alloc, text)
-            }
+            Err(duplicate) => append(alloc, text, "duplicate key ", &duplicate.key, ""),
         }
     }
 }

@@ -50,6 +50,6 @@ fn strict_maps_of_groups(rt: HostRuntime) -> Result<(), Fail> {
 #[test]
 fn a_duplicate_key_has_a_text(rt: HostRuntime) -> Result<(), Fail> {
     let text = format!(in rt.alloc(); "{}", DuplicateKey { key: 3 })?;
-    assert_eq!(rt; text.as_str(), "duplicate key 3");
+    assert!(rt; text.as_str() == "duplicate key 3");
     Ok(())
 }

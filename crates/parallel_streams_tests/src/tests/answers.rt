@@ -7,7 +7,7 @@ use super::functions::Itself;
 use collectors::{Collector, SummingLong, ToList};
 use parallel_streams::{Run, Stream, StreamError, of};
 use sources::{RangeSplit, SliceSplit};
-use stages::{Mapping, Operator, Test};
+use stages::Operator;
 use std::alloc::Global;
 use std::process::Abort;
 use std::thread::Threads;
@@ -99,46 +99,6 @@ where
     of(SliceSplit::new(numbers)).collect(rt, rt.alloc(), run, collector)
 }
 
-/// The images of numbers that meet a test.
-pub fn images_meeting<
-    R: Threads + Alloc<A = Global> + Sync,
-    X: Stream<Item = i64> + Drop + Sync,
-    M: Mapping<i64, Out = i64> + Drop + Send + Sync,
-    P: Test<i64> + Drop + Send + Sync,
->(rt: &R, run: &Run<'_, NoGate>, numbers: X, mapping: M, test: P) -> Result<Vec<i64>, StreamError>
-where
-    X::Progress: Send + Sync,
-    X::Part: Send,
-    requires numbers { X.ready numbers }
-    requires mapping { M.ready mapping }
-    requires test { P.ready test }
-{
-    listed(rt, run, &numbers.map(mapping).filter(test))
-}
-
-/// The first image of numbers that meets a test.
-pub fn first_image<
-    R: Threads + Alloc<A = Global> + Sync,
-    X: Stream<Item = i64> + Drop + Sync,
-    M: Mapping<i64, Out = i64> + Drop + Send + Sync,
-    P: Test<i64> + Drop + Send + Sync,
->(
-    rt: &R,
-    run: &Run<'_, NoGate>,
-    numbers: X,
-    mapping: M,
-    test: P,
-) -> Result<Option<i64>, StreamError>
-where
-    X::Progress: Send + Sync,
-    X::Part: Send,
-    requires numbers { X.ready numbers }
-    requires mapping { M.ready mapping }
-    requires test { P.ready test }
-{
-    first_of(rt, run, &numbers.map(mapping).filter(test))
-}
-
 /// The first items of a stream, and what each run tells of its leaves.
 pub fn limited<
     R: Threads + Alloc<A = Global> + Sync,
@@ -191,10 +151,10 @@ pub fn joined<R: Threads + Alloc<A = Global> + Sync, O: Operator<i64> + Sync>(
 
 /// Checks a list of numbers.
 pub fn check_list(rt: &impl Abort, found: &[i64], wanted: &[i64]) {
-    assert_eq!(rt; found, wanted);
+    assert!(rt; found == wanted, "{found:?}");
 }
 
 /// Checks a number, or that there is none.
 pub fn check_value(rt: &impl Abort, found: Option<i64>, wanted: Option<i64>) {
-    assert_eq!(rt; found, wanted);
+    assert!(rt; found == wanted, "{found:?}");
 }

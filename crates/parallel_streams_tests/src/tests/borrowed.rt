@@ -2,7 +2,7 @@
 
 use super::answers::{check_list, limited};
 use super::functions::Below;
-use super::{TARGETS, WORKERS};
+use super::{SETTINGS, at};
 use parallel_streams::{Run, Stream, StreamError, of};
 use sources::SliceSplit;
 use std::alloc::Global;
@@ -31,19 +31,13 @@ fn count_of_words<'a, R: Threads + Alloc<A = Global> + Sync>(
 
 #[test]
 fn barriers_behind_what_is_borrowed(rt: HostRuntime) -> Result<(), Fail> {
-    for workers in WORKERS {
-        for target in TARGETS {
-            let run = Run {
-                workers,
-                target,
-                gate: &NoGate,
-            };
-            let pair = second_and_third(&rt, &run, &[4, 15, 8, 16, 2, 3])?;
-            check_list(&rt, &pair, &[8, 2]);
-            // the size of the source is known, and that of its words that differ is not
-            let words = count_of_words(&rt, &run, &["b", "a", "b", "c", "a"])?;
-            assert!(rt; words == 3);
-        }
+    for setting in SETTINGS {
+        let run = at(setting);
+        let pair = second_and_third(&rt, &run, &[4, 15, 8, 16, 2, 3])?;
+        check_list(&rt, &pair, &[8, 2]);
+        // the size of the source is known, and that of its words that differ is not
+        let words = count_of_words(&rt, &run, &["b", "a", "b", "c", "a"])?;
+        assert!(rt; words == 3);
     }
     Ok(())
 }

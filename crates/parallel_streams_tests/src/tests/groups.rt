@@ -2,9 +2,9 @@
 ghost use Rattle.spliterator.specs.Values.{IsI64};
 ghost use Rattle.stages.specs.Operators.{IsAssociative};
 
-use super::answers::{check_list, check_value, collected};
+use super::answers::collected;
 use super::functions::{Above, Both, Itself, Parity, Times};
-use super::{TARGETS, WORKERS};
+use super::{SETTINGS, at};
 use collectors::{
     Collector, Counting, FilteringTo, First, GroupingBy, MappingTo, Partition, PartitioningBy,
     Reducing, SummingLong, Teeing, ToList, ToMap,
@@ -18,30 +18,28 @@ use std::test::Fail;
 use std::thread::Threads;
 use stealing_pool::NoGate;
 
-/// Checks the entries of a map, in their order.
-pub fn check_entries<V: PartialEq>(
-    rt: &impl Abort,
-    found: &IndexMap<i64, V>,
-    expected: &[(i64, V)],
-) {
+/// Whether a map has these entries, in this order.
+pub fn has_entries<V: PartialEq>(found: &IndexMap<i64, V>, expected: &[(i64, V)]) -> bool {
     let mut entries = found.iter();
     for (key, value) in expected {
-        let entry = entries.next();
-        assert!(rt; matches!(entry, Some((found, met)) if found == key && met == value));
+        match entries.next() {
+            Some((found, met)) if found == key && met == value => {}
+            _ => return false,
+        }
     }
-    assert!(rt; entries.next().is_none());
+    entries.next().is_none()
 }
 
-/// Checks the lists of a map, in the order of their keys.
-fn check_lists(rt: &impl Abort, found: &IndexMap<i64, Vec<i64>>, expected: &[(i64, &[i64])]) {
+/// Whether a map has these lists, in the order of their keys.
+fn has_lists(found: &IndexMap<i64, Vec<i64>>, expected: &[(i64, &[i64])]) -> bool {
     let mut entries = found.iter();
     for (key, wanted) in expected {
-        let entry = entries.next();
-        assert!(rt;
-            matches!(entry, Some((found, list)) if found == key && list.as_slice() == *wanted)
-        );
+        match entries.next() {
+            Some((found, list)) if found == key && list.as_slice() == *wanted => {}
+            _ => return false,
+        }
     }
-    assert!(rt; entries.next().is_none());
+    entries.next().is_none()
 }
 
 // What a collector makes of the numbers of each parity.
@@ -60,19 +58,22 @@ where
     collected(rt, run, numbers, &groups)
 }
 
-// Of the numbers above a limit their number and their sum. A group whose items are all filtered away keeps its key.
+/// Numbers, a limit, and of the numbers of each parity how many are above it and their sum. A group whose items are all filtered away keeps its
+/// key.
+const TOTALS: [(&[i64], i64, &[(i64, (i64, i64))]); 2] = [
+    (&[5, 2, 7, 4, 5], 0, &[(1, (3, 17)), (0, (2, 6))]),
+    (&[1, 2, 2, 1, 1], 100, &[(1, (0, 0)), (0, (0, 0))]),
+];
+
 fn totals<R: Threads + Abort + Alloc<A = Global> + Sync>(
     rt: &R,
     run: &Run<'_, NoGate>,
-) -> Result<(), Fail> {
-    for (numbers, limit, expected) in [
-        ([5, 2, 7, 4, 5], 0, [(1, (3, 17)), (0, (2, 6))]),
-        ([1, 2, 2, 1, 1], 100, [(1, (0, 0)), (0, (0, 0))]),
-    ] {
+) -> Result<(), StreamError> {
+    for (numbers, limit, expected) in TOTALS {
         let totals = Teeing::new(Counting::<i64>::new(), SummingLong::new(Itself), Both);
         let above = FilteringTo::new(Above(limit), totals);
-        let found = by_parity(rt, run, &numbers, above)?;
-        check_entries(rt, &found, &expected);
+        let found = by_parity(rt, run, numbers, above)?;
+        assert!(rt; has_entries(&found, expected), "above {limit}");
     }
     Ok(())
 }
@@ -88,17 +89,16 @@ fn parts<R: Threads + Alloc<A = Global> + Sync>(
     collected(rt, run, numbers, &above)
 }
 
+// Both parts are always there.
 fn check_parts<R: Threads + Abort + Alloc<A = Global> + Sync>(
     rt: &R,
     run: &Run<'_, NoGate>,
-) -> Result<(), Fail> {
-    let found = parts(rt, run, &[5, 2, 7, 4, 5])?;
-    check_lists(rt, &found.no, &[(0, &[2])]);
-    check_lists(rt, &found.yes, &[(1, &[5, 7, 5]), (0, &[4])]);
-    // both parts are always there
+) -> Result<(), StreamError> {
+    let five = parts(rt, run, &[5, 2, 7, 4, 5])?;
+    let large: [(i64, &[i64]); 2] = [(1, &[5, 7, 5]), (0, &[4])];
+    assert!(rt; has_lists(&five.no, &[(0, &[2])]) && has_lists(&five.yes, &large));
     let small = parts(rt, run, &[1, 3])?;
-    check_lists(rt, &small.no, &[(1, &[1, 3])]);
-    check_lists(rt, &small.yes, &[]);
+    assert!(rt; has_lists(&small.no, &[(1, &[1, 3])]) && small.yes.is_empty());
     Ok(())
 }
 
@@ -118,11 +118,11 @@ fn merged<R: Threads + Alloc<A = Global> + Sync, O: Operator<i64> + Drop + Sync>
 fn maps<R: Threads + Abort + Alloc<A = Global> + Sync>(
     rt: &R,
     run: &Run<'_, NoGate>,
-) -> Result<(), Fail> {
+) -> Result<(), StreamError> {
     let last = merged(rt, run, LastOf::<i64>::new())?;
-    check_entries(rt, &last, &[(1, 3), (0, 4)]);
+    assert!(rt; has_entries(&last, &[(1, 3), (0, 4)]));
     let first = merged(rt, run, FirstOf::<i64>::new())?;
-    check_entries(rt, &first, &[(1, 1), (0, 2)]);
+    assert!(rt; has_entries(&first, &[(1, 1), (0, 2)]));
     Ok(())
 }
 
@@ -130,50 +130,46 @@ fn maps<R: Threads + Abort + Alloc<A = Global> + Sync>(
 fn sum_and_list<R: Threads + Abort + Alloc<A = Global> + Sync>(
     rt: &R,
     run: &Run<'_, NoGate>,
-) -> Result<(), Fail> {
+) -> Result<(), StreamError> {
     let doubled = MappingTo::<i64, _, _>::new(Times(2), SummingLong::new(Itself));
     let large = FilteringTo::new(Above(2), ToList::<i64>::new(rt.alloc()));
     let both = Teeing::new(doubled, large, Both);
     let (sum, list) = collected(rt, run, &[1, 2, 3, 4], &both)?;
-    check_value(rt, Some(sum), Some(20));
-    check_list(rt, &list, &[3, 4]);
+    assert!(rt; sum == 20 && list.as_slice() == [3, 4].as_slice());
     Ok(())
 }
 
-// Ten times the first number, and the product of all.
+/// Numbers, ten times the first of them, and the product of all.
+const PRODUCTS: [(&[i64], (Option<i64>, Option<i64>)); 3] = [
+    (&[], (None, None)),
+    (&[4, 5], (Some(40), Some(20))),
+    (&[2, 5, 3], (Some(20), Some(30))),
+];
+
 fn first_and_product<R: Threads + Abort + Alloc<A = Global> + Sync>(
     rt: &R,
     run: &Run<'_, NoGate>,
-) -> Result<(), Fail> {
+) -> Result<(), StreamError> {
     let tens = MappingTo::<i64, _, _>::new(Times(10), First::<i64>::new());
     let both = Teeing::new(tens, Reducing::<i64, _>::new(WrapMul::new()), Both);
-    for (numbers, ten, wanted) in [
-        ([].as_slice(), None, None),
-        ([4, 5].as_slice(), Some(40), Some(20)),
-        ([2, 5, 3].as_slice(), Some(20), Some(30)),
-    ] {
-        let (first, product) = collected(rt, run, numbers, &both)?;
-        check_value(rt, first, ten);
-        check_value(rt, product, wanted);
+    for (numbers, wanted) in PRODUCTS {
+        assert!(rt;
+            collected(rt, run, numbers, &both)? == wanted,
+            "{numbers:?}"
+        );
     }
     Ok(())
 }
 
 #[test]
 fn groups_at_each_number_of_workers(rt: HostRuntime) -> Result<(), Fail> {
-    for target in TARGETS {
-        for workers in WORKERS {
-            let run = Run {
-                workers,
-                target,
-                gate: &NoGate,
-            };
-            totals(&rt, &run)?;
-            check_parts(&rt, &run)?;
-            maps(&rt, &run)?;
-            sum_and_list(&rt, &run)?;
-            first_and_product(&rt, &run)?;
-        }
+    for setting in SETTINGS {
+        let run = at(setting);
+        totals(&rt, &run)?;
+        check_parts(&rt, &run)?;
+        maps(&rt, &run)?;
+        sum_and_list(&rt, &run)?;
+        first_and_product(&rt, &run)?;
     }
     Ok(())
 }

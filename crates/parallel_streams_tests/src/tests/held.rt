@@ -2,56 +2,55 @@
 ghost use Rattle.std.specs.Prelude.{pos, int_lt};
 
 use super::answers::{check_list, check_value, limited, listed, sum_of};
+use super::at;
 use super::functions::{Above, Times};
-use super::gates::{FirstWithin, HoldsFirst, SecondFirst, all_came, wait_for};
-use super::reports::check_report;
+use super::gates::Watch;
+use super::reports::{Entry, check_report};
 use parallel_streams::{Run, Stream, of};
 use sources::RangeSplit;
 use stages::Test;
-use std::sync::atomic::{AtomicU64, Ordering};
+use std::sync::atomic::Ordering;
 use std::test::Fail;
-use stealing_pool::NoGate;
+
+/// A run by two workers.
+fn by_two(target: u64, gate: &Watch) -> Run<'_, Watch> {
+    Run {
+        workers: 2,
+        target,
+        gate,
+    }
+}
 
 #[test]
 fn a_held_leaf_keeps_its_place(rt: HostRuntime) -> Result<(), Fail> {
-    let gate = HoldsFirst::until(99);
-    let run = Run {
-        workers: 2,
-        target: 1,
-        gate: &gate,
-    };
-    let items = listed(&rt, &run, &of(RangeSplit::range(0, 100)?))?;
-    all_came(&gate.missed)?;
+    let gate = Watch::until(0, 99);
+    let items = listed(&rt, &by_two(1, &gate), &of(RangeSplit::range(0, 100)?))?;
+    gate.all_came()?;
     assert!(rt; items.iter().copied().eq(0..100));
     Ok(())
 }
 
+// Leaf 0 is held until the other worker has run leaf 512, where its share begins, and leaf 1. It stops at the first item of each.
 #[test]
 fn a_held_first_leaf_of_a_million_items(rt: HostRuntime) -> Result<(), Fail> {
-    let gate = SecondFirst::new();
-    let run = Run {
-        workers: 2,
-        target: 1000,
-        gate: &gate,
-    };
+    let gate = Watch::until(0, 2);
     let above = of(RangeSplit::range(0, 1_000_000)?)
         .map(Times(3))
         .filter(Above(100));
-    // The other worker stops at the first item of its share, and at that of leaf 1.
-    let mut counts = [None; 1024];
-    counts[0] = Some(1);
-    counts[1] = Some(1);
-    counts[512] = Some(1);
-    let entries = [(counts.as_slice(), Some(0)), ([Some(0)].as_slice(), None)];
-    let found = limited(&rt, &run, above, 1)?;
-    all_came(&gate.missed)?;
-    check_report(&rt, &found, &[102], &entries)
+    let found = limited(&rt, &by_two(1000, &gate), above, 1)?;
+    gate.all_came()?;
+    let entries: [Entry<'_>; 2] = [
+        (1024, Some(0), &[(0, 1), (1, 1), (512, 1)]),
+        (1, None, &[(0, 0)]),
+    ];
+    check_report(&rt, &found, &[102], &entries);
+    Ok(())
 }
 
 /// The numbers below 1. It counts how often it was asked of a number from 4096 on, and at 4096 it turns until leaf 0 has ended.
 #[derive(Drop)]
 struct Watched<'a> {
-    gate: &'a FirstWithin,
+    gate: &'a Watch,
 }
 
 impl Test<i64> for Watched<'_> {
@@ -61,41 +60,29 @@ impl Test<i64> for Watched<'_> {
         if *x >= 4096 {
             self.gate.asked.fetch_add(1, Ordering::SeqCst);
         }
-        if *x == 4096 && !wait_for(&self.gate.ended, 1) {
-            self.gate.missed.fetch_add(1, Ordering::SeqCst);
+        if *x == 4096 {
+            self.gate.wait_for_first();
         }
         *x < 1
     }
 }
 
+// Leaf 0 is held until the other leaf was entered.
 #[test]
 fn a_leaf_asks_each_1024_items_whether_it_was_cut(rt: HostRuntime) -> Result<(), Fail> {
-    let gate = FirstWithin::new();
-    let run = Run {
-        workers: 2,
-        target: 4096,
-        gate: &gate,
-    };
+    let gate = Watch::until(2, 0);
     let below = of(RangeSplit::range(0, 8192)?).filter(Watched { gate: &gate });
-    let entries = [
-        ([Some(1), None].as_slice(), Some(0)),
-        ([Some(0)].as_slice(), None),
-    ];
-    let found = limited(&rt, &run, below, 1)?;
-    all_came(&gate.missed)?;
-    check_report(&rt, &found, &[0], &entries)?;
-    assert_eq!(rt; gate.asked.load(Ordering::SeqCst), 1024);
+    let found = limited(&rt, &by_two(4096, &gate), below, 1)?;
+    gate.all_came()?;
+    let entries: [Entry<'_>; 2] = [(2, Some(0), &[(0, 1)]), (1, None, &[(0, 0)])];
+    check_report(&rt, &found, &[0], &entries);
+    assert!(rt; gate.asked.load(Ordering::SeqCst) == 1024);
     Ok(())
 }
 
 #[test]
 fn sixty_four_workers_share_one_item(rt: HostRuntime) -> Result<(), Fail> {
-    let run = Run {
-        workers: 64,
-        target: 1,
-        gate: &NoGate,
-    };
-    let one = listed(&rt, &run, &of(RangeSplit::range(0, 1)?))?;
+    let one = listed(&rt, &at((64, 1)), &of(RangeSplit::range(0, 1)?))?;
     check_list(&rt, &one, &[0]);
     Ok(())
 }
@@ -103,12 +90,7 @@ fn sixty_four_workers_share_one_item(rt: HostRuntime) -> Result<(), Fail> {
 // Where a request for memory is refused, that of a thread too, the sum is exact or memory is wanted (checks/refused_tests.py).
 #[test]
 fn seven_workers_sum_or_want_memory(rt: HostRuntime) -> Result<(), Fail> {
-    let run = Run {
-        workers: 7,
-        target: 10,
-        gate: &NoGate,
-    };
-    let sum = sum_of(&rt, &run, &of(RangeSplit::range(0, 100)?))?;
+    let sum = sum_of(&rt, &at((7, 10)), &of(RangeSplit::range(0, 100)?))?;
     check_value(&rt, Some(sum), Some(4950));
     Ok(())
 }

@@ -1,11 +1,10 @@
 //! Matches.
 
 use super::functions::Below;
-use super::{TARGETS, WORKERS};
-use parallel_streams::{Run, Stream, of};
+use super::{SETTINGS, at};
+use parallel_streams::{Run, Source, Stream, StreamError, of};
 use sources::RangeSplit;
 use std::alloc::Global;
-use std::process::Abort;
 use std::test::Fail;
 use std::thread::Threads;
 use stealing_pool::NoGate;
@@ -18,13 +17,12 @@ const MATCHES: [(i64, i64, [bool; 3]); 4] = [
     (10, 1, [false, true, false]),
 ];
 
-fn matches_of<R: Threads + Abort + Alloc<A = Global> + Sync>(
+fn matches_of<R: Threads + Alloc<A = Global> + Sync>(
     rt: &R,
     run: &Run<'_, NoGate>,
-    end: i64,
+    numbers: &Source<RangeSplit>,
     below: &Below,
-) -> Result<[bool; 3], Fail> {
-    let numbers = of(RangeSplit::range(0, end)?);
+) -> Result<[bool; 3], StreamError> {
     let all = numbers.all_match(rt, rt.alloc(), run, below)?;
     let any = numbers.any_match(rt, rt.alloc(), run, below)?;
     let none = numbers.none_match(rt, rt.alloc(), run, below)?;
@@ -33,17 +31,11 @@ fn matches_of<R: Threads + Abort + Alloc<A = Global> + Sync>(
 
 #[test]
 fn matches_at_each_number_of_workers(rt: HostRuntime) -> Result<(), Fail> {
-    for target in TARGETS {
-        for workers in WORKERS {
-            let run = Run {
-                workers,
-                target,
-                gate: &NoGate,
-            };
-            for (end, limit, wanted) in MATCHES {
-                let found = matches_of(&rt, &run, end, &Below(limit))?;
-                assert!(rt; found == wanted, "{end} numbers below {limit}");
-            }
+    for setting in SETTINGS {
+        for (end, limit, wanted) in MATCHES {
+            let numbers = of(RangeSplit::range(0, end)?);
+            let found = matches_of(&rt, &at(setting), &numbers, &Below(limit))?;
+            assert!(rt; found == wanted, "{end} numbers below {limit}");
         }
     }
     Ok(())

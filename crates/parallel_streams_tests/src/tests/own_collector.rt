@@ -6,7 +6,7 @@ ghost use Rattle.collectors.specs.NestedLaws.{add_both, teeing_laws};
 ghost use Rattle.collectors.specs.Sums.{add_number, sum_laws};
 
 use super::answers::collected;
-use super::{TARGETS, WORKERS};
+use super::{SETTINGS, at};
 use collectors::{CollectorDefinition, CollectorOf};
 use parallel_streams::{Run, StreamError};
 use spliterator::NoMemory;
@@ -62,16 +62,10 @@ fn count_and_sum<R: Threads + Alloc<A = Global> + Sync>(
 
 #[test]
 fn a_collector_of_the_callers_own(rt: HostRuntime) -> Result<(), Fail> {
-    for target in TARGETS {
-        for workers in WORKERS {
-            let run = Run {
-                workers,
-                target,
-                gate: &NoGate,
-            };
-            let found = count_and_sum(&rt, &run, &[5, -2, 9])?;
-            assert_eq!(rt; found, (3, 12));
-        }
+    for setting in SETTINGS {
+        let run = at(setting);
+        let found = count_and_sum(&rt, &run, &[5, -2, 9])?;
+        assert!(rt; found == (3, 12));
     }
     Ok(())
 }

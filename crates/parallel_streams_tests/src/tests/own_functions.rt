@@ -2,8 +2,8 @@
 ghost use Rattle.std.specs.Prelude.{pos, ◌+ℤ◌, int_lt};
 ghost use Rattle.stages.specs.Wrapping.{wrapped_sum, wrapped-value};
 
-use super::answers::images_meeting;
-use super::{TARGETS, WORKERS};
+use super::answers::{check_list, check_value, listed};
+use super::{SETTINGS, at};
 use parallel_streams::{Run, Stream, StreamError, of};
 use sources::RangeSplit;
 use spliterator::NoMemory;
@@ -50,7 +50,7 @@ fn ten_more<R: Threads + Alloc<A = Global> + Sync>(
         WrapAdd::new().join(x, &10)
     });
     let below_thirteen: TestFn<_, BelowThirteen> = TestFn::new(|x: &i64| *x < 13);
-    images_meeting(rt, run, of(numbers), ten_more, below_thirteen)
+    listed(rt, run, &of(numbers).map(ten_more).filter(below_thirteen))
 }
 
 fn total<R: Threads + Alloc<A = Global> + Sync>(
@@ -66,17 +66,11 @@ fn total<R: Threads + Alloc<A = Global> + Sync>(
 
 #[test]
 fn functions_of_the_callers_own(rt: HostRuntime) -> Result<(), Fail> {
-    for target in TARGETS {
-        for workers in WORKERS {
-            let run = Run {
-                workers,
-                target,
-                gate: &NoGate,
-            };
-            let items = ten_more(&rt, &run, RangeSplit::range(1, 6)?)?;
-            assert_eq!(rt; items.as_slice(), [11, 12].as_slice());
-            assert_eq!(rt; total(&rt, &run, RangeSplit::range(1, 6)?)?, Some(15));
-        }
+    for setting in SETTINGS {
+        let run = at(setting);
+        let items = ten_more(&rt, &run, RangeSplit::range(1, 6)?)?;
+        check_list(&rt, &items, &[11, 12]);
+        check_value(&rt, total(&rt, &run, RangeSplit::range(1, 6)?)?, Some(15));
     }
     Ok(())
 }

@@ -3,14 +3,13 @@ ghost use Rattle.std.proofs.Common.{sym, true≢false};
 ghost use Rattle.std.specs.Prelude.{◌<◌, ◌^◌, replicate};
 ghost use Rattle.spliterator.specs.Spliterator.{IsSplit};
 
-use super::answers::{check_list, check_value, counted, limited, reduced};
+use super::answers::{check_list, counted, limited, reduced};
 use super::rows::second_and_one;
-use super::{TARGETS, WORKERS};
-use parallel_streams::{Run, Stream, of};
+use super::{SETTINGS, at};
+use parallel_streams::{Source, Stream, of};
 use spliterator::{NoMemory, Spliterator};
 use stages::WrapAdd;
 use std::test::Fail;
-use stealing_pool::NoGate;
 
 /// One number again and again: a source that never splits, and tells nothing but its order.
 #[derive(Clone, Copy)]
@@ -62,25 +61,23 @@ impl Spliterator for Again {
     ghost flag_law = { λ s. record { distinct = λ h. absurd (true≢false (sym h)); sorted = λ h. absurd (true≢false (sym h)) } };
 }
 
+fn sevens() -> Source<Again> {
+    of(Again { number: 7, left: 3 })
+}
+
 #[test]
 fn a_source_of_the_callers_own(rt: HostRuntime) -> Result<(), Fail> {
-    let sevens = of(Again { number: 7, left: 3 });
-    assert_eq!(rt; sevens.known_size(), None);
-    for target in TARGETS {
-        for workers in WORKERS {
-            let run = Run {
-                workers,
-                target,
-                gate: &NoGate,
-            };
-            check_value(&rt, Some(counted(&rt, &run, &sevens)?), Some(3));
-            let sum = reduced(&rt, &run, &sevens, 0, &WrapAdd::new())?;
-            check_value(&rt, Some(sum), Some(21));
-            let two = limited(&rt, &run, of(Again { number: 7, left: 3 }), 2)?;
-            check_list(&rt, &two.0, &[7, 7]);
-            let eight = second_and_one(&rt, &run, of(Again { number: 7, left: 3 }))?;
-            check_list(&rt, &eight.0, &[8]);
-        }
+    let three = sevens();
+    assert!(rt; three.known_size().is_none());
+    for setting in SETTINGS {
+        let run = at(setting);
+        let count = counted(&rt, &run, &three)?;
+        let sum = reduced(&rt, &run, &three, 0, &WrapAdd::new())?;
+        let two = limited(&rt, &run, sevens(), 2)?;
+        let eight = second_and_one(&rt, &run, sevens())?;
+        check_list(&rt, &[count, sum], &[3, 21]);
+        check_list(&rt, &two.0, &[7, 7]);
+        check_list(&rt, &eight.0, &[8]);
     }
     Ok(())
 }

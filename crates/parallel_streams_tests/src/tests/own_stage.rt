@@ -7,7 +7,7 @@ ghost use Rattle.std.specs.Ordering.{int_cmp};
 
 use super::answers::{check_list, listed};
 use super::rows::first_apart;
-use super::{TARGETS, WORKERS};
+use super::{SETTINGS, at};
 use parallel_streams::{Run, Stream, of};
 use sources::RangeSplit;
 use spliterator::NoMemory;
@@ -49,18 +49,12 @@ impl Stage for WithNext {
 
 #[test]
 fn a_stage_of_the_callers_own(rt: HostRuntime) -> Result<(), Fail> {
-    for target in TARGETS {
-        for workers in WORKERS {
-            let run = Run {
-                workers,
-                target,
-                gate: &NoGate,
-            };
-            let pairs = of(RangeSplit::range(0, 3)?).then(WithNext);
-            check_list(&rt, &listed(&rt, &run, &pairs)?, &[0, 1, 1, 2, 2, 3]);
-            let apart = first_apart(&rt, &run, pairs, 9)?;
-            check_list(&rt, &apart, &[0, 1, 2, 3]);
-        }
+    for setting in SETTINGS {
+        let run = at(setting);
+        let pairs = of(RangeSplit::range(0, 3)?).then(WithNext);
+        check_list(&rt, &listed(&rt, &run, &pairs)?, &[0, 1, 1, 2, 2, 3]);
+        let apart = first_apart(&rt, &run, pairs, 9)?;
+        check_list(&rt, &apart, &[0, 1, 2, 3]);
     }
     Ok(())
 }

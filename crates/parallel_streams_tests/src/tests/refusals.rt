@@ -1,12 +1,12 @@
 //! A caller's function that refuses memory. A leaf right of what is wanted may then turn the answer into `NoMemory`, never into another value.
 
 use super::answers::{first_of, listed};
-use parallel_streams::{Run, Stream, StreamError, of};
+use super::at;
+use parallel_streams::{Stream, StreamError, of};
 use sources::RangeSplit;
 use spliterator::NoMemory;
 use stages::Mapping;
 use std::test::Fail;
-use stealing_pool::NoGate;
 
 /// Each number as it is, but memory is refused at one of them.
 #[derive(Drop)]
@@ -29,15 +29,11 @@ impl Mapping<i64> for RefusesAt {
 fn a_refusal_right_of_the_first_item_gives_no_other_item(rt: HostRuntime) -> Result<(), Fail> {
     let numbers = of(RangeSplit::range(0, 10)?).map(RefusesAt(7));
     for workers in [1, 7] {
-        let run = Run {
-            workers,
-            target: 1,
-            gate: &NoGate,
-        };
-        let all = listed(&rt, &run, &numbers);
-        assert!(rt; matches!(all, Err(StreamError::NoMemory)));
+        let run = at((workers, 1));
+        let is_refused = listed(&rt, &run, &numbers) == Err(StreamError::NoMemory);
         let first = first_of(&rt, &run, &numbers);
-        assert!(rt; first == Ok(Some(0)) || first == Err(StreamError::NoMemory));
+        let is_first = first == Ok(Some(0)) || first == Err(StreamError::NoMemory);
+        assert!(rt; is_refused && is_first, "{workers} workers");
         if workers == 1 {
             first?;
         }

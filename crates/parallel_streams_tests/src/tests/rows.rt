@@ -1,11 +1,10 @@
 //! The worked rows over numbers, as calls.
 
 use super::answers::{
-    check_list, check_value, counted, first_image, first_of, joined, limited, listed, reduced,
-    reported, sum_of,
+    check_list, check_value, counted, first_of, joined, limited, listed, reduced, reported, sum_of,
 };
 use super::functions::{Above, Below, Copies, Plus, Times};
-use super::{TARGETS, WORKERS};
+use super::{SETTINGS, at};
 use parallel_streams::{Run, Stream, StreamError, of};
 use sources::{RangeSplit, SliceSplit};
 use stages::{LastOf, Max, Min, WrapAdd, WrapMul};
@@ -14,20 +13,6 @@ use std::process::Abort;
 use std::test::Fail;
 use std::thread::Threads;
 use stealing_pool::{NoGate, RunReport};
-
-// Each of some numbers, and one.
-fn and_one<R: Threads + Alloc<A = Global> + Sync, X: Stream<Item = i64> + Drop + Sync>(
-    rt: &R,
-    run: &Run<'_, NoGate>,
-    numbers: X,
-) -> Result<(Vec<i64>, RunReport), StreamError>
-where
-    X::Progress: Send + Sync,
-    X::Part: Send,
-    requires { X.ready numbers }
-{
-    reported(rt, run, &numbers.map(Plus(1)))
-}
 
 /// The second of some numbers, and one.
 pub fn second_and_one<R: Threads + Alloc<A = Global> + Sync, X: Stream<Item = i64> + Drop + Sync>(
@@ -40,7 +25,7 @@ where
     X::Part: Send,
     requires { X.ready numbers }
 {
-    and_one(rt, run, numbers.skip(1).limit(1))
+    reported(rt, run, &numbers.skip(1).limit(1).map(Plus(1)))
 }
 
 /// The front of some numbers that is below 3.
@@ -103,10 +88,11 @@ where
     Ok((limited(rt, run, copies, most)?.0, count))
 }
 
+// What stands before a number above 2, what follows, the second and one, and the first none.
 fn fronts<R: Threads + Abort + Alloc<A = Global> + Sync>(
     rt: &R,
     run: &Run<'_, NoGate>,
-) -> Result<(), Fail> {
+) -> Result<(), StreamError> {
     let found = front(rt, run, of(SliceSplit::new(&[1, 2, 5, 1])))?;
     check_list(rt, &found.0, &[1, 2]);
     let found = rest(rt, run, of(SliceSplit::new(&[1, 2, 5, 1])))?;
@@ -118,22 +104,31 @@ fn fronts<R: Threads + Abort + Alloc<A = Global> + Sync>(
     Ok(())
 }
 
+/// Numbers, the most of those that differ that are wanted, and these.
+const APART: [(&[i64], u32, &[i64]); 2] = [
+    (&[3, 1, 3, 2, 1], 9, &[3, 1, 2]),
+    (&[3, 3, 3, 1, 2], 2, &[3, 1]),
+];
+
+/// Numbers, the most of their copies that are wanted, these, and how many copies there are.
+const COPIES: [(&[i64], u32, &[i64], i64); 3] = [
+    (&[2, 0, 3], 9, &[2, 2, 3, 3, 3], 5),
+    (&[1, 2, 3], 4, &[1, 2, 2, 3], 6),
+    (&[0, 0, 0], 9, &[], 0),
+];
+
 fn firsts<R: Threads + Abort + Alloc<A = Global> + Sync>(
     rt: &R,
     run: &Run<'_, NoGate>,
-) -> Result<(), Fail> {
-    let found = first_apart(rt, run, of(SliceSplit::new(&[3, 1, 3, 2, 1])), 9)?;
-    check_list(rt, &found, &[3, 1, 2]);
-    let found = first_apart(rt, run, of(SliceSplit::new(&[3, 3, 3, 1, 2])), 2)?;
-    check_list(rt, &found, &[3, 1]);
-    for (numbers, most, wanted, number) in [
-        ([2, 0, 3], 9, [2, 2, 3, 3, 3].as_slice(), 5),
-        ([1, 2, 3], 4, [1, 2, 2, 3].as_slice(), 6),
-        ([0, 0, 0], 9, [].as_slice(), 0),
-    ] {
-        let (items, count) = copies(rt, run, of(SliceSplit::new(&numbers)), most)?;
-        check_list(rt, &items, wanted);
-        assert!(rt; count == number);
+) -> Result<(), StreamError> {
+    for (numbers, most, wanted) in APART {
+        let found = first_apart(rt, run, of(SliceSplit::new(numbers)), most)?;
+        check_list(rt, &found, wanted);
+    }
+    for (numbers, most, wanted, number) in COPIES {
+        let found = copies(rt, run, of(SliceSplit::new(numbers)), most)?;
+        check_list(rt, &found.0, wanted);
+        check_value(rt, Some(found.1), Some(number));
     }
     Ok(())
 }
@@ -141,7 +136,7 @@ fn firsts<R: Threads + Abort + Alloc<A = Global> + Sync>(
 fn reductions<R: Threads + Abort + Alloc<A = Global> + Sync>(
     rt: &R,
     run: &Run<'_, NoGate>,
-) -> Result<(), Fail> {
+) -> Result<(), StreamError> {
     check_value(rt, joined(rt, run, &[], &Max::new())?, None);
     check_value(rt, joined(rt, run, &[2, 5, 3], &Min::new())?, Some(2));
     check_value(rt, joined(rt, run, &[2, 5, 3], &WrapMul::new())?, Some(30));
@@ -150,7 +145,7 @@ fn reductions<R: Threads + Abort + Alloc<A = Global> + Sync>(
     Ok(())
 }
 
-// The first number and two sums, of the numbers from one to before another.
+// The first number of a range, and its sum by an operator and by a collector.
 fn first_and_sums<R: Threads + Alloc<A = Global> + Sync>(
     rt: &R,
     run: &Run<'_, NoGate>,
@@ -166,15 +161,18 @@ fn ranges<R: Threads + Abort + Alloc<A = Global> + Sync>(
     rt: &R,
     run: &Run<'_, NoGate>,
 ) -> Result<(), Fail> {
-    let five = first_and_sums(rt, run, RangeSplit::range(1, 6)?)?;
-    check_value(rt, five.0, Some(1));
-    check_list(rt, &five.1, &[15, 15]);
-    let none = first_and_sums(rt, run, RangeSplit::range(5, 5)?)?;
-    check_value(rt, none.0, None);
-    check_list(rt, &none.1, &[0, 0]);
-    let last = RangeSplit::closed(i64::MAX - 1, i64::MAX)?;
-    let wrapped = first_and_sums(rt, run, last)?;
-    check_list(rt, &wrapped.1, &[-3, -3]);
+    for (range, first, sum) in [
+        (RangeSplit::range(1, 6), Some(1), 15),
+        (RangeSplit::range(5, 5), None, 0),
+        (
+            RangeSplit::closed(i64::MAX - 1, i64::MAX),
+            Some(i64::MAX - 1),
+            -3,
+        ),
+    ] {
+        let found = first_and_sums(rt, run, range?)?;
+        assert!(rt; found == (first, [sum, sum]), "the sum {sum}");
+    }
     Ok(())
 }
 
@@ -194,32 +192,23 @@ where
 
 #[test]
 fn rows_at_each_number_of_workers(rt: HostRuntime) -> Result<(), Fail> {
-    for target in TARGETS {
-        for workers in WORKERS {
-            let run = Run {
-                workers,
-                target,
-                gate: &NoGate,
-            };
-            fronts(&rt, &run)?;
-            firsts(&rt, &run)?;
-            reductions(&rt, &run)?;
-            ranges(&rt, &run)?;
-        }
+    for setting in SETTINGS {
+        let run = at(setting);
+        fronts(&rt, &run)?;
+        firsts(&rt, &run)?;
+        reductions(&rt, &run)?;
+        ranges(&rt, &run)?;
     }
     Ok(())
 }
 
 #[test]
 fn the_first_of_a_million(rt: HostRuntime) -> Result<(), Fail> {
-    for workers in WORKERS {
-        let run = Run {
-            workers,
-            target: 1000,
-            gate: &NoGate,
-        };
+    for workers in [1, 7, 2, 64] {
+        let run = at((workers, 1000));
         let million = of(RangeSplit::range(0, 1_000_000)?);
-        let first = first_image(&rt, &run, million, Times(3), Above(100))?;
+        let above = million.map(Times(3)).filter(Above(100));
+        let first = first_of(&rt, &run, &above)?;
         check_value(&rt, first, Some(102));
     }
     Ok(())

@@ -1,15 +1,14 @@
 //! Settings that are refused before anything runs.
 
 use super::answers::{check_value, counted, first_of};
-use super::gates::Counts;
+use super::gates::Watch;
 use parallel_streams::{Run, StreamError, of};
 use sources::RangeSplit;
-use std::sync::atomic::Ordering;
 use std::test::Fail;
 
 #[test]
 fn unlawful_settings_are_refused(rt: HostRuntime) -> Result<(), Fail> {
-    let gate = Counts::new();
+    let gate = Watch::until(0, 0);
     let ten = of(RangeSplit::range(0, 10)?);
     for (workers, target, error) in [
         (0, 0, StreamError::BadWorkers),
@@ -22,10 +21,13 @@ fn unlawful_settings_are_refused(rt: HostRuntime) -> Result<(), Fail> {
             target,
             gate: &gate,
         };
-        assert!(rt; counted(&rt, &run, &ten) == Err(error));
-        assert!(rt; first_of(&rt, &run, &ten) == Err(error));
+        let (count, first) = (counted(&rt, &run, &ten), first_of(&rt, &run, &ten));
+        assert!(rt;
+            count == Err(error) && first == Err(error),
+            "{workers} workers"
+        );
     }
-    assert!(rt; gate.entered.load(Ordering::SeqCst) == 0);
+    assert!(rt; gate.entered() == 0);
     let run = Run {
         workers: 64,
         target: 4_611_686_018_427_387_904,

@@ -1,16 +1,13 @@
 //! Sizes that are known before anything runs, and the flags.
-ghost use Rattle.std.specs.Prelude.{◌<◌, ◌^◌};
 
+use super::SETTINGS;
 use super::answers::counted;
 use super::functions::{Above, Itself};
-use super::gates::Counts;
-use super::{TARGETS, WORKERS};
+use super::gates::Watch;
 use parallel_streams::{Run, Stream, StreamError, of};
-use sources::RangeSplit;
-use stages::StreamFlags;
+use sources::{RangeSplit, RangeTooLong};
 use std::alloc::Global;
 use std::process::Abort;
-use std::sync::atomic::Ordering;
 use std::test::Fail;
 use std::thread::Threads;
 
@@ -31,118 +28,68 @@ const KNOWN: [(i64, u64, u64, i64); 5] = [
     ),
 ];
 
-/// What a stream tells of its items, and their count.
-#[derive(Drop)]
-struct Told {
-    size: Option<u64>,
-    flags: StreamFlags,
-    count: Result<i64, StreamError>,
-}
-
-// What is told of the first of some numbers.
-fn told_of_first<R: Threads + Alloc<A = Global> + Sync, X: Stream<Item = i64> + Drop + Sync>(
-    rt: &R,
-    run: &Run<'_, Counts>,
-    numbers: X,
-    most: u64,
-) -> Told
-where
-    X::Progress: Send + Sync,
-    X::Part: Send,
-    requires ready { X.ready numbers }
-    requires most { most < 2 ^ 63 }
-{
-    let first = numbers.limit(most);
-    Told {
-        size: first.known_size(),
-        flags: first.flags(),
-        count: counted(rt, run, &first),
-    }
-}
-
-// What is told of the first of those that follow some numbers.
-fn told_of_middle<R: Threads + Alloc<A = Global> + Sync, X: Stream<Item = i64> + Drop + Sync>(
-    rt: &R,
-    run: &Run<'_, Counts>,
-    numbers: X,
-    skipped: u64,
-    most: u64,
-) -> Told
-where
-    X::Progress: Send + Sync,
-    X::Part: Send,
-    requires ready { X.ready numbers }
-    requires skipped { skipped < 2 ^ 63 }
-    requires most { most < 2 ^ 63 }
-{
-    told_of_first(rt, run, numbers.skip(skipped), most)
-}
-
 // Where memory is wanted the count is told all the same.
-fn check_known<R: Threads + Abort + Alloc<A = Global> + Sync>(
+fn is_known<R: Threads + Abort + Alloc<A = Global> + Sync>(
     rt: &R,
-    run: &Run<'_, Counts>,
+    run: &Run<'_, Watch>,
     (end, skipped, most, size): (i64, u64, u64, i64),
-) -> Result<(), Fail> {
+) -> Result<bool, RangeTooLong> {
     assert!(rt; skipped < 9_223_372_036_854_775_808 && most < 9_223_372_036_854_775_808);
     let mapped = of(RangeSplit::range(0, end)?).map(Itself);
-    let told = told_of_middle(rt, run, mapped, skipped, most);
-    assert!(rt; told.size == Some(size.unsigned_abs()) && told.count == Ok(size));
-    Ok(())
+    let middle = mapped.skip(skipped).limit(most);
+    let is_told = middle.known_size() == Some(size.unsigned_abs());
+    Ok(is_told && counted(rt, run, &middle) == Ok(size))
 }
 
 // A filter clears the size, whether it keeps more items than a limit or as many.
-fn check_filtered<R: Threads + Abort + Alloc<A = Global> + Sync>(
+fn is_cleared<R: Threads + Alloc<A = Global> + Sync>(
     rt: &R,
-    run: &Run<'_, Counts>,
+    run: &Run<'_, Watch>,
+    numbers: RangeSplit,
     most: u32,
-) -> Result<(), Fail> {
-    let above = of(RangeSplit::range(0, 10)?).filter(Above(4));
-    let told = told_of_first(rt, run, above, u64::from(most));
-    let flags = told.flags;
-    assert!(rt; flags.is_distinct() && !flags.is_sized() && flags.is_short_circuit());
-    assert!(rt; told.size.is_none());
-    assert!(rt; told.count? == i64::from(most));
-    Ok(())
+) -> Result<bool, StreamError> {
+    let above = of(numbers).filter(Above(4)).limit(u64::from(most));
+    let flags = above.flags();
+    let is_told = flags.is_distinct() && !flags.is_sized() && flags.is_short_circuit();
+    let count = counted(rt, run, &above)?;
+    Ok(is_told && above.known_size().is_none() && count == i64::from(most))
 }
 
 #[test]
 fn a_count_of_a_known_size_runs_no_leaf(rt: HostRuntime) -> Result<(), Fail> {
-    let gate = Counts::new();
+    let gate = Watch::until(0, 0);
     let great = of(RangeSplit::range(0, GREAT)?);
     let flags = great.flags();
     assert!(rt; flags.is_distinct() && flags.is_sorted() && flags.is_sized());
-    for target in TARGETS {
-        for workers in WORKERS {
-            let run = Run {
-                workers,
-                target,
-                gate: &gate,
-            };
-            assert!(rt; counted(&rt, &run, &great) == Ok(GREAT));
-            for row in KNOWN {
-                check_known(&rt, &run, row)?;
-            }
+    for (workers, target) in SETTINGS {
+        let run = Run {
+            workers,
+            target,
+            gate: &gate,
+        };
+        assert!(rt; counted(&rt, &run, &great) == Ok(GREAT));
+        for row in KNOWN {
+            assert!(rt; is_known(&rt, &run, row)?, "{row:?}");
         }
     }
-    assert!(rt; gate.entered.load(Ordering::SeqCst) == 0);
+    assert!(rt; gate.entered() == 0);
     Ok(())
 }
 
 #[test]
 fn a_filter_clears_the_known_size(rt: HostRuntime) -> Result<(), Fail> {
-    let gate = Counts::new();
-    for target in TARGETS {
-        for workers in WORKERS {
-            let run = Run {
-                workers,
-                target,
-                gate: &gate,
-            };
-            check_filtered(&rt, &run, 3)?;
-            check_filtered(&rt, &run, 5)?;
+    let gate = Watch::until(0, 0);
+    let ten = RangeSplit::range(0, 10)?;
+    for (workers, target) in SETTINGS {
+        let run = Run {
+            workers,
+            target,
+            gate: &gate,
+        };
+        for most in [3, 5] {
+            assert!(rt; is_cleared(&rt, &run, ten, most)?, "{most}");
         }
     }
-    assert!(rt; gate.entered.load(Ordering::SeqCst) > 0);
+    assert!(rt; gate.entered() > 0);
     Ok(())
 }

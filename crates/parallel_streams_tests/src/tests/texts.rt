@@ -2,7 +2,7 @@
 
 use super::functions::{Both, Itself};
 use super::words::{Length, Words};
-use super::{TARGETS, WORKERS};
+use super::{SETTINGS, at};
 use collectors::{GroupingBy, Joining, MappingTo, SummingLong, Teeing};
 use indexmap::IndexMap;
 use parallel_streams::{Run, Stream, StreamError, of};
@@ -14,27 +14,29 @@ use std::thread::Threads;
 use stealing_pool::NoGate;
 
 /// Lines, what stands between, before and after their words, and the whole. An empty text is an item like any other.
-const JOINED: [(&str, [&str; 3], &str); 3] = [
-    ("\na\n\n", [",", "", ""], ",a,"),
-    ("\n\n\n", [",", "<", ">"], "<,,>"),
-    ("a b\nc\n", ["-", "<", ">"], "<a-b-c>"),
+const JOINED: [(&str, &str, &str, &str, &str); 3] = [
+    ("\na\n\n", ",", "", "", ",a,"),
+    ("\n\n\n", ",", "<", ">", "<,,>"),
+    ("a b\nc\n", "-", "<", ">", "<a-b-c>"),
 ];
 
 /// Lines, and of each length of a line the length, the lines joined, and the sum of the lengths.
-const BY_LENGTH: [(&str, [(i64, &str, i64); 2]); 2] = [
-    ("bb\na\ncc\n", [(2, "bb+cc", 4), (1, "a", 1)]),
-    ("a b\nc\na\n", [(3, "a b", 3), (1, "c+a", 2)]),
+const BY_LENGTH: [(&str, &[(i64, &str, i64)]); 2] = [
+    ("bb\na\ncc\n", &[(2, "bb+cc", 4), (1, "a", 1)]),
+    ("a b\nc\na\n", &[(3, "a b", 3), (1, "c+a", 2)]),
 ];
 
 fn joined<R: Threads + Alloc<A = Global> + Sync>(
     rt: &R,
     run: &Run<'_, NoGate>,
     lines: &str,
-    frame: [&str; 3],
+    between: &str,
+    before: &str,
+    after: &str,
 ) -> Result<String, StreamError> {
     let alloc = rt.alloc();
     let words = of(LinesSplit::new(lines)).flat_map(Words { alloc });
-    let text = Joining::<&str>::new(alloc, frame[0], frame[1], frame[2]);
+    let text = Joining::<&str>::new(alloc, between, before, after);
     words.collect(rt, alloc, run, &text)
 }
 
@@ -66,29 +68,22 @@ fn has(found: &IndexMap<i64, (String, i64)>, expected: &[(i64, &str, i64)]) -> b
 fn texts<R: Threads + Abort + Alloc<A = Global> + Sync>(
     rt: &R,
     run: &Run<'_, NoGate>,
-) -> Result<(), Fail> {
-    for (lines, frame, wanted) in JOINED {
-        let text = joined(rt, run, lines, frame)?;
-        assert!(rt; text.as_str() == wanted);
+) -> Result<(), StreamError> {
+    for (lines, between, before, after, wanted) in JOINED {
+        let text = joined(rt, run, lines, between, before, after)?;
+        assert!(rt; text.as_str() == wanted, "{text}");
     }
     for (lines, expected) in BY_LENGTH {
-        let found = by_length(rt, run, lines)?;
-        assert!(rt; has(&found, &expected));
+        assert!(rt; has(&by_length(rt, run, lines)?, expected), "{lines:?}");
     }
     Ok(())
 }
 
 #[test]
 fn texts_at_each_number_of_workers(rt: HostRuntime) -> Result<(), Fail> {
-    for target in TARGETS {
-        for workers in WORKERS {
-            let run = Run {
-                workers,
-                target,
-                gate: &NoGate,
-            };
-            texts(&rt, &run)?;
-        }
+    for setting in SETTINGS {
+        let run = at(setting);
+        texts(&rt, &run)?;
     }
     Ok(())
 }

@@ -38,25 +38,22 @@ impl OrderedValue for Mark {
     ghost cmp_is_order = { Prim.search };
 }
 
-/// Checks what a slice of `N` marks tells and estimates, and the parts of its first split.
-fn check<const N: usize>(rt: &impl Abort, told: u32, estimate: u64, half: u64) {
+/// Checks what a slice of `N` marks tells, its estimate being the greatest, and the parts of its first split.
+fn check<const N: usize>(rt: &impl Abort, told: u32, half: u64) {
     let marks = [Mark; N];
     let mut rest = SliceSplit::new(&marks);
-    assert!(rt; rest.characteristics() == told);
-    assert!(rt; rest.estimate_size() == estimate);
-    let part = rest.try_split();
-    assert_eq!(rt; part.and_then(|part| part.exact_size()), Some(half));
-    assert!(rt; rest.exact_size() == Some(4_611_686_018_427_387_904));
+    let is_told = rest.characteristics() == told && rest.estimate_size() == MAX_ESTIMATE;
+    let part = rest.try_split().and_then(|part| part.exact_size());
+    let other = rest.exact_size();
+    assert!(rt; is_told && part == Some(half) && other == Some(4_611_686_018_427_387_904));
 }
 
 #[test]
 fn a_slice_of_more_items_than_an_estimate_can_say_tells_no_size(rt: HostRuntime) {
-    let half = 4_611_686_018_427_387_904;
-    check::<9_223_372_036_854_775_808>(&rt, 0x510, MAX_ESTIMATE, half);
+    check::<9_223_372_036_854_775_808>(&rt, 0x510, 4_611_686_018_427_387_904);
 }
 
 #[test]
 fn a_slice_of_as_many_items_as_an_estimate_can_say_tells_its_size(rt: HostRuntime) {
-    let half = 4_611_686_018_427_387_903;
-    check::<9_223_372_036_854_775_807>(&rt, 0x4550, MAX_ESTIMATE, half);
+    check::<9_223_372_036_854_775_807>(&rt, 0x4550, 4_611_686_018_427_387_903);
 }

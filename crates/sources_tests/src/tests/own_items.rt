@@ -64,17 +64,27 @@ impl OrderedValue for Seat {
 /// Checks that the next item is refused, each time that it is asked for, and that the items stay as they are.
 fn check_refused<S: Spliterator>(rt: &impl Abort, mut split: S, left: u64) {
     for _ in 0..3 {
-        assert!(rt; matches!(split.try_advance(), Err(NoMemory)));
-        assert!(rt; split.exact_size() == Some(left));
+        let is_refused = split.try_advance().is_err();
+        assert!(rt; is_refused && split.exact_size() == Some(left));
     }
+}
+
+/// Checks that the first item is the seat of number 4, and that then the next item is refused.
+fn check_refused_behind_four<S: Spliterator<Item = Seat>>(
+    rt: &impl Abort,
+    mut split: S,
+    left: u64,
+) -> Result<S, NoMemory> {
+    let first = split.try_advance()?;
+    assert!(rt; matches!(first, Some(Seat { number: 4 })));
+    check_refused(rt, split, left);
+    Ok(split)
 }
 
 #[test]
 fn a_refused_clone_leaves_the_items_of_a_slice(rt: HostRuntime) -> Result<(), Fail> {
     let seats = [Seat { number: 4 }, Seat { number: 7 }, Seat { number: 9 }];
-    let mut split = SliceSplit::new(&seats);
-    assert!(rt; split.try_advance()? == Some(Seat { number: 4 }));
-    check_refused(&rt, split, 2);
+    let mut split = check_refused_behind_four(&rt, SliceSplit::new(&seats), 2)?;
     let seventh = split.try_split().ok_or("no part")?;
     check_refused(&rt, seventh, 1);
     assert!(rt; read(rt.alloc(), split)?.as_slice() == &seats[2..]);
@@ -86,29 +96,30 @@ fn a_refused_clone_leaves_the_items_of_a_deque(rt: HostRuntime) -> Result<(), Fa
     let mut queue = VecDeque::new(rt.alloc());
     queue.push_back(Seat { number: 7 })?;
     queue.push_front(Seat { number: 4 })?;
-    let mut split = DequeSplit::new(&queue);
-    assert!(rt; split.try_advance()? == Some(Seat { number: 4 }));
-    check_refused(&rt, split, 1);
+    check_refused_behind_four(&rt, DequeSplit::new(&queue), 1)?;
     Ok(())
+}
+
+/// Whether the next item is refused.
+fn is_refused<S: Spliterator>(split: &mut S) -> bool {
+    split.try_advance().is_err()
 }
 
 /// The advance that finds the first side at its end leaves the second alone, also where that one refuses.
 #[test]
 fn a_refused_clone_leaves_the_items_of_two_sources(rt: HostRuntime) -> Result<(), Fail> {
-    let seats = [Seat { number: 4 }, Seat { number: 7 }, Seat { number: 9 }];
-    let mut first = Concat::new(SliceSplit::new(&seats[1..2]), SliceSplit::new(&seats[2..]));
+    let (four, nine) = ([Seat { number: 4 }], [Seat { number: 9 }]);
+    let seven = [Seat { number: 7 }];
+    let after_four = [Seat { number: 7 }, Seat { number: 9 }];
+    let after_four = SliceSplit::new(&after_four);
+    let mut first = Concat::new(SliceSplit::new(&seven), SliceSplit::new(&nine));
     check_refused(&rt, first, 2);
-    assert!(rt; first.try_advance().is_err());
-    assert!(rt; matches!(first, Concat::Both(_, _)));
-    let mut second = Concat::new(SliceSplit::new(&seats[..1]), SliceSplit::new(&seats[1..]));
-    assert!(rt; second.try_advance()? == Some(Seat { number: 4 }));
-    check_refused(&rt, second, 2);
-    assert!(rt; second.try_advance().is_err());
-    assert!(rt; matches!(second, Concat::Alone(Right(_))));
+    assert!(rt; is_refused(&mut first) && matches!(first, Concat::Both(_, _)));
+    let both = Concat::new(SliceSplit::new(&four), after_four);
+    let mut second = check_refused_behind_four(&rt, both, 2)?;
+    assert!(rt; is_refused(&mut second) && matches!(second, Concat::Alone(Right(_))));
     assert!(rt; second.exact_size() == Some(2));
-    let side: Either<SliceSplit<'_, Seat>, SliceSplit<'_, Seat>> = Right(SliceSplit::new(
-        &seats[1..],
-    ));
+    let side: Either<SliceSplit<'_, Seat>, SliceSplit<'_, Seat>> = Right(after_four);
     check_refused(&rt, side, 2);
     Ok(())
 }

@@ -1,6 +1,6 @@
-use super::{read, wrapped};
+use super::wrapped;
 use either::{Either, Left, Right};
-use sources::{Concat, DequeSplit, LinesSplit, RangeSplit, SliceSplit};
+use sources::{Concat, DequeSplit, LinesSplit, RangeSplit, RangeTooLong, SliceSplit};
 use spliterator::{NoMemory, Spliterator};
 use std::alloc::Global;
 use std::process::Abort;
@@ -63,6 +63,33 @@ fn append_blocks<S: Spliterator>(
     Ok(())
 }
 
+/// A way to read a source.
+#[derive(Clone, Copy)]
+enum Way {
+    ToItsEnd,
+    SplitOnce,
+    SplitToTheBottom,
+    SplitBehind(usize),
+    ByBlocks(usize),
+}
+
+/// Appends the items of a source, which has so many, read in one way.
+fn append_in<S: Spliterator>(
+    alloc: Global,
+    split: S,
+    way: Way,
+    number: usize,
+    items: &mut Vec<S::Item>,
+) -> Result<(), NoMemory> {
+    match way {
+        Way::ToItsEnd => append(split, items),
+        Way::SplitOnce => append_halves(split, items),
+        Way::SplitToTheBottom => append_parts(split, items),
+        Way::SplitBehind(some) => append_later(split, some, items),
+        Way::ByBlocks(most) => append_blocks(alloc, split, number, most, items),
+    }
+}
+
 /// Reads a source in five ways: to its end, split once, split to the bottom, split half way, and by blocks of 1, of 2 and of more than
 /// there is.
 fn check<S: Spliterator>(
@@ -71,20 +98,20 @@ fn check<S: Spliterator>(
     split: S,
     expected: &[S::Item],
 ) -> Result<(), NoMemory> {
-    assert!(rt; read(alloc, split)?.as_slice() == expected, "to its end");
-    let mut halves = Vec::new(alloc);
-    append_halves(split, &mut halves)?;
-    assert!(rt; halves.as_slice() == expected, "split once");
-    let mut parts = Vec::new(alloc);
-    append_parts(split, &mut parts)?;
-    assert!(rt; parts.as_slice() == expected, "split to the bottom");
-    let mut later = Vec::new(alloc);
-    append_later(split, expected.len() / 2, &mut later)?;
-    assert!(rt; later.as_slice() == expected, "split half way");
-    for most in [1, 2, 99] {
-        let mut blocks = Vec::new(alloc);
-        append_blocks(alloc, split, expected.len(), most, &mut blocks)?;
-        assert!(rt; blocks.as_slice() == expected, "by blocks of {most}");
+    let number = expected.len();
+    let ways = [
+        Way::ToItsEnd,
+        Way::SplitOnce,
+        Way::SplitToTheBottom,
+        Way::SplitBehind(number / 2),
+        Way::ByBlocks(1),
+        Way::ByBlocks(2),
+        Way::ByBlocks(99),
+    ];
+    for (place, way) in ways.iter().enumerate() {
+        let mut items = Vec::new(alloc);
+        append_in(alloc, split, *way, number, &mut items)?;
+        assert!(rt; items.as_slice() == expected, "in way {place}");
     }
     Ok(())
 }
@@ -93,32 +120,39 @@ fn check<S: Spliterator>(
 fn numbers_are_read_in_five_ways(rt: HostRuntime) -> Result<(), Fail> {
     let alloc = rt.alloc();
     let ten = [-4, -3, -2, -1, 0, 1, 2, 3, 4, 5];
-    check(&rt, alloc, RangeSplit::range(-4, 6)?, &ten)?;
-    check(&rt, alloc, RangeSplit::closed(-4, 5)?, &ten)?;
-    check(&rt, alloc, RangeSplit::range(6, -4)?, &[])?;
-    check(&rt, alloc, SliceSplit::new(&ten), &ten)?;
-    check(&rt, alloc, SliceSplit::new(&ten[..1]), &ten[..1])?;
-    check(&rt, alloc, SliceSplit::new(&ten[..0]), &[])?;
+    let ranges: [(Result<RangeSplit, RangeTooLong>, &[i64]); 3] = [
+        (RangeSplit::range(-4, 6), &ten),
+        (RangeSplit::closed(-4, 5), &ten),
+        (RangeSplit::range(6, -4), &[]),
+    ];
+    for (range, items) in ranges {
+        check(&rt, alloc, range?, items)?;
+    }
+    let slices: [&[i64]; 3] = [&ten, &[-4], &[]];
+    for slice in slices {
+        check(&rt, alloc, SliceSplit::new(slice), slice)?;
+    }
     let queue = wrapped(alloc)?;
     check(&rt, alloc, DequeSplit::new(&queue), &[1, 2, 3])?;
     Ok(())
 }
 
+/// Texts and their lines.
+const LINES: [(&str, &[&str]); 7] = [
+    ("", &[]),
+    ("\n", &[""]),
+    ("\n\n\n", &["", "", ""]),
+    ("one", &["one"]),
+    ("\na\n\n", &["", "a", ""]),
+    ("one\ntwo\n\nand three", &["one", "two", "", "and three"]),
+    ("é\nü\n日本\n", &["é", "ü", "日本"]),
+];
+
 #[test]
 fn lines_are_read_in_five_ways(rt: HostRuntime) -> Result<(), Fail> {
-    let alloc = rt.alloc();
-    check(&rt, alloc, LinesSplit::new(""), &[])?;
-    check(&rt, alloc, LinesSplit::new("\n"), &[""])?;
-    check(&rt, alloc, LinesSplit::new("\n\n\n"), &["", "", ""])?;
-    check(&rt, alloc, LinesSplit::new("one"), &["one"])?;
-    check(&rt, alloc, LinesSplit::new("\na\n\n"), &["", "a", ""])?;
-    check(
-        &rt,
-        alloc,
-        LinesSplit::new("one\ntwo\n\nand three"),
-        &["one", "two", "", "and three"],
-    )?;
-    check(&rt, alloc, LinesSplit::new("é\nü\n日本\n"), &["é", "ü", "日本"])?;
+    for (text, lines) in LINES {
+        check(&rt, rt.alloc(), LinesSplit::new(text), lines)?;
+    }
     Ok(())
 }
 
@@ -129,12 +163,8 @@ fn two_sources_are_read_in_five_ways(rt: HostRuntime) -> Result<(), Fail> {
     let slice = SliceSplit::new(&numbers);
     let range = RangeSplit::range(0, 4)?;
     let none = RangeSplit::range(0, 0)?;
-    check(
-        &rt,
-        alloc,
-        Concat::new(range, slice),
-        &[0, 1, 2, 3, 7, 8, 9],
-    )?;
+    let front = [0, 1, 2, 3, 7, 8, 9];
+    check(&rt, alloc, Concat::new(range, slice), &front)?;
     check(&rt, alloc, Concat::new(none, slice), &numbers)?;
     check(&rt, alloc, Concat::new(slice, none), &numbers)?;
     check(&rt, alloc, Concat::new(none, none), &[])?;
@@ -142,9 +172,12 @@ fn two_sources_are_read_in_five_ways(rt: HostRuntime) -> Result<(), Fail> {
     check(&rt, alloc, many, &[7, 8, 9, 0, 1, 2, 3])?;
     let lines = Concat::new(LinesSplit::new("a\nb"), LinesSplit::new("\nc\n"));
     check(&rt, alloc, lines, &["a", "b", "", "c"])?;
-    let left: Either<RangeSplit, SliceSplit<'_, i64>> = Left(range);
-    check(&rt, alloc, left, &[0, 1, 2, 3])?;
-    let right: Either<RangeSplit, SliceSplit<'_, i64>> = Right(slice);
-    check(&rt, alloc, right, &numbers)?;
+    let sides: [(Either<RangeSplit, SliceSplit<'_, i64>>, &[i64]); 2] = [
+        (Left(range), &[0, 1, 2, 3]),
+        (Right(slice), &numbers),
+    ];
+    for (side, items) in sides {
+        check(&rt, alloc, side, items)?;
+    }
     Ok(())
 }
