@@ -78,8 +78,8 @@ fn prepared_divisors_divide(rt: HostRuntime) -> Result<(), Fail> {
     ];
     for (x, number, rest) in rows {
         let divisor = Divisor::new(number);
-        assert!(rt; divisor.remainder(x) == rest, "{x} mod {number}");
-        assert!(rt; divisor.divides(x) == (rest == 0), "{number} divides {x}");
+        let is_divided = divisor.remainder(x) == rest && divisor.divides(x) == (rest == 0);
+        assert!(rt; is_divided, "{x} by {number}");
     }
     Ok(())
 }
@@ -142,15 +142,13 @@ fn a_test_of_an_owned_text(rt: HostRuntime) -> Result<(), Fail> {
 
 #[test]
 fn a_length_counts_bytes(rt: HostRuntime) -> Result<(), Fail> {
-    assert!(rt; image(&TextLength, &"é")? == 2);
-    assert!(rt; image(&TextLength, &"")? == 0);
+    assert!(rt; image(&TextLength, &"é")? == 2 && image(&TextLength, &"")? == 0);
     Ok(())
 }
 
 #[test]
 fn an_item_becomes_itself(rt: HostRuntime) -> Result<(), Fail> {
-    assert!(rt; image(&Itself, &"ab")? == "ab");
-    assert!(rt; image(&Itself, &-3)? == -3);
+    assert!(rt; image(&Itself, &"ab")? == "ab" && image(&Itself, &-3)? == -3);
     Ok(())
 }
 
@@ -172,7 +170,8 @@ fn numbers_of_one_key_are_joined(rt: HostRuntime) -> Result<(), Fail> {
 
 #[test]
 fn texts_of_one_key_are_joined(rt: HostRuntime) -> Result<(), Fail> {
-    assert!(rt; joined(&TextMerging::of(TextMerge::First), &"a", &"b")? == "a");
-    assert!(rt; joined(&TextMerging::of(TextMerge::Last), &"a", &"b")? == "b");
+    for (merge, wanted) in [(TextMerge::First, "a"), (TextMerge::Last, "b")] {
+        assert!(rt; joined(&TextMerging::of(merge), &"a", &"b")? == wanted);
+    }
     Ok(())
 }

@@ -7,6 +7,15 @@ use std::alloc::Global;
 use std::process::Abort;
 use std::test::Fail;
 
+/// What a front of stages makes of items, one by one.
+fn made(alloc: Global, steps: &NumberSteps, items: &[i64]) -> Result<Vec<i64>, NoMemory> {
+    let mut found = Vec::new(alloc);
+    for item in items {
+        steps.push(*item, &mut found)?;
+    }
+    Ok(found)
+}
+
 /// What a front of stages makes of a block of items.
 fn made_at_once(alloc: Global, steps: &NumberSteps, items: &[i64]) -> Result<Vec<i64>, NoMemory> {
     let mut block = Vec::new(alloc);
@@ -22,14 +31,12 @@ type NumberRow<'a> = (&'a [NumberStage], &'a [i64], &'a [i64], usize);
 fn check(rt: &(impl Abort + Alloc<A = Global>), rows: &[NumberRow<'_>]) -> Result<(), Fail> {
     for &(stages, items, wanted, taken) in rows {
         let (steps, number) = NumberSteps::front_of(rt.alloc(), stages)?;
-        assert!(rt; number == taken);
-        let mut found = Vec::new(rt.alloc());
-        for item in items {
-            steps.push(*item, &mut found)?;
-        }
-        assert!(rt; found.as_slice() == wanted, "{found:?}");
+        let found = made(rt.alloc(), &steps, items)?;
         let at_once = made_at_once(rt.alloc(), &steps, items)?;
-        assert!(rt; at_once.as_slice() == wanted, "{at_once:?}");
+        assert!(rt;
+            number == taken && found.as_slice() == wanted && at_once.as_slice() == wanted,
+            "{number} stages make {found:?}, and at once {at_once:?}"
+        );
     }
     Ok(())
 }
@@ -222,8 +229,7 @@ type TextRow<'a> = (&'a [TextStage<'a>], &'a [&'a str], &'a [&'a str], usize);
 fn check_texts(rt: &(impl Abort + Alloc<A = Global>), rows: &[TextRow<'_>]) -> Result<(), Fail> {
     for &(stages, items, wanted, taken) in rows {
         let (found, number) = made_of_texts(rt.alloc(), stages, items)?;
-        assert!(rt; found.as_slice() == wanted, "{found:?}");
-        assert!(rt; number == taken);
+        assert!(rt; found.as_slice() == wanted && number == taken, "{found:?}");
     }
     Ok(())
 }

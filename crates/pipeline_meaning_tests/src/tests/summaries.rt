@@ -13,20 +13,22 @@ use std::alloc::Global;
 use std::process::Abort;
 use std::test::Fail;
 
-/// The text of what a collector makes of the items.
-fn text_of<C: Summarizes>(
-    alloc: Global,
+/// Checks the text of what a collector makes of the items.
+fn check<C: Summarizes>(
+    rt: &(impl Abort + Alloc<A = Global>),
     collector: &C,
     items: &[C::Item],
-) -> Result<String, NoMemory>
+    wanted: &str,
+) -> Result<(), NoMemory>
 where
     C::Out: Written,
     requires { C.ready collector.now }
 {
     let made = collect(collector, items)?;
-    let mut text = String::new(alloc);
+    let mut text = String::new(rt.alloc());
     write_result(collector, &made, &mut text)?;
-    Ok(text)
+    assert!(rt; text.as_str() == wanted, "{text}");
+    Ok(())
 }
 
 /// The summary, the items, and the text of what is made of these.
@@ -46,8 +48,7 @@ fn summaries_of_numbers(rt: HostRuntime) -> Result<(), Fail> {
     ];
     for (base, items, wanted) in rows {
         let summary = number_summary(rt.alloc(), hashes, NumberSummary::Base(base));
-        let text = text_of(rt.alloc(), &summary, items)?;
-        assert!(rt; text.as_str() == wanted, "{text}");
+        check(&rt, &summary, items, wanted)?;
     }
     Ok(())
 }
@@ -71,8 +72,7 @@ fn nested_groups(rt: HostRuntime) -> Result<(), Fail> {
         let key = NumberMapping::of(NumberFunction::Mod(2));
         let inner = number_summary(rt.alloc(), hashes, summary);
         let groups = GroupingBy::with_hasher(rt.alloc(), key, inner, hashes);
-        let text = text_of(rt.alloc(), &groups, items)?;
-        assert!(rt; text.as_str() == wanted, "{text}");
+        check(&rt, &groups, items, wanted)?;
     }
     Ok(())
 }
@@ -83,8 +83,7 @@ fn a_partition(rt: HostRuntime) -> Result<(), Fail> {
     let tens = NumberSummary::Mapping(NumberFunction::Mul(10), list);
     let inner = number_summary(rt.alloc(), SeededHashes::of(&[7; 16]), tens);
     let parts = PartitioningBy::new(NumberCheck::of(NumberTest::Less(3)), inner);
-    let text = text_of(rt.alloc(), &parts, &[1, 2, 3])?;
-    assert!(rt; text.as_str() == "{false=[30], true=[10, 20]}", "{text}");
+    check(&rt, &parts, &[1, 2, 3], "{false=[30], true=[10, 20]}")?;
     Ok(())
 }
 
@@ -92,8 +91,8 @@ fn a_partition(rt: HostRuntime) -> Result<(), Fail> {
 fn a_pair(rt: HostRuntime) -> Result<(), Fail> {
     let max = number_base(rt.alloc(), NumberBase::Max);
     let min = number_base(rt.alloc(), NumberBase::Min);
-    let text = text_of(rt.alloc(), &Teeing::new(max, min, Both), &[2, 5, 3])?;
-    assert!(rt; text.as_str() == "[Optional[5], Optional[2]]", "{text}");
+    let both = Teeing::new(max, min, Both);
+    check(&rt, &both, &[2, 5, 3], "[Optional[5], Optional[2]]")?;
     Ok(())
 }
 
@@ -104,31 +103,12 @@ fn a_map(rt: HostRuntime) -> Result<(), Fail> {
     let value = NumberMapping::of(NumberFunction::Itself);
     let merge = NumberMerging::of(NumberMerge::Last);
     let last = ToMap::<i64, i64, _, _, _, _>::with_hasher(rt.alloc(), key, value, merge, hashes);
-    let text = text_of(rt.alloc(), &last, &[1, 2, 3, 4])?;
-    assert!(rt; text.as_str() == "{1=3, 0=4}", "{text}");
+    check(&rt, &last, &[1, 2, 3, 4], "{1=3, 0=4}")?;
     Ok(())
-}
-
-/// The text of what a summary makes of texts.
-fn text_of_texts(
-    alloc: Global,
-    summary: TextSummary<'_>,
-    items: &[&str],
-) -> Result<String, NoMemory> {
-    let collector = text_summary(alloc, SeededHashes::of(&[7; 16]), summary);
-    text_of(alloc, &collector, items)
 }
 
 /// The summary, the items, and the text of what is made of these.
 type TextRow<'a> = (TextSummary<'a>, &'a [&'a str], &'a str);
-
-fn check_texts(rt: &(impl Abort + Alloc<A = Global>), rows: &[TextRow<'_>]) -> Result<(), Fail> {
-    for &(summary, items, wanted) in rows {
-        let text = text_of_texts(rt.alloc(), summary, items)?;
-        assert!(rt; text.as_str() == wanted, "{text}");
-    }
-    Ok(())
-}
 
 #[test]
 fn summaries_of_texts(rt: HostRuntime) -> Result<(), Fail> {
@@ -146,14 +126,18 @@ fn summaries_of_texts(rt: HostRuntime) -> Result<(), Fail> {
         ),
         (counts, &["b", "", "b"], "{b=2, =1}"),
     ];
-    check_texts(&rt, &rows)
+    let hashes = SeededHashes::of(&[7; 16]);
+    for (summary, items, wanted) in rows {
+        let collector = text_summary(rt.alloc(), hashes, summary);
+        check(&rt, &collector, items, wanted)?;
+    }
+    Ok(())
 }
 
 #[test]
 fn a_frame_of_no_texts(rt: HostRuntime) -> Result<(), Fail> {
     let framed = Joining::<&str>::new(rt.alloc(), ",", "[", "]");
-    let text = text_of(rt.alloc(), &framed, &[])?;
-    assert!(rt; text.as_str() == "[]", "{text}");
+    check(&rt, &framed, &[], "[]")?;
     Ok(())
 }
 

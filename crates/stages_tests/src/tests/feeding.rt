@@ -158,36 +158,53 @@ fn pushed<S: Stage<In = i64, Out = i64>>(
     Ok(out)
 }
 
-#[test]
-fn stages_are_fused(rt: HostRuntime) -> Result<(), Fail> {
-    let alloc = rt.alloc();
-    let above_two = Filter::new(Above { limit: 2 });
-    let tenfold = Map::new(Times { factor: 10 });
-    let lent = Then::new(&above_two, &tenfold);
-    let items = pushed(&rt, &lent, &[1, 2, 3, 4], Vec::new(alloc))?;
-    assert!(rt; items.as_slice() == [30, 40].as_slice());
-    let fused = Then::new(tenfold, above_two);
-    let items = pushed(&rt, &fused, &[0, 1], items)?;
-    assert!(rt; items.as_slice() == [30, 40, 10].as_slice());
-    let again = Then::new(
-        Nothing::new(),
-        Then::new(fused, Map::new(Times { factor: -1 })),
-    );
-    let items = pushed(&rt, &again, &[1, 0, 2], Vec::new(alloc))?;
-    assert!(rt; items.as_slice() == [-10, -20].as_slice());
+/// Checks the list that the numbers pushed onto a list make.
+fn check<S: Stage<In = i64, Out = i64>>(
+    rt: &(impl Abort + Alloc<A = Global>),
+    stage: &S,
+    numbers: &[i64],
+    before: &[i64],
+    after: &[i64],
+) -> Result<(), Fail>
+    requires { S.ready stage.now }
+{
+    let items = pushed(rt, stage, numbers, Vec::from_slice(rt.alloc(), before)?)?;
+    assert!(rt; items.as_slice() == after, "{numbers:?}");
     Ok(())
 }
 
 #[test]
+fn stages_are_fused(rt: HostRuntime) -> Result<(), Fail> {
+    let above_two = Filter::new(Above { limit: 2 });
+    let tenfold = Map::new(Times { factor: 10 });
+    let lent = Then::new(&above_two, &tenfold);
+    check(&rt, &lent, &[1, 2, 3, 4], &[], &[30, 40])?;
+    let fused = Then::new(tenfold, above_two);
+    check(&rt, &fused, &[0, 1], &[30, 40], &[30, 40, 10])?;
+    let negated = Then::new(fused, Map::new(Times { factor: -1 }));
+    let again = Then::new(Nothing::new(), negated);
+    check(&rt, &again, &[1, 0, 2], &[], &[-10, -20])
+}
+
+#[test]
 fn an_item_becomes_a_list(rt: HostRuntime) -> Result<(), Fail> {
-    let alloc = rt.alloc();
-    let copies = FlatMap::new(Copies { alloc });
-    let items = pushed(&rt, &copies, &[2, 0, 3], Vec::new(alloc))?;
-    assert!(rt; items.as_slice() == [2, 2, 3, 3, 3].as_slice());
+    let copies = FlatMap::new(Copies { alloc: rt.alloc() });
+    check(&rt, &copies, &[2, 0, 3], &[], &[2, 2, 3, 3, 3])?;
     let squares = Then::new(&copies, &copies);
-    let items = pushed(&rt, &squares, &[2], Vec::new(alloc))?;
-    assert!(rt; items.as_slice() == [2, 2, 2, 2].as_slice());
-    Ok(())
+    check(&rt, &squares, &[2], &[], &[2, 2, 2, 2])
+}
+
+/// Checks that a push is refused, and leaves a list.
+fn check_refused<S: Stage<In = i64, Out = i64>>(
+    rt: &impl Abort,
+    stage: &S,
+    number: i64,
+    out: &mut Vec<i64>,
+)
+    requires { S.ready stage.now }
+{
+    let is_refused = stage.push(number, out) == Err(NoMemory);
+    assert!(rt; is_refused && out.as_slice() == [2].as_slice());
 }
 
 /// What of an expansion came before the refusal is taken back.
@@ -196,14 +213,10 @@ fn a_refused_push_leaves_the_list(rt: HostRuntime) -> Result<(), Fail> {
     let alloc = rt.alloc();
     let mut out = Vec::from_array(alloc, [2])?;
     let refusing = Map::new(RefusesSeven);
-    assert!(rt; refusing.push(7, &mut out) == Err(NoMemory));
-    assert!(rt; out.as_slice() == [2].as_slice());
+    check_refused(&rt, &refusing, 7, &mut out);
     let halfway = Then::new(FlatMap::new(WithNext { alloc }), refusing);
-    assert!(rt; halfway.push(6, &mut out) == Err(NoMemory));
-    assert!(rt; out.as_slice() == [2].as_slice());
-    let out = pushed(&rt, &halfway, &[4], out)?;
-    assert!(rt; out.as_slice() == [2, 4, 5].as_slice());
-    Ok(())
+    check_refused(&rt, &halfway, 6, &mut out);
+    check(&rt, &halfway, &[4], &out, &[2, 4, 5])
 }
 
 #[test]
@@ -217,12 +230,17 @@ fn nothing_is_fed_to_a_full_sink(rt: HostRuntime) -> Result<(), Fail> {
     let copies = FlatMap::new(Copies { alloc });
     let fused = Then::new(&copies, Map::new(Times { factor: 2 }));
     fused.feed(5, &mut few)?;
-    assert!(rt; few.kept.as_slice() == [10, 10].as_slice());
-    assert!(rt; few.came == 2);
+    assert!(rt; few.kept.as_slice() == [10, 10].as_slice() && few.came == 2);
     copies.feed(5, &mut few)?;
     fused.feed_all(&mut Vec::from_array(alloc, [5, 5])?, &mut few)?;
     assert!(rt; few.came == 2);
     Ok(())
+}
+
+/// Whether a stage tells this row, and how many items it makes of five. Of an unknown number it makes an unknown one.
+fn tells<S: Stage>(stage: &S, operation: Operation, size: Option<u64>) -> bool {
+    let after_none = stage.size_after(None);
+    stage.operation() == operation && stage.size_after(Some(5)) == size && after_none.is_none()
 }
 
 #[test]
@@ -230,18 +248,9 @@ fn stages_tell_their_rows(rt: HostRuntime) {
     let map = Map::new(Times { factor: 2 });
     let filter = Filter::new(Above { limit: 2 });
     let flat_map = FlatMap::new(Copies { alloc: rt.alloc() });
-    let nothing: Nothing<i64> = Nothing::new();
-    assert!(rt; row_of(&map) == (Operation::Map, Some(5), None));
-    assert!(rt; row_of(&filter) == (Operation::Filter, None, None));
-    assert!(rt; row_of(&flat_map) == (Operation::FlatMap, None, None));
-    assert!(rt; row_of(&nothing) == (Operation::Map, Some(5), None));
-    assert!(rt; row_of(&Then::new(&map, &map)) == (Operation::FlatMap, None, None));
-}
-
-fn row_of<S: Stage>(stage: &S) -> (Operation, Option<u64>, Option<u64>) {
-    (
-        stage.operation(),
-        stage.size_after(Some(5)),
-        stage.size_after(None),
-    )
+    assert!(rt; tells(&map, Operation::Map, Some(5)));
+    assert!(rt; tells(&filter, Operation::Filter, None));
+    assert!(rt; tells(&flat_map, Operation::FlatMap, None));
+    assert!(rt; tells(&Nothing::<i64>::new(), Operation::Map, Some(5)));
+    assert!(rt; tells(&Then::new(&map, &map), Operation::FlatMap, None));
 }

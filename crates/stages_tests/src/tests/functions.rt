@@ -81,31 +81,45 @@ fn is_below_five(x: i64) -> bool
 
 #[test]
 fn closures_answer_as_their_definitions(rt: HostRuntime) -> Result<(), Fail> {
-    assert!(rt; ten_times(4)? == 40);
-    assert!(rt; added(2, 5)? == 7);
-    assert!(rt; is_below_five(4));
-    assert!(rt; !is_below_five(5));
+    assert!(rt; ten_times(4)? == 40 && added(2, 5)? == 7);
+    assert!(rt; is_below_five(4) && !is_below_five(5));
     Ok(())
+}
+
+/// Whether an operator joins the first two of each row to the third.
+fn joins<T: Value + Drop, O: Operator<T>>(
+    operator: &O,
+    rows: &[(&T, &T, &T)],
+) -> Result<bool, NoMemory>
+    requires { O.ready operator.now }
+{
+    for (a, b, wanted) in rows {
+        if joined(operator, *a, *b)? != **wanted {
+            return Ok(false);
+        }
+    }
+    Ok(true)
 }
 
 #[test]
 fn operators_join_two_values(rt: HostRuntime) -> Result<(), Fail> {
-    assert!(rt; joined(&WrapAdd::new(), &2, &5)? == 7);
-    assert!(rt; joined(&WrapAdd::new(), &i64::MAX, &1)? == i64::MIN);
-    assert!(rt; joined(&WrapMul::new(), &-3, &5)? == -15);
-    assert!(rt; joined(&WrapMul::new(), &i64::MIN, &-1)? == i64::MIN);
-    assert!(rt; joined(&Max::new(), &-3, &5)? == 5);
-    assert!(rt; joined(&Min::new(), &-3, &5)? == -3);
-    assert!(rt; joined(&FirstOf::new(), &-3, &5)? == -3);
-    assert!(rt; joined(&LastOf::new(), &-3, &5)? == 5);
-    assert!(rt; joined(&&Max::new(), &5, &-3)? == 5);
-    let texts = [
-        String::from_str(rt.alloc(), "ab")?,
-        String::from_str(rt.alloc(), "b")?,
-    ];
-    assert!(rt; joined(&Max::new(), &texts[0], &texts[1])? == texts[1]);
-    assert!(rt; joined(&Min::new(), &texts[0], &texts[1])? == texts[0]);
-    assert!(rt; joined(&FirstOf::new(), &texts[1], &texts[0])? == texts[1]);
-    assert!(rt; joined(&LastOf::new(), &texts[1], &texts[0])? == texts[0]);
+    let (least, most) = (i64::MIN, i64::MAX);
+    assert!(rt; joins(&WrapAdd::new(), &[(&2, &5, &7), (&most, &1, &least)])?);
+    assert!(rt; joins(&WrapMul::new(), &[(&-3, &5, &-15), (&least, &-1, &least)])?);
+    assert!(rt; joins(&Max::new(), &[(&-3, &5, &5)])? && joins(&&Max::new(), &[(&5, &-3, &5)])?);
+    assert!(rt; joins(&Min::new(), &[(&-3, &5, &-3)])?);
+    assert!(rt; joins(&FirstOf::new(), &[(&-3, &5, &-3)])?);
+    assert!(rt; joins(&LastOf::new(), &[(&-3, &5, &5)])?);
+    Ok(())
+}
+
+#[test]
+fn operators_join_two_texts(rt: HostRuntime) -> Result<(), Fail> {
+    let first = String::from_str(rt.alloc(), "ab")?;
+    let second = String::from_str(rt.alloc(), "b")?;
+    assert!(rt; joins(&Max::new(), &[(&first, &second, &second)])?);
+    assert!(rt; joins(&Min::new(), &[(&first, &second, &first)])?);
+    assert!(rt; joins(&FirstOf::new(), &[(&second, &first, &second)])?);
+    assert!(rt; joins(&LastOf::new(), &[(&second, &first, &first)])?);
     Ok(())
 }

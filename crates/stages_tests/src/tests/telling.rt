@@ -16,26 +16,28 @@ fn told(flags: StreamFlags) -> [bool; 4] {
     ]
 }
 
-fn check(rt: &impl Abort, flags: StreamFlags, row: [bool; 4]) {
-    assert!(rt; told(flags) == row);
-}
+/// What a source tells, and the flags.
+const TOLD: [(u32, [bool; 4]); 5] = [
+    (SORTED_SET, [true, true, true, false]),
+    (TOLD_NOTHING, [false, false, false, false]),
+    (0x1, [true, false, false, false]),
+    (0x4, [false, true, false, false]),
+    (0x40, [false, false, true, false]),
+];
 
 #[test]
 fn a_source_tells_its_characteristics(rt: HostRuntime) {
-    let flags = StreamFlags::of(SORTED_SET);
-    check(&rt, flags, [true, true, true, false]);
-    check(&rt, StreamFlags::of(TOLD_NOTHING), [false; 4]);
-    check(&rt, StreamFlags::of(0x1), [true, false, false, false]);
-    check(&rt, StreamFlags::of(0x4), [false, true, false, false]);
-    check(&rt, StreamFlags::of(0x40), [false, false, true, false]);
-    let filtered = flags.after(Operation::Filter);
-    check(
-        &rt,
-        filtered.after(Operation::Limit),
-        [true, true, false, true],
-    );
-    let mapped = filtered.after(Operation::Limit).after(Operation::Map);
-    check(&rt, mapped, [false, false, false, true]);
+    for (characteristics, row) in TOLD {
+        assert!(rt;
+            told(StreamFlags::of(characteristics)) == row,
+            "{characteristics}"
+        );
+    }
+    let limited = StreamFlags::of(SORTED_SET)
+        .after(Operation::Filter)
+        .after(Operation::Limit);
+    assert!(rt; told(limited) == [true, true, false, true]);
+    assert!(rt; told(limited.after(Operation::Map)) == [false, false, false, true]);
 }
 
 /// Checks a row of the table: K for a flag that is kept, C for one that is cleared, S for one that is set.
@@ -64,14 +66,14 @@ fn operations_keep_clear_and_set_flags(rt: HostRuntime) {
         (Operation::TakeWhile, b"KKCS"),
         (Operation::DropWhile, b"KKCK"),
     ];
+    let set = StreamFlags::of(SORTED_SET);
     for (operation, row) in table {
-        check_row(
-            &rt,
-            StreamFlags::of(SORTED_SET).after(Operation::Limit),
-            operation,
-            row,
-        );
-        check_row(&rt, StreamFlags::of(SORTED_SET), operation, row);
-        check_row(&rt, StreamFlags::of(TOLD_NOTHING), operation, row);
+        for flags in [
+            set.after(Operation::Limit),
+            set,
+            StreamFlags::of(TOLD_NOTHING),
+        ] {
+            check_row(&rt, flags, operation, row);
+        }
     }
 }
