@@ -6,7 +6,7 @@ ghost use Rattle.stages.specs.Operators.{IsAssociative};
 use super::functions::Itself;
 use collectors::{Collector, SummingLong, ToList};
 use parallel_streams::{Run, Stream, StreamError, of};
-use sources::{RangeSplit, SliceSplit};
+use sources::SliceSplit;
 use stages::Operator;
 use std::alloc::Global;
 use std::process::Abort;

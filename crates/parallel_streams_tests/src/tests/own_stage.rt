@@ -8,12 +8,11 @@ ghost use Rattle.std.specs.Ordering.{int_cmp};
 use super::answers::{check_list, listed};
 use super::rows::first_apart;
 use super::{SETTINGS, at};
-use parallel_streams::{Run, Stream, of};
+use parallel_streams::{Stream, of};
 use sources::RangeSplit;
 use spliterator::NoMemory;
 use stages::{Operation, Operator, Sink, Stage, WrapAdd};
 use std::test::Fail;
-use stealing_pool::NoGate;
 
 /// Each number, and then the next one.
 #[derive(Drop)]

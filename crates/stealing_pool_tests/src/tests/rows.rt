@@ -127,19 +127,18 @@ fn sum<R: Threads + Sync>(
 }
 
 /// Whether 1, 2, 7 and 64 workers all find this sum, at a target of 1 and at the default.
-fn all_find_sum<R: Threads + Sync>(
+fn all_find_sum<R: Threads + Abort + Sync>(
     rt: &R,
     alloc: Global,
-    range: RangeSplit,
+    numbers: RangeSplit,
     wanted: i64,
 ) -> Result<bool, NoMemory> {
     for target in [1, 0] {
-        let few = sum(rt, alloc, range, 1, target)?.acc == wanted
-            && sum(rt, alloc, range, 2, target)?.acc == wanted;
-        let many = sum(rt, alloc, range, 7, target)?.acc == wanted
-            && sum(rt, alloc, range, 64, target)?.acc == wanted;
-        if !few || !many {
-            return Ok(false);
+        for workers in [1u32, 2, 7, 64] {
+            assert!(rt; workers >= 1 && workers <= 64);
+            if sum(rt, alloc, numbers, workers, target)?.acc != wanted {
+                return Ok(false);
+            }
         }
     }
     Ok(true)
@@ -147,17 +146,14 @@ fn all_find_sum<R: Threads + Sync>(
 
 #[test]
 fn sums_are_those_of_one_thread(rt: HostRuntime) -> Result<(), Fail> {
-    let greatest = RangeSplit::closed(9_223_372_036_854_775_806, 9_223_372_036_854_775_807)?;
-    for (range, wanted) in [
-        (RangeSplit::range(1, 6)?, 15),
-        (RangeSplit::range(5, 5)?, 0),
-        (greatest, -3),
-        (RangeSplit::range(0, 100)?, 4950),
+    for (numbers, wanted) in [
+        (RangeSplit::range(1, 6), 15),
+        (RangeSplit::range(5, 5), 0),
+        (RangeSplit::closed(i64::MAX - 1, i64::MAX), -3),
+        (RangeSplit::range(0, 100), 4950),
     ] {
-        assert!(rt;
-            all_find_sum(&rt, rt.alloc(), range, wanted)?,
-            "the sum {wanted}"
-        );
+        let is_found = all_find_sum(&rt, rt.alloc(), numbers?, wanted)?;
+        assert!(rt; is_found, "the sum {wanted}");
     }
     Ok(())
 }
@@ -165,9 +161,8 @@ fn sums_are_those_of_one_thread(rt: HostRuntime) -> Result<(), Fail> {
 #[test]
 fn a_report_tells_the_leaves_of_a_whole_run(rt: HostRuntime) -> Result<(), Fail> {
     let run = sum(&rt, rt.alloc(), RangeSplit::range(0, 100_000)?, 4, 0)?;
-    assert!(rt; run.acc == 4_999_950_000);
-    assert!(rt; run.entry.leaves() == 16 && run.entry.cut().is_none());
-    assert!(rt; run.entry.count(15) == Some(0));
+    let is_whole = run.entry.leaves() == 16 && run.entry.cut().is_none();
+    assert!(rt; run.acc == 4_999_950_000 && is_whole && run.entry.count(15) == Some(0));
     Ok(())
 }
 
@@ -241,9 +236,8 @@ fn two_children_are_combined_at_once(rt: HostRuntime) -> Result<(), Fail> {
 #[test]
 fn light_containers_and_one_worker_start_no_thread(rt: HostRuntime) -> Result<(), Fail> {
     let light = misses_in_combining(&rt, rt.alloc(), 2, true)?;
-    assert!(rt; light.load(Ordering::SeqCst) == 1);
     let alone = misses_in_combining(&rt, rt.alloc(), 1, false)?;
-    assert!(rt; alone.load(Ordering::SeqCst) == 1);
+    assert!(rt; light.load(Ordering::SeqCst) == 1 && alone.load(Ordering::SeqCst) == 1);
     Ok(())
 }
 
@@ -301,11 +295,9 @@ fn one_worker_stops_where_enough_is_kept(rt: HostRuntime) -> Result<(), Fail> {
     };
     let gate = HoldsFirst::until(0, 0);
     let run = listed(&rt, rt.alloc(), shape, Times::new(1), -1, 3, &gate)?;
-    assert!(rt; are_from_zero(run.acc.as_slice(), 5));
-    let mut entries = Vec::new(rt.alloc());
-    entries.push(run.entry)?;
-    let report = RunReport::of(entries);
-    assert!(rt; reports(&report.entries()[0], 4, 1, &[(0, 2), (1, 3)]));
+    let report = RunReport::of(Vec::from_array(rt.alloc(), [run.entry])?);
+    let is_told = matches!(report.entries(), [entry] if reports(entry, 4, 1, &[(0, 2), (1, 3)]));
+    assert!(rt; are_from_zero(run.acc.as_slice(), 5) && is_told);
     Ok(())
 }
 
@@ -327,8 +319,7 @@ fn one_hit_skips_all_that_follows(rt: HostRuntime) -> Result<(), Fail> {
         &lists,
         &NoGate,
     )?;
-    assert!(rt; are_from_zero(run.acc.as_slice(), 4));
-    assert!(rt; reports(&run.entry, 16, 0, &[(0, 1)]));
+    assert!(rt; are_from_zero(run.acc.as_slice(), 4) && reports(&run.entry, 16, 0, &[(0, 1)]));
     Ok(())
 }
 
@@ -342,8 +333,7 @@ fn a_leaf_asks_each_1024_items_whether_it_was_cut(rt: HostRuntime) -> Result<(),
     };
     let gate = HoldsFirst::until(1, 0);
     let run = listed(&rt, rt.alloc(), shape, Times::new(-1), -1, 1, &gate)?;
-    assert!(rt; are_from_zero(run.acc.as_slice(), 1));
-    assert!(rt; reports(&run.entry, 2, 0, &[(0, 1)]));
+    assert!(rt; are_from_zero(run.acc.as_slice(), 1) && reports(&run.entry, 2, 0, &[(0, 1)]));
     assert!(rt; gate.asked.load(Ordering::SeqCst) == 1024);
     Ok(())
 }
@@ -358,8 +348,8 @@ fn the_first_of_a_million_is_found(rt: HostRuntime) -> Result<(), Fail> {
     };
     let gate = HoldsFirst::until(0, 2);
     let run = listed(&rt, rt.alloc(), shape, Times::new(3), 100, 1, &gate)?;
-    assert!(rt; run.acc.as_slice() == [102].as_slice());
-    assert!(rt; reports(&run.entry, 1024, 0, &[(0, 1), (1, 1), (512, 1)]));
+    let is_told = reports(&run.entry, 1024, 0, &[(0, 1), (1, 1), (512, 1)]);
+    assert!(rt; run.acc.as_slice() == [102].as_slice() && is_told);
     Ok(())
 }
 
