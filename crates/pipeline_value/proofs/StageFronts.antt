@@ -12,7 +12,7 @@ use Rattle.std.proofs.Math.ListN.{replicate}
 use Rattle.std.proofs.lemmas.List.{take-append-le, take-append-drop}
 use Rattle.barriers.specs.NeedLaws.{KeepsEnough-take_while}
 use Rattle.barriers.specs.Whiles.{drop_while}
-use Rattle.stages.specs.Distinct.{distinct, distinct_after}
+use Rattle.stages.specs.Distinct.{distinct_after}
 use Rattle.parallel_streams.specs.Meeting.{KeepsEnough-any, all-by-any}
 use Rattle.parallel_streams.specs.Terminals.{any_meets, all_meet}
 use Rattle.pipeline_language.specs.declared.pipeline.NumberStage.{NumberStage}
@@ -21,6 +21,7 @@ use Rattle.pipeline_language.specs.declared.pipeline.NumberTerminal.{NumberTermi
 use Rattle.pipeline_meaning.specs.Functions.{number_image, number_holds}
 use Rattle.pipeline_meaning.specs.Stages.{number_stage, number_stages}
 use Rattle.pipeline_value.specs.Fronts.{IsFrontOf}
+use Rattle.pipeline_value.specs.Narrowing.{stages-append}
 use Rattle.pipeline_value.specs.Value.{Tells, number_told}
 use Rattle.pipeline_value.specs.declared.told.ValueError.{ValueError}
 
@@ -114,10 +115,6 @@ pub stages-decided : (stages : List NumberStage) (d s : NumberStage) (front whol
     → number_stage s whole ≡ number_stage s front → number_stages stages whole ≡ number_stages stages front
 stages-decided [] d s front whole within is same = absurd (omega arith)
 stages-decided (t ∷ stages) d s front whole within is same = ap (number_stages stages) (subst (λ u. number_stage u whole ≡ number_stage u front) is same)
-
-stages-append : (a b : List NumberStage) (l : List ℤ) → number_stages (a ++ b) l ≡ number_stages b (number_stages a l)
-stages-append [] b l = refl
-stages-append (s ∷ a) b l = stages-append a b (number_stage s l)
 
 -- what is told of a front that is enough is told of the whole
 pub told-by-front : (terminal : NumberTerminal) (stages before asking : List NumberStage) (size : ℕ) (whole items : List ℤ) (r : Result (String Global) ValueError)

@@ -1,5 +1,5 @@
 use Rattle.std.proofs.Common.{◌≤◌, Bool, ℤ, ap, subst, ◌∙◌}
-use Rattle.std.specs.Prelude.{count_by, not}
+use Rattle.std.specs.Prelude.{count_by}
 use Rattle.pipeline_meaning.specs.Prepared.{check_holds}
 use Rattle.pipeline_value.proofs.fronts.some_meets.Goals as goal
 

@@ -1,5 +1,5 @@
 use Rattle.pipeline_meaning.specs.Functions.{number_holds}
-use Rattle.pipeline_value.proofs.StageFronts.{least-front, while-front}
+use Rattle.pipeline_value.proofs.StageFronts.{while-front}
 use Rattle.pipeline_value.proofs.fronts.stage_decides.Goals as goal
 
 pub returns-in-TakeWhile : goal.returns-in-TakeWhile

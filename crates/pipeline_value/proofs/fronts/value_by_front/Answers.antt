@@ -1,4 +1,4 @@
-use Rattle.std.proofs.Common.{◌≡◌, ◌++◌, ℤ, List, take, drop, ap, ap₂, refl, subst, ◌∙◌}
+use Rattle.std.proofs.Common.{◌≡◌, ◌++◌, ℤ, List, ap, ap₂, refl, subst, ◌∙◌}
 use Rattle.std.proofs.lemmas.List.{take-append-drop}
 use Rattle.sources.specs.Integers.{integers}
 use Rattle.pipeline_meaning.specs.Stages.{number_stages}
