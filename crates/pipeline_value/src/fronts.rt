@@ -21,42 +21,20 @@ use std::thread::Threads;
 use stealing_pool::Gate;
 
 /// The sizes of the fronts. One worker reads each, since threads take longer to start than they would save.
-const FRONTS: [u64; 2] = [1 << 12, 1 << 17];
+pub(crate) const FRONTS: [u64; 2] = [1 << 12, 1 << 17];
 
 /// A front is read where the range is at least so many times longer, so that a front in vain costs little.
 const TIMES_LONGER: u64 = 64;
 
-/// The text of a body's value over a range, where a short front of the range decides it.
+/// The text of a body's value over a range, where a front of so many items decides it.
 ///
 /// A barrier looks at all that comes to it, also where what follows asks for few items. Whatever the stages make of a front is a front of
 /// what they make of the whole, so where that is enough for what follows, the rest needn't be read.
 ///
 /// ```text
-/// range 0 10000000, filter greater 9, distinct, findfirst    // 10, behind 4,096 numbers
+/// range 0 10000000, filter greater 9, distinct, findfirst    // 10, by the first 4,096 numbers
 /// ```
 pub(crate) fn front_value<R: Threads + Sync, H: Gate + Sync>(
-    rt: &R,
-    alloc: Global,
-    hashes: SeededHashes,
-    range: RangeSplit,
-    body: &NumberBody,
-    run: &Run<'_, H>,
-) -> Option<Result<String, ValueError>>
-    requires settings { IsLawfulRun run.now.workers run.now.target }
-    requires body { NumberBodyFits body.now }
-    ensures { IfSome result (Tells (number_body_told body.now (⟦<RangeSplit as Spliterator>⟧.items range))) }
-{
-    for size in FRONTS {
-        let told = value_by_front(rt, alloc, hashes, range, size, body, run);
-        if told.is_some() {
-            return told;
-        }
-    }
-    None
-}
-
-/// The same by a front of so many items.
-fn value_by_front<R: Threads + Sync, H: Gate + Sync>(
     rt: &R,
     alloc: Global,
     hashes: SeededHashes,

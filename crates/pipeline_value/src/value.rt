@@ -6,7 +6,7 @@ ghost use Rattle.sources.specs.Integers.{count_between, integers_between};
 ghost use Rattle.pipeline_value.specs.Ranges.{NumberBodyFits, NumberSourceFits, PipelineFits};
 ghost use Rattle.pipeline_value.specs.Value.{Tells, number_body_told, pipeline_told, source_numbers};
 
-use crate::fronts::front_value;
+use crate::fronts::{FRONTS, front_value};
 use crate::known_size::known_count;
 use crate::narrowed::narrowed;
 use crate::numbers::{list_value, number_value};
@@ -102,8 +102,10 @@ fn narrowed_value<R: Threads + Sync, H: Gate + Sync>(
     ensures { Tells (number_body_told body (⟦<RangeSplit as Spliterator>⟧.items range)) result }
 {
     let range = narrowed(range, &mut body.stages);
-    if let Some(told) = front_value(rt, alloc, hashes, range, &body, run) {
-        return told;
+    for size in FRONTS {
+        if let Some(told) = front_value(rt, alloc, hashes, range, size, &body, run) {
+            return told;
+        }
     }
     number_value(rt, alloc, hashes, range, Nothing::new(), &body, run)
 }

@@ -1,4 +1,4 @@
-use Rattle.pipeline_value.proofs.fronts.front_value.Given as goal
+use Rattle.pipeline_value.proofs.value.narrowed_value.Given as goal
 
 -- nothing changes
 abbrev pub invariant-loop-size : goal.invariant-loop-size

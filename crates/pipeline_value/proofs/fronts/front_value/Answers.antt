@@ -5,7 +5,7 @@ use Rattle.pipeline_meaning.specs.Stages.{number_stages}
 use Rattle.pipeline_value.specs.Fronts.{IsFrontOf}
 use Rattle.pipeline_value.specs.Value.{number_told}
 use Rattle.pipeline_value.proofs.StageFronts.{told-by-front}
-use Rattle.pipeline_value.proofs.fronts.value_by_front.Goals as goal
+use Rattle.pipeline_value.proofs.fronts.front_value.Goals as goal
 
 pub returns : goal.returns
 returns g c =
