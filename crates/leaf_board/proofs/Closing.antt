@@ -1,5 +1,5 @@
 -- What holds of a closed board.
-use Rattle.std.proofs.Common.{◌≡◌, ◌≢◌, ℕ, zero, suc, ◌+◌, ◌*◌, ◌-◌, ◌<◌, List, [], ◌∷◌, length, drop, refl, sym, ap, ◌∙◌, subst, arith, Some, None, if◌then◌else◌}
+use Rattle.std.proofs.Common.{◌≡◌, ◌≢◌, ℕ, zero, suc, ◌+◌, ◌*◌, ◌-◌, ◌<◌, ◌≤◌, List, [], ◌∷◌, length, drop, refl, sym, ap, ◌∙◌, subst, arith, Some, None, if◌then◌else◌}
 use Rattle.std.specs.Prelude.{slice_index, Contains}
 use mathlib.Core.Option.{some, some-ne-none, some-injective}
 use mathlib.Core.Logic.{dite}
@@ -98,6 +98,19 @@ module _ (c : BoardCase) (s : State Unit View) (o : Orderly c s) (id : ℕ) (v :
         let own = f.own_cuts cut (subst (λ (z : Knowledge). Contains z.cuts cut) (sym k.1) h) in
         let low = f.least_known in
         (cut_word s.words, cut_is (omega arith), omega arith);
+    cut_known = λ x is knows.
+        let k = known x is in
+        let low = subst (λ (z : Knowledge). cut_word s.words ≤ z.least) k.1 (o.sound.fits x.number k.0).least_known in
+        (cut_word s.words, cut_is (omega arith), low);
+    count_known = λ x leaf count is knows.
+        let k = known x is in
+        let f = o.sound.fits x.number k.0 in
+        let some : slice_index x.knows.counts leaf ≢ 0 = λ e. absurd (omega arith) in
+        let word = subst (λ (z : Knowledge). slice_index z.counts leaf ≢ 0 → leaf_word c s.words leaf ≡ slice_index z.counts leaf) k.1 (f.known leaf) some in
+        let sized = subst (λ (z : Knowledge). length z.counts ≡ c.leaves) k.1 f.all_counts in
+        let within = there x.knows.counts leaf 0 some in
+        let next : count + 1 ≡ suc count = omega arith in
+        (omega arith, ap count_in (word_is leaf ∙ word ∙ knows ∙ next));
     skipped = λ x leaf is p.
         let k = known x is in
         let f = o.sound.fits x.number k.0 in

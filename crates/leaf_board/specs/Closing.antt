@@ -8,6 +8,7 @@ use Rattle.leaf_board.specs.Knowledge.{blank, WasGiven, IsDrained, entry}
 use Rattle.leaf_board.specs.declared.view.View.{View}
 use Rattle.leaf_board.specs.Rule.{IsPublished, IsSkipped}
 use Rattle.leaf_board.specs.Seats.{Holder}
+use Rattle.leaf_board.specs.Hands.{KnowsCount}
 
 -- A record, as contracts see it: the number of leaves, the cut word and the leaves' words
 pub record Outcome : Type 0 where
@@ -66,6 +67,10 @@ pub record IsRecordOf (c : BoardCase) (seats : List Holder) (r : Outcome) : Type
   -- the cut was made, is justified, and is the least of those made
   pub cut_made : (cut : ℕ) → cut_of r ≡ Some cut → IsJustified c cut × ((s : Holder) × In seats s × Contains s.knows.cuts cut)
   pub cut_least : (s : Holder) (cut : ℕ) → In seats s → Contains s.knows.cuts cut → (least : ℕ) × (cut_of r ≡ Some least) × (least ≤ cut)
+  -- where a seat knows a cut, the record's is there or left of it
+  pub cut_known : (s : Holder) → In seats s → s.knows.least < c.leaves → (cut : ℕ) × (cut_of r ≡ Some cut) × (cut ≤ s.knows.least)
+  -- a count that a seat knows, as one that it looked up, is the record's
+  pub count_known : (s : Holder) (leaf count : ℕ) → In seats s → KnowsCount s leaf count → (leaf < c.leaves) × (count_of r leaf ≡ Some count)
   -- a skipped leaf lies right of the cut, and has no count
   pub skipped : (s : Holder) (leaf : ℕ) → In seats s → IsSkipped s.knows leaf → (cut : ℕ) × (cut_of r ≡ Some cut) × (cut < leaf) × (count_of r leaf ≡ None)
 
