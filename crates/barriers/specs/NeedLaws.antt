@@ -2,8 +2,8 @@
 use Rattle.std.specs.Prelude.{◌≡◌, ◌≤◌, ◌+◌, ℕ, Bool, true, false, not, cond, fold, count_by, List, [], ◌∷◌, ◌++◌, take, take_while, length, Option, Some, None, refl}
 use Rattle.std.proofs.Common.{ap, ◌∙◌, sym, arith, append-nil, ⊎_elim}
 use Rattle.std.proofs.lemmas.List.{take-append-le}
-use Rattle.std.proofs.lemmas.List.Sums.{take_while-cons}
-use Rattle.barriers.specs.Needs.{KeepsEnough, IsOutcome, every_item}
+use Rattle.std.proofs.lemmas.List.Sums.{take_while-cons, sum_by-append}
+use Rattle.barriers.specs.Needs.{KeepsEnough, IsOutcome, StaysEnough, every_item}
 
 sum_from : {T : Type 0} (n : ℕ) (l : List T) → fold (λ a x. a + cond (every_item {T = T} x) 1 0) n l ≡ n + length l
 sum_from n [] = omega arith
@@ -14,6 +14,15 @@ count-every_item l = sum_from 0 l ∙ omega arith
 
 pub KeepsEnough-take : {T : Type 0} (n : ℕ) → KeepsEnough {T = T} (Some n) every_item (take n)
 KeepsEnough-take n front more h = take-append-le n front more (let e = count-every_item front in omega arith)
+
+-- no item counts for less than nothing
+pub StaysEnough-always : {T : Type 0} (needed : Option ℕ) (counted : T → Bool) → StaysEnough needed counted
+StaysEnough-always {T} None counted before part behind enough = absurd enough
+StaysEnough-always {T} (Some r) counted before part behind enough =
+    let counts : List T → ℕ = λ xs. count_by counted xs in
+    let all : counts (before ++ part ++ behind) ≡ counts (before ++ part) + counts behind = sum_by-append (λ x. cond (counted x) 1 0) (before ++ part) behind in
+    let front : counts (before ++ part) ≡ counts before + counts part = sum_by-append (λ x. cond (counted x) 1 0) before part in
+    omega (arith, all, front, enough)
 
 -- where nothing is ever enough, there is nothing to show
 pub KeepsEnough-never : {T A : Type 0} (counted : T → Bool) (value : List T → A) → KeepsEnough None counted value

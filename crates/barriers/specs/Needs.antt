@@ -39,3 +39,7 @@ no_item x = false
 -- where a front is enough, nothing that follows it changes the function's value
 abbrev pub KeepsEnough : {T A : Type 0} → Option ℕ → (T → Bool) → (List T → A) → Type 0
 KeepsEnough {T} needed counted value = (front more : List T) → IsEnough needed counted front → value (front ++ more) ≡ value front
+
+-- what is enough stays enough, whatever stands before it and behind it
+abbrev pub StaysEnough : {T : Type 0} → Option ℕ → (T → Bool) → Type 0
+StaysEnough {T} needed counted = (before part behind : List T) → IsEnough needed counted part → IsEnough needed counted (before ++ part ++ behind)

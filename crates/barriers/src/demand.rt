@@ -1,6 +1,7 @@
 //! How much of a list is enough.
 ghost use Rattle.std.specs.Prelude.{◌≡◌, ◌<◌, ◌≤◌, ◌-◌, ◌^◌, ℕ, length, take, map, count_by, Bool, Option, Some, None, ⊤};
-ghost use Rattle.barriers.specs.Needs.{need_of, every_item, no_item, IsBelow, CountsNone};
+ghost use Rattle.barriers.specs.Needs.{need_of, every_item, no_item, IsBelow, CountsNone, StaysEnough};
+ghost use Rattle.barriers.specs.NeedLaws.{StaysEnough-always};
 
 use spliterator::Value;
 use stages::Test;
@@ -65,6 +66,9 @@ pub trait Demand<T: Value> {
         }
         (items.len(), counting)
     }
+
+    // what is enough stays enough, whatever stands before it and behind it
+    ghost stays_enough: { (d : Self) → StaysEnough (needed d) (counted d) } = { λ d. StaysEnough-always (needed d) (counted d) };
 }
 
 /// Nothing is ever enough.
