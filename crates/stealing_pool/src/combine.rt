@@ -1,5 +1,5 @@
 //! What is kept of the leaves is combined up the tree.
-ghost use Rattle.std.specs.Prelude.{◌≡◌, ◌<◌, length, drop, IfOk, OnOk};
+ghost use Rattle.std.specs.Prelude.{◌≡◌, ◌<◌, ◌≤◌, ◌*◌, ◌^◌, length, drop, IfOk, OnOk};
 ghost use Rattle.std.specs.Thread.{IsSync};
 ghost use denote.Param.Send.{IsSend};
 ghost use Rattle.split_tree.specs.SplitTree.{leaf_numbers, numbers_from};
@@ -119,6 +119,16 @@ fn is_light_row<J: LeafJob>(job: &J, row: &[J::Kept]) -> bool {
     row.len() <= FEW_LEAVES && row.iter().all(|kept| job.is_light(kept))
 }
 
+/// Of how many levels the right children are combined by other threads: the greatest number such that two to its power is at most the number
+/// of workers. One worker starts no thread.
+fn fork_levels(workers: u32) -> u32
+    requires { 0 < workers }
+    ensures fits { 2 ^ result ≤ workers }
+    ensures greatest { workers < 2 * 2 ^ result }
+{
+    workers.ilog2()
+}
+
 /// Combines what is kept of the first leaves up the tree: in this thread where it is light, else with at most as many threads as there are workers.
 pub fn combine_row<R: Threads + Sync, J: LeafJob + Sync>(
     rt: &R,
@@ -138,7 +148,7 @@ where
     let levels = if is_light_row(job, row.as_slice()) {
         0
     } else {
-        workers.ilog2()
+        fork_levels(workers)
     };
     combine_part(rt, job, tree, levels, row)
 }

@@ -1,5 +1,5 @@
 //! A run of a job's leaves on several threads.
-ghost use Rattle.std.specs.Prelude.{◌≡◌, ◌<◌, ◌≤◌, IfOk};
+ghost use Rattle.std.specs.Prelude.{◌≡◌, ◌<◌, ◌≤◌, IfOk, min};
 ghost use Rattle.leaf_board.specs.Closing.{cut_of, count_of};
 ghost use Rattle.split_tree.specs.SplitTree.{leaf_numbers, numbers_from};
 ghost use Rattle.stealing_pool.specs.Cases.{case_of};
@@ -59,7 +59,7 @@ fn seat_count(workers: u32, leaves: usize) -> usize
     requires { (0 < workers) × (0 < leaves) }
     ensures some { 0 < result }
     ensures wanted { result ≤ workers }
-    ensures leaves { result ≤ leaves }
+    ensures lesser { result ≡ min workers leaves }
 {
     cmp::min(workers as usize, leaves)
 }
