@@ -31,7 +31,7 @@ pub use number_summaries::{
     NumberInnerCollector, NumberSummaryCollector, NumberSummaryContainer, NumberSummaryResult,
     number_inner, number_summary,
 };
-pub use seeded_hashes::SeededHashes;
+pub use seeded_hashes::{Seed, SeededHashes};
 pub use spelled::Spelled;
 pub use summarizes::{Both, Summarizes, grouped, write_result};
 pub use text_bases::{TextBaseCollector, TextBaseContainer, TextBaseResult, text_base};

@@ -1,4 +1,5 @@
 //! What the language's functions, stages and collectors give, at concrete types through their bounds.
 mod functions;
+mod seeds;
 mod steps;
 mod summaries;

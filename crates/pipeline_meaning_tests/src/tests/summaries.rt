@@ -5,7 +5,7 @@ use pipeline_language::{
     TextFunction, TextInner, TextSummary,
 };
 use pipeline_meaning::{
-    Both, NumberCheck, NumberMapping, NumberMerging, SeededHashes, Summarizes, Written,
+    Both, NumberCheck, NumberMapping, NumberMerging, Seed, SeededHashes, Summarizes, Written,
     number_base, number_summary, text_summary, write_result,
 };
 use spliterator::NoMemory;
@@ -34,7 +34,7 @@ where
 /// The summary, the items, and the text of what is made of these.
 #[test]
 fn summaries_of_numbers(rt: HostRuntime) -> Result<(), Fail> {
-    let hashes = SeededHashes::of(&[7; 16]);
+    let hashes = SeededHashes::of(Seed::draw(&rt));
     let items: &[i64] = &[2, 5, 3];
     let rows: [(NumberBase, &[i64], &str); 8] = [
         (NumberBase::Count, items, "3"),
@@ -55,7 +55,7 @@ fn summaries_of_numbers(rt: HostRuntime) -> Result<(), Fail> {
 
 #[test]
 fn nested_groups(rt: HostRuntime) -> Result<(), Fail> {
-    let hashes = SeededHashes::of(&[7; 16]);
+    let hashes = SeededHashes::of(Seed::draw(&rt));
     let count = NumberInner::Base(NumberBase::Count);
     let counts = NumberSummary::GroupBy(NumberFunction::Mod(3), count);
     let above = NumberSummary::Filtering(NumberTest::Greater(2), count);
@@ -81,7 +81,7 @@ fn nested_groups(rt: HostRuntime) -> Result<(), Fail> {
 fn a_partition(rt: HostRuntime) -> Result<(), Fail> {
     let list = NumberInner::Base(NumberBase::ToList);
     let tens = NumberSummary::Mapping(NumberFunction::Mul(10), list);
-    let inner = number_summary(rt.alloc(), SeededHashes::of(&[7; 16]), tens);
+    let inner = number_summary(rt.alloc(), SeededHashes::of(Seed::draw(&rt)), tens);
     let parts = PartitioningBy::new(NumberCheck::of(NumberTest::Less(3)), inner);
     check(&rt, &parts, &[1, 2, 3], "{false=[30], true=[10, 20]}")?;
     Ok(())
@@ -98,7 +98,7 @@ fn a_pair(rt: HostRuntime) -> Result<(), Fail> {
 
 #[test]
 fn a_map(rt: HostRuntime) -> Result<(), Fail> {
-    let hashes = SeededHashes::of(&[7; 16]);
+    let hashes = SeededHashes::of(Seed::draw(&rt));
     let key = NumberMapping::of(NumberFunction::Mod(2));
     let value = NumberMapping::of(NumberFunction::Itself);
     let merge = NumberMerging::of(NumberMerge::Last);
@@ -126,7 +126,7 @@ fn summaries_of_texts(rt: HostRuntime) -> Result<(), Fail> {
         ),
         (counts, &["b", "", "b"], "{b=2, =1}"),
     ];
-    let hashes = SeededHashes::of(&[7; 16]);
+    let hashes = SeededHashes::of(Seed::draw(&rt));
     for (summary, items, wanted) in rows {
         let collector = text_summary(rt.alloc(), hashes, summary);
         check(&rt, &collector, items, wanted)?;

@@ -3,7 +3,7 @@
 ghost use Rattle.parallel_streams.specs.Runs.{IsLawfulRun};
 
 use parallel_streams::Run;
-use pipeline_meaning::SeededHashes;
+use pipeline_meaning::{Seed, SeededHashes};
 use pipeline_reader::read_pipeline;
 use pipeline_value::{ValueError, pipeline_value};
 use spliterator::NoMemory;
@@ -48,13 +48,6 @@ impl Gate for Counts {
     fn after_leaf(&self, _worker: u32, _leaf: usize) {}
 }
 
-/// Hashes of a random seed.
-fn hashes<R: RandomSource>(rt: &R) -> Result<SeededHashes, Fail> {
-    let mut seed = [0; 16];
-    rt.fill_bytes(&mut seed)?;
-    Ok(SeededHashes::of(&seed))
-}
-
 /// What is told of the pipeline of these lines at a setting.
 fn answer<R: Threads + RandomSource + Sync>(
     rt: &R,
@@ -66,7 +59,8 @@ fn answer<R: Threads + RandomSource + Sync>(
 {
     let file = format!(in alloc; "pipeline 2\n{lines}\n")?;
     let pipeline = read_pipeline(alloc, file.as_bytes())?;
-    match pipeline_value(rt, alloc, hashes(rt)?, pipeline, run) {
+    let hashes = SeededHashes::of(Seed::draw(rt));
+    match pipeline_value(rt, alloc, hashes, pipeline, run) {
         Ok(text) => Ok(text),
         Err(ValueError::DuplicateKey(key)) => Ok(format!(in alloc; "repeated {key}")?),
         Err(ValueError::NoMemory) => Err(Fail::from(NoMemory)),
