@@ -90,10 +90,10 @@ class Checks:
                         self.keep(found)
 
     def keep(self, check):
-        """Links what the check of a must-fail edit kept, every few seconds."""
+        """Links what a crate's must-fail edits begin with, every few seconds while they run, and nothing of what an edit changed."""
         to, now = os.environ.get("KEPT_WORK"), time.monotonic()
         if to and check.kind == "must-fail" and check.kept and now >= self.linked.get(check.crate, 0) + LINK_EACH:
-            link_all(pathlib.Path(check.kept), pathlib.Path(to, check.crate))
+            link_all(pathlib.Path(check.kept).with_name("seed"), pathlib.Path(to, check.crate))
             self.linked[check.crate] = time.monotonic()
 
     def table(self):

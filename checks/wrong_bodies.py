@@ -254,8 +254,8 @@ def why_not(edit, crate, told):
 class Trial:
     """The edits of one crate, each tried until it is shown as refused or has failed."""
 
-    def __init__(self, crate, edits, kept):
-        self.crate, self.edits, self.kept, self.told = crate, edits, kept, {}
+    def __init__(self, crate, edits, begun, kept):
+        self.crate, self.edits, self.begun, self.kept, self.told = crate, edits, begun, kept, {}
 
     def run(self):
         sound = [it for it in self.edits if not it.fault]
@@ -288,6 +288,10 @@ class Trial:
     def check(self, texts, paths):
         """The lines of a check of these functions, or of the whole crate where there are none."""
         only = [word for it in dict.fromkeys(paths) for word in ("--only", it)]
+        if self.begun:
+            # (what an earlier check kept of its edits is no use to this one)
+            shutil.rmtree(self.kept)
+            RT.linked(self.begun, self.kept)
         ran = RT.checked(self.crate, texts, ["--jobs", "1", *only], self.kept)
         said = ran.stdout.rstrip("\n").split("\n")
         # (a name that the check has not, or has twice, is left to a check of the whole)
@@ -309,15 +313,12 @@ def try_crate(crate):
     lacking = [it.name for it in crate.below() if not os.path.isdir(it.rlib)]
     if lacking:
         return [(False, f"{crate.name}: its library {lacking[0]} is not built: `rt all check` builds it")]
-    with tempfile.TemporaryDirectory(prefix="wrong-bodies-") as kept:
-        earlier = kept_work(crate)
-        if earlier:
-            shutil.copytree(earlier, kept, dirs_exist_ok=True)
-        return Trial(crate, edits, kept).run()
+    with tempfile.TemporaryDirectory(prefix="wrong-bodies-", ignore_cleanup_errors=True) as kept:
+        return Trial(crate, edits, proved_work(crate), kept).run()
 
 
-def kept_work(crate):
-    """The folder with the work of earlier checks of the crate, if there is one: what the gate linked (checks/timed.py), or the crate's own."""
+def proved_work(crate):
+    """The folder with the proof of the crate as it stands, if there is one: what the gate linked (checks/timed.py), or the crate's own."""
     folders = [pathlib.Path(os.environ["KEPT_WORK"], crate.name)] if "KEPT_WORK" in os.environ else []
     return next((it for it in [*folders, pathlib.Path(crate.folder, "out", "incremental")] if it.is_dir()), None)
 
