@@ -7,7 +7,7 @@ use Rattle.split_tree.specs.SplitTree.{leaf_numbers, split_target, StaysWhole, I
 use Rattle.split_tree.specs.SplitTreeLaws.{IsSplitTree-few}
 use Rattle.sources.specs.Halves.{SplitsInHalf}
 use Rattle.parallel_streams.specs.Cuts.{Ascends, cut_at}
-use Rattle.parallel_streams.specs.Leaves.{ArePlanned, HalvesNumber, AreSizes, parts_by, IsCutList, ends_by, AreLeafEnds}
+use Rattle.parallel_streams.specs.Leaves.{ArePlanned, IsCutSource, HalvesNumber, AreSizes, parts_by, IsCutList, ends_by, AreLeafEnds}
 
 module _ {S : Type 0} (estimate : S → ℕ) (gives : S → Option S → S → Type 0) (halves : (s : S) (part : Option S) (rest : S) → gives s part rest → HalvesNumber (estimate s) (option_map estimate part) (estimate rest)) where
   whole-size : (target depth : ℕ) (s : S) → StaysWhole estimate gives target depth s → StaysWhole (λ n. n) HalvesNumber target depth (estimate s)
@@ -44,10 +44,15 @@ halves-size items size counts s (Some part) rest h =
 
 -- the sizes of a plan's leaves, where its source splits in half
 pub AreSizes-plan : {S C : Type 0} (items : S → List C) (size : S → ℕ) → ((s : S) → length (items s) ≡ size s) → (workers target n : ℕ) (s : S) (tree : Tree) (leaves : List S) → size s ≡ min n (2 ^ 62)
-    → ArePlanned size (SplitsInHalf items) workers target s tree leaves → AreSizes workers target n (map size leaves)
+    → ArePlanned size (SplitsInHalf items) s workers target tree leaves → AreSizes workers target n (map size leaves)
 AreSizes-plan items size counts workers target n s tree leaves is planned =
-    let Q : ℕ → Type 0 = λ m. ArePlanned (λ k. k) HalvesNumber workers target m tree (map size leaves) in
+    let Q : ℕ → Type 0 = λ m. ArePlanned (λ k. k) HalvesNumber m workers target tree (map size leaves) in
     (tree, subst Q is (tree-sizes size (SplitsInHalf items) (halves-size items size counts) (split_target (size s) workers target) tree 0 0 s leaves planned))
+
+-- the lists of a plan's leaves
+pub cut-leaves : {S C : Type 0} (items : S → List C) (estimate : S → ℕ) (gives : S → Option S → S → Type 0) (s : S) (workers target : ℕ) (tree : Tree) (leaves : List S)
+    → ArePlanned estimate gives s workers target tree leaves → IsCutSource items estimate gives s workers target (map items leaves)
+cut-leaves items estimate gives s workers target tree leaves planned = record { tree = tree; leaves = leaves; planned = planned; are = refl }
 
 -- a list has a leaf
 pub some-size : (workers target n : ℕ) (sizes : List ℕ) → AreSizes workers target n sizes → 1 ≤ length sizes
@@ -99,11 +104,11 @@ cut_at-ends_by len from (n ∷ m ∷ sizes) l e =
 
 -- a list's content between its ends is cut as a list of so many items is
 pub IsCutList-ends : {T C : Type 0} (content : T → C) (workers target : ℕ) (items : List T) (value : List C) (ends : List ℕ) → map content items ≡ value → AreLeafEnds workers target (length items) ends
-    → IsCutList workers target value (cut_at 0 ends (map content items))
+    → IsCutList value workers target (cut_at 0 ends (map content items))
 IsCutList-ends content workers target items value ends is (sizes, halved, are) =
     let count : length items ≡ length (map content items) = sym (length-map items content) in
     let Q : ℕ → Type 0 = λ n. AreSizes workers target n sizes in
-    let R : List _ → Type 0 = λ l. IsCutList workers target l (cut_at 0 ends (map content items)) in
+    let R : List _ → Type 0 = λ l. IsCutList l workers target (cut_at 0 ends (map content items)) in
     subst R is (record {
       sizes = sizes;
       halved = subst Q count halved;

@@ -4,14 +4,14 @@ use Rattle.split_tree.specs.declared.tree.Tree.{Tree}
 use Rattle.split_tree.specs.SplitTree.{split_target, IsSplitTree}
 
 -- the leaves are those of the source's split tree, for so many workers and this target
-abbrev pub ArePlanned : {S : Type 0} → (S → ℕ) → (S → Option S → S → Type 0) → ℕ → ℕ → S → Tree → List S → Type 0
-ArePlanned estimate gives workers target s tree leaves = IsSplitTree estimate gives (split_target (estimate s) workers target) tree 0 0 s leaves
+abbrev pub ArePlanned : {S : Type 0} → (S → ℕ) → (S → Option S → S → Type 0) → S → ℕ → ℕ → Tree → List S → Type 0
+ArePlanned estimate gives s workers target tree leaves = IsSplitTree estimate gives (split_target (estimate s) workers target) tree 0 0 s leaves
 
 -- A source is cut by its split tree: the lists are the items of the tree's leaves.
-pub record IsCutSource {S C : Type 0} (items : S → List C) (estimate : S → ℕ) (gives : S → Option S → S → Type 0) (workers target : ℕ) (s : S) (lists : List (List C)) : Type 0 where
+pub record IsCutSource {S C : Type 0} (items : S → List C) (estimate : S → ℕ) (gives : S → Option S → S → Type 0) (s : S) (workers target : ℕ) (lists : List (List C)) : Type 0 where
   pub tree : Tree
   pub leaves : List S
-  pub planned : ArePlanned estimate gives workers target s tree leaves
+  pub planned : ArePlanned estimate gives s workers target tree leaves
   pub are : lists ≡ map items leaves
 
 -- each list through a stage
@@ -25,7 +25,7 @@ HalvesNumber n (Some part) rest = (2 ≤ n) × (part ≡ n / 2) × (rest ≡ n -
 
 -- the sizes of the leaves of so many items, which are split in half: at most 2^62 are counted
 abbrev pub AreSizes : ℕ → ℕ → ℕ → List ℕ → Type 0
-AreSizes workers target n sizes = (tree : Tree) × ArePlanned (λ m. m) HalvesNumber workers target (min n (2 ^ 62)) tree sizes
+AreSizes workers target n sizes = (tree : Tree) × ArePlanned (λ m. m) HalvesNumber (min n (2 ^ 62)) workers target tree sizes
 
 -- a list in parts of these sizes, from its front on; the last part is what is left
 abbrev pub parts_by : {T : Type 0} → List ℕ → List T → List (List T)
@@ -34,7 +34,7 @@ parts_by (n ∷ []) l = l ∷ []
 parts_by (n ∷ m ∷ sizes) l = take n l ∷ parts_by (m ∷ sizes) (drop n l)
 
 -- A list is cut as its number of items is split in half.
-pub record IsCutList {T : Type 0} (workers target : ℕ) (whole : List T) (lists : List (List T)) : Type 0 where
+pub record IsCutList {T : Type 0} (whole : List T) (workers target : ℕ) (lists : List (List T)) : Type 0 where
   pub sizes : List ℕ
   pub halved : AreSizes workers target (length whole) sizes
   pub are : lists ≡ parts_by sizes whole
