@@ -31,7 +31,8 @@ fn plan_places(
     requires some_worker { 1 ≤ workers }
     requires few_workers { workers ≤ 64 }
     requires target { target ≤ 2 ^ 62 }
-    ensures { IfOk result (λ plan. AreSizes workers target len (map ⟦<RangeSplit as Spliterator>⟧.estimate (leaves_of plan))) }
+    ensures { let sizes = map ⟦<RangeSplit as Spliterator>⟧.estimate in
+        IfOk result (λ plan. AreSizes workers target len (sizes (leaves_of plan))) }
 {
     let counted = (len as u64).min(MAX_RANGE);
     let Ok(range) = RangeSplit::range(0, counted as i64) else {
@@ -47,7 +48,8 @@ fn plan_places(
 // Where each leaf ends; the last one ends with the list.
 fn leaf_ends(alloc: Global, plan: &Plan<RangeSplit>, len: usize) -> Result<Vec<usize>, NoMemory>
     ensures count { IfOk result (λ ends. length ends.items ≡ length (leaves_of plan.now)) }
-    ensures ends { IfOk result (λ ends. ends.items ≡ ends_by len 0 (map ⟦<RangeSplit as Spliterator>⟧.estimate (leaves_of plan.now))) }
+    ensures ends { let sizes = map ⟦<RangeSplit as Spliterator>⟧.estimate (leaves_of plan.now) in
+        IfOk result (λ ends. ends.items ≡ ends_by len 0 sizes) }
 {
     let last = plan.leaves() - 1;
     let mut ends = Vec::new(alloc);
@@ -71,7 +73,8 @@ impl Places {
         requires few_workers { workers ≤ 64 }
         requires target { target ≤ 2 ^ 62 }
         ensures order { IfOk result (λ places. Ascends 0 (length items.now) (ends_of places)) }
-        ensures leaves { IfOk result (λ places. AreLeafEnds workers target (length items.now) (ends_of places)) }
+        ensures leaves { let len = length items.now in
+            IfOk result (λ places. AreLeafEnds workers target len (ends_of places)) }
     {
         let plan = plan_places(alloc, items.len(), workers, target)?;
         let ends = leaf_ends(alloc, &plan, items.len())?;

@@ -171,8 +171,11 @@ pub trait Stream {
         requires part { StandsForRun (work self.now progress) part }
         requires entry { Reports (work self.now progress).needed (work self.now progress).leaves (work self.now progress).full entry.now.leaves (count_of entry.now) (cut_of entry.now) }
         ensures holds { IfOk result (holds self.now) }
-        ensures planned { planned self.now workers target progress → IfOk result (planned self.now workers target) }
-        ensures entries { done self.now progress ≡ false → planned self.now workers target progress → (entries : List Outcome) → told_so_far self.now workers target progress entries → IfOk result (λ after. told_so_far self.now workers target after (entries ++ entry.now ∷ [])) }
+        ensures planned { planned self.now workers target progress
+            → IfOk result (planned self.now workers target) }
+        ensures entries { done self.now progress ≡ false → planned self.now workers target progress
+            → (entries : List Outcome) → told_so_far self.now workers target progress entries
+            → IfOk result (λ after. told_so_far self.now workers target after (entries ++ entry.now ∷ [])) }
         ensures fewer { done self.now progress ≡ false → IfOk result (λ after. waiting self.now after < waiting self.now progress) };
 
     /// Runs a leaf of the last run, through a stage into a collector.
@@ -212,12 +215,17 @@ pub trait Stream {
     ghost work_law: { (s : Self) (p : Self.Progress) → done s p ≡ false → (work s p).leaves ≡ leaves_next s p };
 
     // once all barriers have run, all entries are there
-    ghost reported_law: { (s : Self) (workers target : ℕ) (p : Self.Progress) (entries : List Outcome) → done s p ≡ true → told_so_far s workers target p entries → reported s workers target entries };
+    ghost reported_law: { (s : Self) (workers target : ℕ) (p : Self.Progress) (entries : List Outcome)
+        → done s p ≡ true → told_so_far s workers target p entries
+        → reported s workers target entries };
 
     // the lists of the last run's leaves are the stream's, cut
     ghost parts_law: { (s : Self) (p : Self.Progress) → holds s p → done s p ≡ true → joined (parts s p) ≡ value s };
 
-    ghost cut_law: { (s : Self) (workers target : ℕ) (p : Self.Progress) → holds s p → planned s workers target p → done s p ≡ true → cut_into s workers target (parts s p) };
+    // and they are cut as the settings say
+    ghost cut_law: { (s : Self) (workers target : ℕ) (p : Self.Progress)
+        → holds s p → planned s workers target p → done s p ≡ true
+        → cut_into s workers target (parts s p) };
 
     ghost parts_count: { (s : Self) (p : Self.Progress) → done s p ≡ true → length (parts s p) ≡ leaves_next s p };
 
@@ -402,7 +410,10 @@ pub trait Stream {
         requires collector { C.ready collector.now }
         ensures settings { AnswersUnder run.now.workers run.now.target result }
         ensures value { IfOk result (λ r. C.gives collector.now (value self.now) r.0) }
-        ensures report { IfOk result (λ r. IsReportedRun (cut_into self.now run.now.workers run.now.target) (value self.now) (reported self.now run.now.workers run.now.target) (C.gives collector.now) r.0 r.1) }
+        ensures report { let workers = run.now.workers in
+            let target = run.now.target in
+            IfOk result (λ r. IsReportedRun (cut_into self.now workers target) (value self.now)
+            (reported self.now workers target) (C.gives collector.now) r.0 r.1) }
     {
         allow(run.workers, run.target)?;
         let ended = evaluate(rt, alloc, self, run, &Whole, collector)?;

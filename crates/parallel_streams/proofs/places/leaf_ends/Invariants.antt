@@ -1,4 +1,4 @@
-use Rattle.std.proofs.Common.{◌≡◌, ◌++◌, drop, length, map}
+use Rattle.std.proofs.Common.{◌≡◌, ◌++◌, drop, map}
 use Rattle.split_tree.specs.Plan.{leaves_of}
 use Rattle.parallel_streams.specs.Leaves.{ends_by}
 use Rattle.parallel_streams.proofs.places.leaf_ends.Given as goal

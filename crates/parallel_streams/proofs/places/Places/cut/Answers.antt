@@ -1,4 +1,4 @@
-use Rattle.std.proofs.Common.{List, ℕ, length, map, subst, sym, ◌∙◌, arith}
+use Rattle.std.proofs.Common.{List, ℕ, length, map, subst, sym, arith}
 use Rattle.split_tree.specs.Plan.{leaves_of}
 use Rattle.parallel_streams.specs.Cuts.{Ascends}
 use Rattle.parallel_streams.specs.LeafCutLaws.{Ascends-ends_by, some-size}
