@@ -14,11 +14,11 @@ use Rattle.parallel_streams.specs.Cuts.{Ascends}
 use Rattle.parallel_streams.specs.Ends.{ends_of}
 use Rattle.parallel_streams.specs.Progress.{IsListed, barred_work}
 use Rattle.parallel_streams.specs.ProgressLaws.{stands-own}
-use Rattle.parallel_streams.specs.Reports.{IsReported}
+use Rattle.parallel_streams.specs.Reports.{IsEntryOf}
 use Rattle.parallel_streams.specs.declared.part.Part.{Part}
 use Rattle.parallel_streams.specs.declared.part.Part.TheVariants.{Own}
 use Rattle.parallel_streams.specs.declared.places.Places.{Places}
-use Rattle.parallel_streams.proofs.Harmless.{is-reported}
+use Rattle.parallel_streams.proofs.Harmless.{is-entry}
 
 module _ {P T C : Type 0} (before : Work P) (is_value : C → Type 0) (needed : Option ℕ) (counted : C → Bool) (value : List C → List C) (law : KeepsEnough needed counted value) (content : T → C) (whole : List C) (lists : List (List C)) where
   abbrev own : Work (Vec T)
@@ -29,7 +29,7 @@ module _ {P T C : Type 0} (before : Work P) (is_value : C → Type 0) (needed : 
       → StandsForRun (barred_work done before own) part
       → Reports (barred_work done before own).needed (barred_work done before own).leaves (barred_work done before own).full entry.leaves (count_of entry) (cut_of entry)
       → map content kept.items ≡ value (map content items.items) → Ascends 0 (length kept.items) (ends_of places)
-      → (done ≡ true) × IsListed content (value whole) (record { items = kept; places = places }) × IsReported needed counted whole value entry
+      → (done ≡ true) × IsListed content (value whole) (record { items = kept; places = places }) × IsEntryOf needed counted value lists entry
   gathered-own false joins part items kept places entry is stands reports applied cut =
       let Q : Part P T → Type 0 = λ p. StandsForRun (barred_work false before own) p in
       let none = (stands-own before own false items (subst Q is stands)).0 in
@@ -50,5 +50,5 @@ module _ {P T C : Type 0} (before : Work P) (is_value : C → Type 0) (needed : 
           is = applied ∙ same;
           cut = cut;
         },
-        is-reported needed counted value law whole lists all entry reports,
+        is-entry needed counted value law lists entry reports,
       )

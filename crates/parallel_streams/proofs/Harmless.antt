@@ -9,7 +9,7 @@ use Rattle.leaf_board.specs.Closing.{Outcome, count_of, cut_of}
 use Rattle.stealing_pool.specs.Fronts.{joined, full_count}
 use Rattle.stealing_pool.specs.Reports.{Reported, Reports}
 use Rattle.stealing_pool.specs.SpanLaws.{joined-append}
-use Rattle.parallel_streams.specs.Reports.{IsHarmless, IsReported}
+use Rattle.parallel_streams.specs.Reports.{IsHarmless, IsEntryOf}
 
 joined-split : {T : Type 0} (n : ℕ) (lists : List (List T)) → joined lists ≡ joined (take n lists) ++ joined (drop n lists)
 joined-split n lists = ap joined (sym (take-append-drop n lists)) ∙ joined-append (take n lists) (drop n lists)
@@ -86,11 +86,9 @@ module _ {T A : Type 0} (needed : Option ℕ) (counted : T → Bool) (answer : L
       some-same c d e = cc
 
 -- the entry of a run says so of its leaves
-pub is-reported : {T A : Type 0} (needed : Option ℕ) (counted : T → Bool) (answer : List T → A) → KeepsEnough needed counted answer
-    → (whole : List T) (lists : List (List T)) → joined lists ≡ whole → (entry : Outcome) → Reports needed (length lists) (full_count counted lists) entry.leaves (count_of entry) (cut_of entry) → IsReported needed counted whole answer entry
-is-reported needed counted answer law whole lists joins entry reports = record {
-  lists = lists;
-  joins = joins;
+pub is-entry : {T A : Type 0} (needed : Option ℕ) (counted : T → Bool) (answer : List T → A) → KeepsEnough needed counted answer
+    → (lists : List (List T)) (entry : Outcome) → Reports needed (length lists) (full_count counted lists) entry.leaves (count_of entry) (cut_of entry) → IsEntryOf needed counted answer lists entry
+is-entry needed counted answer law lists entry reports = record {
   reports = reports;
   harmless = harmless-at needed counted answer law lists (count_of entry) entry.leaves (cut_of entry) reports (cut_of entry) refl;
 }

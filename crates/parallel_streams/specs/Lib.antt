@@ -3,6 +3,8 @@ pub mod MapErrors
 pub mod Terminals
 pub mod LeafLaws
 pub mod Cuts
+pub mod Leaves
+pub mod LeafCutLaws
 pub mod Sources
 pub mod Ends
 pub mod Reports

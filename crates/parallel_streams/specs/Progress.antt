@@ -1,5 +1,5 @@
 -- How far the barriers of a stream have come.
-use Rattle.std.specs.Prelude.{◌≡◌, ◌+◌, ℕ, Bool, true, false, List, [], ◌++◌, ◌∷◌, Option, Some, None, map, length}
+use Rattle.std.specs.Prelude.{◌≡◌, ◌+◌, ℕ, Bool, true, false, List, [], Option, Some, None, map, length}
 use Rattle.std.specs.Global.{Vec}
 use Rattle.stealing_pool.specs.Jobs.{Work}
 use Rattle.leaf_board.specs.Closing.{Outcome}
@@ -7,6 +7,7 @@ use Rattle.stealing_pool.specs.declared.job.LeafEnd.{LeafEnd}
 use Rattle.stealing_pool.specs.declared.job.LeafEnd.TheVariants.{Done, Cut}
 use Rattle.parallel_streams.specs.Cuts.{Ascends, cut_at}
 use Rattle.parallel_streams.specs.Ends.{ends_of}
+use Rattle.parallel_streams.specs.Leaves.{AreLeafEnds}
 use Rattle.parallel_streams.specs.declared.part.Gathered.{Gathered}
 use Rattle.parallel_streams.specs.declared.part.Listed.{Listed}
 use Rattle.parallel_streams.specs.declared.part.Part.{Part}
@@ -23,6 +24,14 @@ HoldsListed content value (Some listed) = IsListed content value listed
 
 abbrev pub HoldsGathered : {P T C : Type 0} → (P → Type 0) → (T → C) → List C → Gathered P T → Type 0
 HoldsGathered before content value g = before g.before × HoldsListed content value g.listed
+
+-- a barrier's list is cut for its leaves as so many items are
+abbrev pub IsPlannedList : {T : Type 0} → ℕ → ℕ → Option (Listed T) → Type 0
+IsPlannedList workers target None = Unit {0}
+IsPlannedList workers target (Some listed) = AreLeafEnds workers target (length listed.items.items) (ends_of listed.places)
+
+abbrev pub IsPlannedGathered : {P T : Type 0} → (P → Type 0) → ℕ → ℕ → Gathered P T → Type 0
+IsPlannedGathered before workers target g = before g.before × IsPlannedList workers target g.listed
 
 -- the entries so far: while the last barrier has not run, those of the barriers before
 abbrev pub ToldSoFar : {T : Type 0} → (List Outcome → Type 0) → (List Outcome → Type 0) → Option (Listed T) → List Outcome → Type 0
@@ -61,10 +70,6 @@ KeepsOwn keeps (Own items) = keeps items
 abbrev pub barred_work : {P T : Type 0} → Bool → Work P → Work (Vec T) → Work (Part P T)
 barred_work false before own = record { leaves = before.leaves; full = before.full; needed = before.needed; Keeps = λ from to count part. KeepsBefore (before.Keeps from to count) part }
 barred_work true before own = record { leaves = own.leaves; full = own.full; needed = own.needed; Keeps = λ from to count part. KeepsOwn (own.Keeps from to count) part }
-
--- the entries of the barriers before, and then the last one's
-abbrev pub EndsWith : {E : Type 0} → (List E → Type 0) → (E → Type 0) → List E → Type 0
-EndsWith {E} Fronts Lasts entries = (front : List E) × (last : E) × (entries ≡ front ++ last ∷ []) × Fronts front × Lasts last
 
 -- how a leaf ended, with what is kept put in another form
 abbrev pub end_with : {A B : Type 0} → (A → B) → LeafEnd A → LeafEnd B

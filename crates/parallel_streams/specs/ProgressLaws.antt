@@ -12,7 +12,9 @@ use Rattle.stealing_pool.specs.SpanLaws.{spans-combine}
 use Rattle.parallel_streams.specs.LeafLaws.{map-both, get-mapped}
 use Rattle.parallel_streams.specs.Cuts.{cut_at, cut_at-map, joined-cut_at, length-cut_at}
 use Rattle.parallel_streams.specs.Ends.{ends_of}
-use Rattle.parallel_streams.specs.Progress.{HoldsListed, ToldSoFar, is_listed, next_leaves, parts_of, barred_work, end_with}
+use Rattle.parallel_streams.specs.Leaves.{IsCutList}
+use Rattle.parallel_streams.specs.LeafCutLaws.{IsCutList-ends}
+use Rattle.parallel_streams.specs.Progress.{HoldsListed, IsPlannedList, ToldSoFar, is_listed, next_leaves, parts_of, barred_work, end_with}
 use Rattle.parallel_streams.specs.declared.part.Listed.{Listed}
 use Rattle.parallel_streams.specs.declared.part.Part.{Part}
 use Rattle.parallel_streams.specs.declared.part.Part.TheVariants.{Before, Own}
@@ -30,6 +32,12 @@ joined-parts_of content value None held is = absurd (true≢false (sym is))
 joined-parts_of content value (Some l) held is =
     let size : length l.items.items ≡ 0 + length (map content l.items.items) = let e = length-map l.items.items content in omega (arith, e) in
     joined-cut_at 0 (length l.items.items) (ends_of l.places) (map content l.items.items) held.cut size ∙ held.is
+
+-- the parts are the barrier's value, cut as a list of so many items is
+pub cut-parts_of : {T C : Type 0} (content : T → C) (value : List C) (workers target : ℕ) (listed : Option (Listed T)) → HoldsListed content value listed → IsPlannedList workers target listed
+    → is_listed listed ≡ true → IsCutList value workers target (parts_of content listed)
+cut-parts_of content value workers target None held planned is = absurd (true≢false (sym is))
+cut-parts_of content value workers target (Some l) held planned is = IsCutList-ends content workers target l.items.items value (ends_of l.places) held.is planned
 
 pub count-parts_of : {T C : Type 0} (content : T → C) (n : ℕ) (listed : Option (Listed T)) → is_listed listed ≡ true → length (parts_of content listed) ≡ next_leaves n listed
 count-parts_of content n None is = absurd (true≢false (sym is))

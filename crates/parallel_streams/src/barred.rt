@@ -3,7 +3,8 @@ ghost use Rattle.std.specs.Prelude.{[], map};
 ghost use Rattle.spliterator.specs.Clones.{ClonesAlike};
 ghost use Rattle.collectors.specs.NestedLaws.{push};
 ghost use Rattle.stealing_pool.specs.Fronts.{folding, work_of};
-ghost use Rattle.parallel_streams.specs.Reports.{IsReported};
+ghost use Rattle.parallel_streams.specs.Leaves.{IsCutList};
+ghost use Rattle.parallel_streams.specs.Reports.{IsEntryOf, IsReport};
 ghost use Rattle.stages.specs.Flags.{after};
 
 use crate::Stream;
@@ -29,8 +30,8 @@ pub struct Barred<U, B> {
 }
 
 impl<U: Stream, B: Barrier<U::Item>> Stream for Barred<U, B> {
-    ghost use Rattle.parallel_streams.specs.Progress.{HoldsGathered, ToldSoFar, EndsWith, is_listed, waiting_of, next_leaves, parts_of, barred_work};
-    ghost use Rattle.parallel_streams.specs.ProgressLaws.{barred-leaves, joined-parts_of, count-parts_of, told-all};
+    ghost use Rattle.parallel_streams.specs.Progress.{HoldsGathered, IsPlannedGathered, ToldSoFar, is_listed, waiting_of, next_leaves, parts_of, barred_work};
+    ghost use Rattle.parallel_streams.specs.ProgressLaws.{barred-leaves, joined-parts_of, cut-parts_of, count-parts_of, told-all};
 
     type Item = U::Item;
 
@@ -58,17 +59,23 @@ impl<U: Stream, B: Barrier<U::Item>> Stream for Barred<U, B> {
 
     ghost parts = { λ s p. parts_of U.Item.content p.listed };
 
-    ghost reported = { λ s. EndsWith (U.reported s.upstream) (IsReported (B.Demand.needed s.barrier) (B.Demand.counted s.barrier) (U.value s.upstream) (B.value s.barrier)) };
+    ghost cut_into = { λ s. IsCutList (B.value s.barrier (U.value s.upstream)) };
 
-    ghost told_so_far = { λ s p. ToldSoFar (U.told_so_far s.upstream p.before) (EndsWith (U.reported s.upstream) (IsReported (B.Demand.needed s.barrier) (B.Demand.counted s.barrier) (U.value s.upstream) (B.value s.barrier))) p.listed };
+    ghost planned = { λ s workers target. IsPlannedGathered (U.planned s.upstream workers target) workers target };
+
+    ghost reported = { λ s workers target. IsReport (U.cut_into s.upstream workers target) (U.value s.upstream) (U.reported s.upstream workers target) (IsEntryOf (B.Demand.needed s.barrier) (B.Demand.counted s.barrier) (B.value s.barrier)) };
+
+    ghost told_so_far = { λ s workers target p. ToldSoFar (U.told_so_far s.upstream workers target p.before) (IsReport (U.cut_into s.upstream workers target) (U.value s.upstream) (U.reported s.upstream workers target) (IsEntryOf (B.Demand.needed s.barrier) (B.Demand.counted s.barrier) (B.value s.barrier))) p.listed };
 
     ghost flag_law = { λ s. B.flag_law s.barrier (U.told s.upstream) (U.size s.upstream) (U.value s.upstream) (U.flag_law s.upstream) };
 
     ghost work_law = { λ s p unrun. barred-leaves (U.done s.upstream p.before) (U.work s.upstream p.before) (work_of (folding (B.Demand.needed s.barrier) (B.Demand.counted s.barrier) U.Item.is_value [] push) (λ v. map U.Item.content v.items) (U.parts s.upstream p.before)) (U.leaves_next s.upstream p.before) p.listed unrun (U.work_law s.upstream p.before) (U.parts_count s.upstream p.before) };
 
-    ghost reported_law = { λ s p entries done told. told-all (U.told_so_far s.upstream p.before) (EndsWith (U.reported s.upstream) (IsReported (B.Demand.needed s.barrier) (B.Demand.counted s.barrier) (U.value s.upstream) (B.value s.barrier))) p.listed entries done told };
+    ghost reported_law = { λ s workers target p entries done told. told-all (U.told_so_far s.upstream workers target p.before) (IsReport (U.cut_into s.upstream workers target) (U.value s.upstream) (U.reported s.upstream workers target) (IsEntryOf (B.Demand.needed s.barrier) (B.Demand.counted s.barrier) (B.value s.barrier))) p.listed entries done told };
 
     ghost parts_law = { λ s p held done. joined-parts_of U.Item.content (B.value s.barrier (U.value s.upstream)) p.listed held.1 done };
+
+    ghost cut_law = { λ s workers target p held planned done. cut-parts_of U.Item.content (B.value s.barrier (U.value s.upstream)) workers target p.listed held.1 planned.1 done };
 
     ghost parts_count = { λ s p done. count-parts_of U.Item.content (U.leaves_next s.upstream p.before) p.listed done };
 

@@ -1,9 +1,8 @@
 //! All the runs of a stream, one after another, each on the workers.
-ghost use Rattle.std.specs.Prelude.{◌≡◌, List, true, false, IfOk};
-ghost use Rattle.stealing_pool.specs.Fronts.{folding, work_of, joined, IsFront};
+ghost use Rattle.std.specs.Prelude.{◌≡◌, ℕ, List, true, false, IfOk};
+ghost use Rattle.stealing_pool.specs.Fronts.{folding, work_of, joined};
 ghost use Rattle.leaf_board.specs.Closing.{Outcome};
-ghost use Rattle.parallel_streams.specs.Progress.{EndsWith};
-ghost use Rattle.parallel_streams.specs.Reports.{HasReport};
+ghost use Rattle.parallel_streams.specs.Reports.{IsReport, IsRunOver};
 ghost use Rattle.parallel_streams.specs.Runs.{IsLawfulRun};
 
 use crate::{Run, Stream};
@@ -108,12 +107,16 @@ impl<X: Stream, D: Demand<X::Item>, C: Collector<Item = X::Item>> LeafJob
     }
 }
 
-// Promises that the lists of the last run's leaves are the stream's items, end to end, and that the entries so far are all.
+// Promises of the lists of the last run's leaves that they are the stream's items, end to end, and how they are cut, and that the entries so far are all.
 fn promise_whole<X: Stream>(_stream: &X, _progress: &X::Progress)
     requires holds { X.holds _stream.now _progress.now }
     requires done { X.done _stream.now _progress.now ≡ true }
     ensures whole { joined (X.parts _stream.now _progress.now) ≡ X.value _stream.now }
-    ensures entries { (entries : List Outcome) → X.told_so_far _stream.now _progress.now entries → X.reported _stream.now entries }
+    ensures cut { (workers target : ℕ) → X.planned _stream.now workers target _progress.now
+        → X.cut_into _stream.now workers target (X.parts _stream.now _progress.now) }
+    ensures entries { (workers target : ℕ) (entries : List Outcome)
+        → X.told_so_far _stream.now workers target _progress.now entries
+        → X.reported _stream.now workers target entries }
 {}
 
 /// What the runs of a stream left: the container of the last run, and the entries of all runs in their order.
@@ -139,7 +142,10 @@ where
     ensures holds { IfOk result (λ r. X.holds stream.now r.0) }
     ensures done { IfOk result (λ r. X.done stream.now r.0 ≡ true) }
     ensures whole { IfOk result (λ r. joined (X.parts stream.now r.0) ≡ X.value stream.now) }
-    ensures entries { IfOk result (λ r. X.reported stream.now r.1.items) }
+    ensures cut { let lists = X.parts stream.now in
+        IfOk result (λ r. X.cut_into stream.now run.now.workers run.now.target (lists r.0)) }
+    ensures entries { let reported = X.reported stream.now run.now.workers run.now.target in
+        IfOk result (λ r. reported r.1.items) }
 {
     let mut entries = Vec::new(alloc);
     let mut progress = stream.start(alloc, run.workers, run.target)?;
@@ -190,8 +196,13 @@ where
     requires demand { D.ready demand.now }
     requires collector { C.ready collector.now }
     requires settings { IsLawfulRun run.now.workers run.now.target }
-    ensures front { IfOk result (λ e. IsFront (folding (D.needed demand.now) (D.counted demand.now) X.Item.is_value (C.empty collector.now) (C.add collector.now)) (X.value stream.now) (C.content collector.now e.acc)) }
-    ensures entries { IfOk result (λ e. EndsWith (X.reported stream.now) (HasReport (D.needed demand.now) (D.counted demand.now) (X.value stream.now)) e.entries.items) }
+    ensures { let workers = run.now.workers in
+        let target = run.now.target in
+        let needs = folding (D.needed demand.now) (D.counted demand.now) X.Item.is_value in
+        let fold = needs (C.empty collector.now) (C.add collector.now) in
+        IfOk result (λ e. IsReport (X.cut_into stream.now workers target) (X.value stream.now)
+        (X.reported stream.now workers target) (IsRunOver fold (C.content collector.now e.acc))
+        e.entries.items) }
 {
     let (progress, mut entries) = run_barriers(rt, alloc, stream, run)?;
     let job = LastRun {

@@ -1,8 +1,9 @@
 //! The places of a list, cut into leaves.
-ghost use Rattle.std.specs.Prelude.{◌≡◌, ◌<◌, ◌≤◌, ◌^◌, IfOk, length, min};
+ghost use Rattle.std.specs.Prelude.{◌≡◌, ◌<◌, ◌≤◌, ◌^◌, IfOk, length, map, min};
 ghost use Rattle.split_tree.specs.SplitTree.{leaf_numbers, numbers_from};
 ghost use Rattle.split_tree.specs.Plan.{leaves_of};
 ghost use Rattle.parallel_streams.specs.Cuts.{Ascends, cut_at, start_at};
+ghost use Rattle.parallel_streams.specs.Leaves.{AreLeafEnds, AreSizes, ends_by};
 
 use sources::RangeSplit;
 use split_tree::{Plan, PlanError, Tree};
@@ -30,6 +31,8 @@ fn plan_places(
     requires some_worker { 1 ≤ workers }
     requires few_workers { workers ≤ 64 }
     requires target { target ≤ 2 ^ 62 }
+    ensures { let sizes = map ⟦<RangeSplit as Spliterator>⟧.estimate in
+        IfOk result (λ plan. AreSizes workers target len (sizes (leaves_of plan))) }
 {
     let counted = (len as u64).min(MAX_RANGE);
     let Ok(range) = RangeSplit::range(0, counted as i64) else {
@@ -45,7 +48,8 @@ fn plan_places(
 // Where each leaf ends; the last one ends with the list.
 fn leaf_ends(alloc: Global, plan: &Plan<RangeSplit>, len: usize) -> Result<Vec<usize>, NoMemory>
     ensures count { IfOk result (λ ends. length ends.items ≡ length (leaves_of plan.now)) }
-    ensures ascends { IfOk result (λ ends. Ascends 0 len ends.items) }
+    ensures ends { let sizes = map ⟦<RangeSplit as Spliterator>⟧.estimate (leaves_of plan.now) in
+        IfOk result (λ ends. ends.items ≡ ends_by len 0 sizes) }
 {
     let last = plan.leaves() - 1;
     let mut ends = Vec::new(alloc);
@@ -68,7 +72,9 @@ impl Places {
         requires some_worker { 1 ≤ workers }
         requires few_workers { workers ≤ 64 }
         requires target { target ≤ 2 ^ 62 }
-        ensures { IfOk result (λ places. Ascends 0 (length items.now) (ends_of places)) }
+        ensures order { IfOk result (λ places. Ascends 0 (length items.now) (ends_of places)) }
+        ensures leaves { let len = length items.now in
+            IfOk result (λ places. AreLeafEnds workers target len (ends_of places)) }
     {
         let plan = plan_places(alloc, items.len(), workers, target)?;
         let ends = leaf_ends(alloc, &plan, items.len())?;

@@ -33,7 +33,9 @@ impl<S: Spliterator + Drop> Stream for Source<S>
 where
     S::Item: Clone,
 {
-    ghost use Rattle.split_tree.specs.Plan.{leaves_of};
+    ghost use Rattle.split_tree.specs.Plan.{tree_of, leaves_of};
+    ghost use Rattle.parallel_streams.specs.Leaves.{ArePlanned, IsCutSource};
+    ghost use Rattle.parallel_streams.specs.LeafCutLaws.{cut-leaves};
     ghost use Rattle.parallel_streams.specs.Sources.{source_size, source_flags, idle_work, IsSound-source};
     ghost use Rattle.parallel_streams.specs.LeafLaws.{joined-leaves, count-leaves};
 
@@ -61,17 +63,23 @@ where
 
     ghost parts = { λ _ p. map S.items (leaves_of p) };
 
-    ghost reported = { λ _ entries. entries ≡ [] };
+    ghost cut_into = { λ s. IsCutSource S.items S.estimate S.split_gives s.split };
 
-    ghost told_so_far = { λ _ _ entries. entries ≡ [] };
+    ghost planned = { λ s workers target p. ArePlanned S.estimate S.split_gives s.split workers target (tree_of p) (leaves_of p) };
+
+    ghost reported = { λ _ _ _ entries. entries ≡ [] };
+
+    ghost told_so_far = { λ _ _ _ _ entries. entries ≡ [] };
 
     ghost flag_law = { λ s. IsSound-source S.Item.order (S.told s.split) (S.estimate s.split) (S.items s.split) (S.size_law s.split) (S.flag_law s.split) };
 
     ghost work_law = { λ s p h. refl };
 
-    ghost reported_law = { λ s p entries done told. told };
+    ghost reported_law = { λ s workers target p entries done told. told };
 
     ghost parts_law = { λ s p h done. joined-leaves S.items (S.items s.split) (leaves_of p) h };
+
+    ghost cut_law = { λ s workers target p held planned done. cut-leaves S.items S.estimate S.split_gives s.split workers target (tree_of p) (leaves_of p) planned };
 
     ghost parts_count = { λ s p done. count-leaves S.items (leaves_of p) };
 

@@ -1,5 +1,6 @@
 //! A stateless stage behind a stream.
-ghost use Rattle.std.specs.Prelude.{flat_map, map};
+ghost use Rattle.std.specs.Prelude.{flat_map, map, refl};
+ghost use Rattle.parallel_streams.specs.Leaves.{AreThrough};
 ghost use Rattle.parallel_streams.specs.LeafLaws.{joined-through, count-through};
 ghost use Rattle.stages.specs.Flags.{after};
 
@@ -50,6 +51,10 @@ where
 
     ghost parts = { λ s p. map (flat_map (A.expand s.stage)) (U.parts s.upstream p) };
 
+    ghost cut_into = { λ s workers target. AreThrough (U.cut_into s.upstream workers target) (A.expand s.stage) };
+
+    ghost planned = { λ s. U.planned s.upstream };
+
     ghost reported = { λ s. U.reported s.upstream };
 
     ghost told_so_far = { λ s. U.told_so_far s.upstream };
@@ -61,6 +66,8 @@ where
     ghost reported_law = { λ s. U.reported_law s.upstream };
 
     ghost parts_law = { λ s p held done. joined-through (A.expand s.stage) (U.parts s.upstream p) (U.value s.upstream) (U.parts_law s.upstream p held done) };
+
+    ghost cut_law = { λ s workers target p held planned done. (U.parts s.upstream p, U.cut_law s.upstream workers target p held planned done, refl) };
 
     ghost parts_count = { λ s p done. count-through (A.expand s.stage) (U.parts s.upstream p) (U.leaves_next s.upstream p) (U.parts_count s.upstream p done) };
 

@@ -1,5 +1,5 @@
 //! What a lazy stream is.
-ghost use Rattle.std.specs.Prelude.{◌≡◌, ◌<◌, ◌≤◌, ◌^◌, ◌++◌, ◌∷◌, [], ℕ, Bool, true, false, List, Option, None, not, pos, fold, option_map, IsSome, IsOk, IfOk, OnOk, flat_map, map, length, ⊤};
+ghost use Rattle.std.specs.Prelude.{◌≡◌, ◌<◌, ◌≤◌, ◌^◌, ◌++◌, ◌∷◌, [], ℕ, Bool, true, false, List, Option, not, pos, fold, option_map, IsSome, IsOk, IfOk, OnOk, flat_map, map, length, ⊤};
 ghost use Rattle.barriers.specs.Needs.{need_of, IsBelow};
 ghost use Rattle.leaf_board.specs.Statuses.{SameFrom, StaysSeat};
 ghost use Rattle.split_tree.specs.SplitTree.{leaf_numbers, numbers_from};
@@ -10,15 +10,13 @@ ghost use Rattle.leaf_board.specs.Closing.{Outcome, count_of, cut_of};
 ghost use Rattle.stealing_pool.specs.Reports.{Reports};
 ghost use Rattle.stealing_pool.specs.Fronts.{joined, folding, work_of};
 ghost use Rattle.spliterator.specs.Clones.{ClonesAlike};
-ghost use Rattle.barriers.specs.Needs.{no_item};
 ghost use Rattle.stages.specs.Operators.{IsAssociative};
 ghost use Rattle.stages.specs.Wrapping.{wrapped};
 ghost use Rattle.collectors.specs.Reductions.{first, reduced};
 ghost use Rattle.collectors.specs.Grouping.{contents};
 ghost use Rattle.collectors.specs.StrictMaps.{IsFirstRepeat, IsStrictMap};
 ghost use Rattle.parallel_streams.specs.MapErrors.{MapAnswersUnder, IfDuplicate};
-ghost use Rattle.parallel_streams.specs.Progress.{EndsWith};
-ghost use Rattle.parallel_streams.specs.Reports.{IsReported};
+ghost use Rattle.parallel_streams.specs.Reports.{IsReportedRun};
 ghost use Rattle.parallel_streams.specs.Runs.{IsLawfulRun, AnswersUnder};
 ghost use Rattle.parallel_streams.specs.Terminals.{any_meets, all_meet, IsLeftIdentity};
 
@@ -83,10 +81,16 @@ pub trait Stream {
     // the lists of the leaves of the last run
     ghost parts: { Self → Self.Progress → List (List Self.Item.Content) };
 
-    // the entries are those of the barriers' runs, in order; and those of the runs so far
-    ghost reported: { Self → List Outcome → Type 0 };
+    // with so many workers and this target: into which lists the stream's items are cut for the leaves of a run
+    ghost cut_into: { Self → ℕ → ℕ → List (List Self.Item.Content) → Type 0 };
 
-    ghost told_so_far: { Self → Self.Progress → List Outcome → Type 0 };
+    // .. the leaves of the next run are cut so
+    ghost planned: { Self → ℕ → ℕ → Self.Progress → Type 0 };
+
+    // .. the entries are those of the barriers' runs, in order; and those of the runs so far
+    ghost reported: { Self → ℕ → ℕ → List Outcome → Type 0 };
+
+    ghost told_so_far: { Self → ℕ → ℕ → Self.Progress → List Outcome → Type 0 };
 
     /// The number of items, where it is known before any of them is read.
     fn known_size(&self) -> Option<u64>
@@ -100,7 +104,8 @@ pub trait Stream {
     fn start(&self, alloc: Global, workers: u32, target: u64) -> Result<Self::Progress, NoMemory>
         requires { IsLawfulRun workers target }
         ensures holds { IfOk result (holds self.now) }
-        ensures entries { IfOk result (λ progress. told_so_far self.now progress []) };
+        ensures planned { IfOk result (planned self.now workers target) }
+        ensures entries { IfOk result (λ progress. told_so_far self.now workers target progress []) };
 
     /// Whether all barriers have run.
     fn is_gathered(&self, progress: &Self::Progress) -> bool
@@ -166,7 +171,11 @@ pub trait Stream {
         requires part { StandsForRun (work self.now progress) part }
         requires entry { Reports (work self.now progress).needed (work self.now progress).leaves (work self.now progress).full entry.now.leaves (count_of entry.now) (cut_of entry.now) }
         ensures holds { IfOk result (holds self.now) }
-        ensures entries { done self.now progress ≡ false → (entries : List Outcome) → told_so_far self.now progress entries → IfOk result (λ after. told_so_far self.now after (entries ++ entry.now ∷ [])) }
+        ensures planned { planned self.now workers target progress
+            → IfOk result (planned self.now workers target) }
+        ensures entries { done self.now progress ≡ false → planned self.now workers target progress
+            → (entries : List Outcome) → told_so_far self.now workers target progress entries
+            → IfOk result (λ after. told_so_far self.now workers target after (entries ++ entry.now ∷ [])) }
         ensures fewer { done self.now progress ≡ false → IfOk result (λ after. waiting self.now after < waiting self.now progress) };
 
     /// Runs a leaf of the last run, through a stage into a collector.
@@ -206,10 +215,17 @@ pub trait Stream {
     ghost work_law: { (s : Self) (p : Self.Progress) → done s p ≡ false → (work s p).leaves ≡ leaves_next s p };
 
     // once all barriers have run, all entries are there
-    ghost reported_law: { (s : Self) (p : Self.Progress) (entries : List Outcome) → done s p ≡ true → told_so_far s p entries → reported s entries };
+    ghost reported_law: { (s : Self) (workers target : ℕ) (p : Self.Progress) (entries : List Outcome)
+        → done s p ≡ true → told_so_far s workers target p entries
+        → reported s workers target entries };
 
     // the lists of the last run's leaves are the stream's, cut
     ghost parts_law: { (s : Self) (p : Self.Progress) → holds s p → done s p ≡ true → joined (parts s p) ≡ value s };
+
+    // and they are cut as the settings say
+    ghost cut_law: { (s : Self) (workers target : ℕ) (p : Self.Progress)
+        → holds s p → planned s workers target p → done s p ≡ true
+        → cut_into s workers target (parts s p) };
 
     ghost parts_count: { (s : Self) (p : Self.Progress) → done s p ≡ true → length (parts s p) ≡ leaves_next s p };
 
@@ -394,7 +410,10 @@ pub trait Stream {
         requires collector { C.ready collector.now }
         ensures settings { AnswersUnder run.now.workers run.now.target result }
         ensures value { IfOk result (λ r. C.gives collector.now (value self.now) r.0) }
-        ensures report { IfOk result (λ r. EndsWith (reported self.now) (IsReported None no_item (value self.now) (λ l. l)) r.1) }
+        ensures report { let workers = run.now.workers in
+            let target = run.now.target in
+            IfOk result (λ r. IsReportedRun (cut_into self.now workers target) (value self.now)
+            (reported self.now workers target) (C.gives collector.now) r.0 r.1) }
     {
         allow(run.workers, run.target)?;
         let ended = evaluate(rt, alloc, self, run, &Whole, collector)?;

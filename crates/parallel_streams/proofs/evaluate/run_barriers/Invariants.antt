@@ -3,7 +3,8 @@ use Rattle.parallel_streams.proofs.evaluate.run_barriers.Given as goal
 abbrev pub invariant-loop-alloc : goal.invariant-loop-alloc
 invariant-loop-alloc g l = record {
   holds : g.X.Stream.holds l.stream l.progress;
-  told : g.X.Stream.told_so_far l.stream l.progress l.entries.items;
+  planned : g.X.Stream.planned l.stream l.run.workers l.run.target l.progress;
+  told : g.X.Stream.told_so_far l.stream l.run.workers l.run.target l.progress l.entries.items;
 }
 
 abbrev pub decreases-loop-alloc : goal.decreases-loop-alloc

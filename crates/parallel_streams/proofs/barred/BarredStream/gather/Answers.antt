@@ -1,9 +1,8 @@
 use Rattle.std.proofs.Common.{List, length, subst, refl}
 use Rattle.parallel_streams.specs.Cuts.{Ascends}
 use Rattle.parallel_streams.specs.Ends.{ends_of}
-use Rattle.parallel_streams.specs.Progress.{EndsWith}
 use Rattle.parallel_streams.specs.ProgressLaws.{told-before}
-use Rattle.parallel_streams.specs.Reports.{IsReported}
+use Rattle.parallel_streams.specs.Reports.{IsEntryOf, IsReport}
 use Rattle.parallel_streams.proofs.Gathering.{gathered-own}
 use Rattle.parallel_streams.proofs.barred.BarredStream.gather.Goals as goal
 
@@ -15,18 +14,30 @@ returns-clause-holds g c =
     let held = c.requires.holds in
     let Q : List _ → Type 0 = λ l. Ascends 0 (length l) (ends_of c.in_ok-places-in-Own.places) in
     let made = gathered-own (U.work s.upstream p) g.U.Item.Value.is_value (g.B.Demand.needed s.barrier) (g.B.Demand.counted s.barrier) (g.B.Barrier.value s.barrier) (g.met.B.Barrier.enough_law s.barrier)
-    g.U.Item.Value.content (U.value s.upstream) (U.parts s.upstream p) (U.done s.upstream p) (g.met.U.Stream.parts_law s.upstream p held.0) c.args.part c.in-Own.items c.in_ok-items-in-Own.items c.in_ok-places-in-Own.places c.args.entry.now c.in-Own.is c.requires.part c.requires.entry c.in_ok-items-in-Own.ensures (subst Q c.as_slice.ensures.value c.in_ok-places-in-Own.ensures) in
+    g.U.Item.Value.content (U.value s.upstream) (U.parts s.upstream p) (U.done s.upstream p) (g.met.U.Stream.parts_law s.upstream p held.0) c.args.part c.in-Own.items c.in_ok-items-in-Own.items c.in_ok-places-in-Own.places c.args.entry.now c.in-Own.is c.requires.part c.requires.entry c.in_ok-items-in-Own.ensures (subst Q c.as_slice.ensures.value c.in_ok-places-in-Own.ensures.order) in
     (held.0, made.1)
 
 pub returns-clause-entries : goal.returns-clause-entries
-returns-clause-entries g c = λ left entries told.
+returns-clause-entries g c = λ left planned entries told.
     let s = c.args.self.now in
     let U = g.U.Stream in
     let p = c.args.progress.before in
     let held = c.requires.holds in
+    let workers = c.args.workers in
+    let target = c.args.target in
+    let lists = U.parts s.upstream p in
     let Q : List _ → Type 0 = λ l. Ascends 0 (length l) (ends_of c.in_ok-places-in-Own.places) in
     let made = gathered-own (U.work s.upstream p) g.U.Item.Value.is_value (g.B.Demand.needed s.barrier) (g.B.Demand.counted s.barrier) (g.B.Barrier.value s.barrier) (g.met.B.Barrier.enough_law s.barrier)
-    g.U.Item.Value.content (U.value s.upstream) (U.parts s.upstream p) (U.done s.upstream p) (g.met.U.Stream.parts_law s.upstream p held.0) c.args.part c.in-Own.items c.in_ok-items-in-Own.items c.in_ok-places-in-Own.places c.args.entry.now c.in-Own.is c.requires.part c.requires.entry c.in_ok-items-in-Own.ensures (subst Q c.as_slice.ensures.value c.in_ok-places-in-Own.ensures) in
-    let Reported = IsReported (g.B.Demand.needed s.barrier) (g.B.Demand.counted s.barrier) (U.value s.upstream) (g.B.Barrier.value s.barrier) in
-    let before = told-before (U.told_so_far s.upstream p) (EndsWith (U.reported s.upstream) Reported) c.args.progress.listed entries left told in
-    (entries, c.args.entry.now, refl, g.met.U.Stream.reported_law s.upstream p entries made.0 before, made.2)
+    g.U.Item.Value.content (U.value s.upstream) lists (U.done s.upstream p) (g.met.U.Stream.parts_law s.upstream p held.0) c.args.part c.in-Own.items c.in_ok-items-in-Own.items c.in_ok-places-in-Own.places c.args.entry.now c.in-Own.is c.requires.part c.requires.entry c.in_ok-items-in-Own.ensures (subst Q c.as_slice.ensures.value c.in_ok-places-in-Own.ensures.order) in
+    let Reported = IsReport (U.cut_into s.upstream workers target) (U.value s.upstream) (U.reported s.upstream workers target) (IsEntryOf (g.B.Demand.needed s.barrier) (g.B.Demand.counted s.barrier) (g.B.Barrier.value s.barrier)) in
+    let before = told-before (U.told_so_far s.upstream workers target p) Reported c.args.progress.listed entries left told in
+    record {
+      lists = lists;
+      cut = g.met.U.Stream.cut_law s.upstream workers target p held.0 planned.0 made.0;
+      joins = g.met.U.Stream.parts_law s.upstream p held.0 made.0;
+      before = entries;
+      last = c.args.entry.now;
+      are = refl;
+      of_barriers = g.met.U.Stream.reported_law s.upstream workers target p entries made.0 before;
+      of_run = made.2;
+    }

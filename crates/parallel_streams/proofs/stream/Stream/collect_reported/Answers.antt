@@ -1,16 +1,25 @@
-use Rattle.std.proofs.Common.{None, ◌∙◌}
+use Rattle.std.proofs.Common.{List, None, subst, sym, ◌∙◌}
 use Rattle.barriers.specs.Needs.{no_item}
-use Rattle.barriers.specs.NeedLaws.{KeepsEnough-never}
-use Rattle.parallel_streams.proofs.Harmless.{is-reported}
+use Rattle.barriers.specs.NeedLaws.{KeepsEnough-never, whole-front}
+use Rattle.stealing_pool.specs.Fronts.{joined}
+use Rattle.parallel_streams.proofs.Harmless.{is-entry}
 use Rattle.parallel_streams.proofs.stream.Stream.collect_reported.Goals as goal
 
 pub returns-clause-report : goal.returns-clause-report
 returns-clause-report g c =
-    let told = c.in_ok-ended.ensures.entries in
-    let run = told.4 in (
-      told.0,
-      told.1,
-      c.of.ensures ∙ told.2,
-      told.3,
-      is-reported None no_item (λ l. l) (KeepsEnough-never no_item (λ l. l)) (g.Self.Stream.value c.args.self.now) run.0 run.1 told.1 run.2,
-    )
+    let ran = c.in_ok-ended.ensures in
+    let kept = ran.of_run.0 in
+    let P : List _ → Type 0 = λ l. g.C.Collector.gives c.args.collector.now l c.in_ok-value.value in
+    record {
+      lists = ran.lists;
+      cut = ran.cut;
+      joins = ran.joins;
+      before = ran.before;
+      last = ran.last;
+      are = c.of.ensures ∙ ran.are;
+      of_barriers = ran.of_barriers;
+      of_run = (
+        subst P (sym (whole-front no_item (joined ran.lists) kept.0 kept.1)) (c.in_ok-value.ensures kept.0 kept.2.0 kept.2.1),
+        is-entry None no_item (λ l. l) (KeepsEnough-never no_item (λ l. l)) ran.lists ran.last ran.of_run.1,
+      );
+    }
