@@ -50,6 +50,29 @@ impl<K: Value + Hash + Drop, V: Value + Drop, S: BuildHasher> StrictEntries<K, V
         }
         add_entry(&mut self.entries, key, value)
     }
+
+    // The item's entry is put. Behind a repeat nothing is asked of an item, so that no refusal hides the repeated key.
+    fn put_item<T: Value, F: Mapping<T, Out = K>, G: Mapping<T, Out = V>>(
+        &mut self,
+        key_of: &F,
+        value_of: &G,
+        x: &T,
+    ) -> Result<(), NoMemory>
+        requires key_ready { F.ready key_of.now }
+        requires value_ready { G.ready value_of.now }
+        ensures added { let seen = contents K.content V.content in
+            let repeat = option_map K.content in
+            let add = strict_add K.same (F.image key_of.now) (G.image value_of.now) in
+            OnOk result ((seen self.new.entries.entries, repeat self.new.repeated)
+            ≡ add (seen self.old.entries.entries, repeat self.old.repeated) (T.content x.now)) }
+        ensures unhidden { IfErr result (λ _. self.old.repeated ≡ None) }
+    {
+        if self.repeated.is_none() {
+            let entry = entry_of(key_of, value_of, x)?;
+            return self.put(entry);
+        }
+        Ok(())
+    }
 }
 
 impl<K: Value + Hash + Drop, V: Value + Drop, S: BuildHasher + Copy> StrictEntries<K, V, S> {
@@ -148,11 +171,7 @@ where
         acc: &mut StrictEntries<K::Out, V::Out, S>,
         x: &T,
     ) -> Result<(), NoMemory> {
-        if acc.repeated.is_some() {
-            return Ok(());
-        }
-        let entry = entry_of(&self.key, &self.value, x)?;
-        acc.put(entry)
+        acc.put_item(&self.key, &self.value, x)
     }
 
     fn combine(

@@ -16,6 +16,7 @@ mod number_groups;
 mod number_maps;
 mod number_parts;
 mod numbers;
+mod one_value;
 mod text_end;
 mod text_groups;
 mod text_maps;
@@ -25,5 +26,6 @@ mod told;
 mod value;
 
 pub use known_size::source_size;
+pub use one_value::one_value;
 pub use told::ValueError;
 pub use value::pipeline_value;
