@@ -4,7 +4,9 @@ import collections
 import concurrent.futures
 import os
 import pathlib
+import shutil
 import subprocess
+import sys
 
 CHECKS = pathlib.Path(__file__).resolve().parent
 BUILT = CHECKS / "out"
@@ -20,6 +22,8 @@ class Refusing:
     def __init__(self):
         BUILT.mkdir(exist_ok=True)
         self.library = BUILT / "librefuse_memory.so"
+        if not shutil.which("rustc"):
+            sys.exit("rustc, which builds the library that refuses memory, is not on the path")
         words = ["rustc", "--edition", "2024", "-O", "-C", "panic=abort", "--crate-type", "cdylib", "-o", self.library]
         subprocess.run([*words, CHECKS / "refuse_memory.rs"], check=True)
 
