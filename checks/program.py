@@ -9,6 +9,7 @@ command line as well, or some of them, evenly spread, where it makes more than t
 file tells a great number, so great a request and so many bytes in all are refused as no small file needs.
 """
 
+import collections
 import itertools
 
 from built import EXAMPLES, PSTREAM, conclude, need_program, run
@@ -77,13 +78,12 @@ def devices():
 
 
 def rows():
-    """The row's name, its words behind the program, its file, and how it ends."""
+    """The row's name, with how many workers it runs, its file, and how it ends."""
     for first, its_rows in ROWS.items():
         for (lines, told), workers in itertools.product(its_rows, WORKERS):
             line, status = told if isinstance(told, tuple) else (told, 0)
             end = (status, b"", f"{line}\n".encode()) if status else (0, f"{line}\n".encode(), b"")
-            words = ["/dev/stdin", "--workers", workers, "--target", "1"]
-            yield f"{workers} workers, {first}; " + "; ".join(lines.split("\n")), words, f"{first}\n{lines}\n".encode(), end
+            yield f"{workers} workers, {first}; " + "; ".join(lines.split("\n")), workers, f"{first}\n{lines}\n".encode(), end
 
 
 def commands():
@@ -95,33 +95,41 @@ def commands():
         yield f"{workers} workers, {file.name}", words, run(words)
 
 
-def refused(refusing, words, file, end, most):
-    """How many requests the command makes, how many of them were refused, one a run, and each run that ended neither as it has to nor in want of memory."""
+Refused = collections.namedtuple("Refused", "ample tried refused wants others")
+
+
+def refuse(refusing, words, file, end, most):
+    """The command with ample memory; how many of its requests were to be refused, one a run, and were; how many runs ended in want of memory; and
+    the runs that ended neither so nor as the command has to."""
     ample = refusing.run([PSTREAM, *words], file)
     numbers = range(1, ample.requests + 1, max(1, -(-ample.requests // most)))
     runs = refusing.run_each([PSTREAM, *words], file, MEMORY, numbers)
-    others = [(number, it) for number, it in runs if it[:3] not in (end, WANT_OF_MEMORY)]
+    others = [(number, it[:3]) for number, it in runs if it[:3] not in (end, WANT_OF_MEMORY)]
     wants = sum(it[:3] == WANT_OF_MEMORY for _, it in runs)
-    return ample, [it.refused for _, it in runs], wants, others
+    return Refused(ample, len(runs), sum(it.refused for _, it in runs), wants, others)
+
+
+def told_of(found, name):
+    return f"{found.refused} of {found.ample.requests} requests refused, {found.wants} wants of memory: {name}"
 
 
 def refused_rows(refusing):
-    """Each request of a row refused in turn. With one worker just that many are refused; with several a run may make fewer than the one before."""
-    tried = 0
-    for name, words, file, end in rows():
-        ample, refusals, wants, others = refused(refusing, words, file, end, MOST_OF_ROWS)
-        whole = len(refusals) == ample.requests and (sum(refusals) == ample.requests or "--workers 1 " not in " ".join(words))
-        tried += sum(refusals)
-        told = f"{sum(refusals)} of {ample.requests} requests refused, {wants} wants of memory: {name}"
-        yield told, (ample[:3], others, whole, wants > 0), (end, [], True, True)
-    yield f"{tried} requests of rows refused in turn", tried > 0, True
+    """Each request of a row refused in turn."""
+    made, refused = 0, 0
+    for name, workers, file, end in rows():
+        words = ["/dev/stdin", "--workers", workers, "--target", "1"]
+        found = refuse(refusing, words, file, end, MOST_OF_ROWS)
+        # (with several workers a run may make fewer requests than another)
+        is_whole = found.tried == found.ample.requests and (found.refused == found.tried or workers != "1")
+        yield told_of(found, name), (found.ample[:3], found.others, is_whole, found.wants > 0), (end, [], True, True)
+        made, refused = made + found.ample.requests, refused + found.refused
+    yield f"{refused} of {made} requests of the rows refused", 0.95 * made <= refused <= made, True
 
 
 def refused_commands(refusing):
     for name, words, end in commands():
-        ample, refusals, wants, others = refused(refusing, words, b"", end, MOST_REFUSALS)
-        told = f"{sum(refusals)} of {ample.requests} requests refused, {wants} wants of memory: {name}"
-        yield told, (ample[:3], others, wants > 0), (end, [], True)
+        found = refuse(refusing, words, b"", end, MOST_REFUSALS)
+        yield told_of(found, name), (found.ample[:3], found.others, found.wants > 0), (end, [], True)
 
 
 def small_files_with_great_numbers(refusing):
