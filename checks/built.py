@@ -13,7 +13,7 @@ EXAMPLES = ROOT / "examples"
 def need_program():
     """Ends the script where the program isn't built."""
     if not PSTREAM.exists():
-        sys.exit(f"{PSTREAM.relative_to(ROOT)} is missing: `rt run` in crates/pstream builds it")
+        sys.exit(f"{PSTREAM.relative_to(ROOT)} is missing: `rt ci` leaves it, and `rt run` in crates/pstream builds it")
 
 
 def run(words, environment=None, **streams):
@@ -23,11 +23,12 @@ def run(words, environment=None, **streams):
     return done.returncode, done.stdout or b"", done.stderr
 
 
-def tell(findings):
-    """Prints a line for each name with what was found and what was wanted, and answers how many differ."""
-    failed = 0
+def conclude(findings):
+    """Prints a line for each name with what was found and what was wanted, and last `N passed, M failed`; ends the script."""
+    counts = {True: 0, False: 0}
     for name, found, wanted in findings:
         good = found == wanted
-        failed += not good
-        print(f"{'ok' if good else 'FAILED'}: {name}" + ("" if good else f": {found!r}, wanted {wanted!r}"))
-    return failed
+        counts[good] += 1
+        print(f"{'ok' if good else 'FAILED'}: {name}" + ("" if good else f": {found!r}, wanted {wanted!r}"), flush=True)
+    print(f"{counts[True]} passed, {counts[False]} failed")
+    sys.exit(counts[False] > 0)

@@ -15,11 +15,10 @@ import pathlib
 import re
 import shlex
 import subprocess
-import sys
 import tempfile
 import textwrap
 
-from built import PSTREAM, ROOT, need_program, run, tell
+from built import PSTREAM, ROOT, conclude, need_program, run
 
 DOCS = ROOT / "docs"
 FENCE = re.compile(r"^```(pipeline|sh)\n(.*?)^```\n(.*?)(?=^```|^#|\Z)", re.MULTILINE | re.DOTALL)
@@ -176,7 +175,7 @@ def main():
     findings = [*man_page(manual, told), *pages(manual, told)]
     if not options.help_of:
         findings += [*shown_files(), *help_examples(told), *sessions(manual)]
-    sys.exit(tell(findings) > 0)
+    conclude(findings)
 
 
 if __name__ == "__main__":

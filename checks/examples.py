@@ -11,7 +11,7 @@ its answer. The program has to be built before (`rt run` in crates/pstream).
 import itertools
 import sys
 
-from built import EXAMPLES, need_program, run, tell
+from built import EXAMPLES, conclude, need_program, run
 
 SETTINGS = [["--workers", workers, "--target", target] for workers, target in itertools.product(["1", "2", "7", "64"], ["1", "0"])]
 
@@ -49,7 +49,7 @@ def findings():
 
 def main():
     need_program()
-    sys.exit(tell(findings()) > 0)
+    conclude(findings())
 
 
 if __name__ == "__main__":

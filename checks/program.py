@@ -1,45 +1,67 @@
 #!/usr/bin/env python3
-"""Checks of the built program that can't be tests of a crate: real devices, and requests for memory refused in turn.
+"""Checks of the built program that can't be tests of a crate: real devices, and requests for memory refused.
 
     checks/program.py
 
-The program has to be built before (`rt run` in crates/pstream). Memory is refused by a small library of this folder,
-built by `rustc` and loaded before the C library: one request a run, each that a command line makes, or some 400 of them, evenly spread,
-where it makes more.
+`rt ci` leaves the program built, and `rt run` in crates/pstream builds it. Memory is refused by a small library of this folder (refusing.py). Of a
+row of the language each request is refused in turn, one a run, with 1 and with 7 workers at target 1, where a row makes few; of another
+command line as well, or some of them, evenly spread, where it makes more than these. So many runs, and so many refusals, are told and compared. Where a
+file tells a great number, so great a request and so many bytes in all are refused as no small file needs.
 """
 
-import pathlib
-import subprocess
-import sys
+import collections
+import itertools
 
-from built import EXAMPLES, need_program, run, tell
+from built import EXAMPLES, PSTREAM, conclude, need_program, run
+from refusing import MEMORY, Refusing
 
-CHECKS = pathlib.Path(__file__).resolve().parent
-BUILT = CHECKS / "out"
 SUM = EXAMPLES / "01-sum.pipeline"
-# files beside the examples that run with requests for memory refused
-FILES = [
-    "pipeline 1\nrange 5 5\nsum\n",
-    "pipeline 1\nrange 0 10\nlimit 0\ntolist\n",
-    "pipeline 1\nlines 3\n\na\n\njoining ,\n",
-    "pipeline 1\nnumbers 1 2 3 4\ntomap mod 2 self last\n",
-    "pipeline 1\nrange 1 5\nteeing sum count\n",
-    "pipeline 1\nrange 0 0\nallmatch less 0\n",
-    "pipeline 1\nrange 0 0\nanymatch less 0\n",
-    "pipeline 1\nnumbers 1 2 3\nskip 10\ncount\n",
-    "pipeline 1\nnumbers 1 2 3\nflatmap repeat 0\ncount\n",
-    "pipeline 1\nlines 2\na b\nc\nflatmap words\njoining - < >\n",
-    "pipeline 1\nnumbers 4 8 15\nskip 1\nlimit 1\nmap add 1\ntolist\n",
-    "pipeline 2\nlines 3\na b\nc\na\ngroupby length mapping length sum\n",
-    "pipeline 2\nlines 3\nab\nc\ncd\ntomapstrict length self\n",
-    "pipeline 2\nnumbers 1 2 3 4\nteeing mapping mul 2 sum filtering divisible 2 tolist\n",
-    "pipeline 2\nnumbers 5 2 7 4 5\npartition greater 3 groupby mod 2 tolist\n",
-]
-# how many requests of a run are refused, evenly spread where it makes more
-MOST_REFUSALS = 400
-# the status of a run that got to its last request
-REACHED = 77
+# the lines of files behind the first, with what is written, or told with a status
+ROWS = {
+    "pipeline 1": [
+        ("range 1 6\nsum", "15"),
+        ("range 5 5\nsum", "0"),
+        ("range 5 5\nmax", "Optional.empty"),
+        ("range 0 10\nlimit 0\ntolist", "[]"),
+        ("closed 9223372036854775806 9223372036854775807\nsum", "-3"),
+        ("lines 3\n\na\n\njoining ,", ",a,"),
+        ("numbers 3 1 3 2 1\ndistinct\ntolist", "[3, 1, 2]"),
+        ("numbers 5 2 7 4 5\ngroupby mod 2 counting", "{1=3, 0=2}"),
+        ("numbers 1 3\npartition divisible 2 tolist", "{false=[1, 3], true=[]}"),
+        ("numbers 1 2 3 4\ntomap mod 2 self last", "{1=3, 0=4}"),
+        ("range 1 5\nteeing sum count", "[10, 4]"),
+        ("range 0 0\nallmatch less 0", "true"),
+        ("range 0 0\nanymatch less 0", "false"),
+        ("numbers 1 2 5 1\ntakewhile less 3\ntolist", "[1, 2]"),
+        ("numbers 1 2 5 1\ndropwhile less 3\ntolist", "[5, 1]"),
+        ("numbers 1 2 3\nskip 10\ncount", "0"),
+        ("numbers 1 2 3\nflatmap repeat 0\ncount", "0"),
+        ("lines 2\na b\nc\nflatmap words\njoining - < >", "<a-b-c>"),
+        ("lines 3\nbb\na\ncc\ngroupby length joining +", "{2=bb+cc, 1=a}"),
+        ("numbers 4 8 15\nskip 1\nlimit 1\nmap add 1\ntolist", "[9]"),
+        ("lines 1\nx\nsum", ("line 4: WRONG_KIND", 2)),
+    ],
+    "pipeline 2": [
+        ("numbers 1 2 3 4 3 1\ntomapstrict mod 10 self", ("duplicate key 3", 4)),
+        ("numbers 1 2\ntomapstrict self negate", "{1=-1, 2=-2}"),
+        ("numbers 1 2 3 4 5 6\ngroupby mod 2 groupby mod 3 counting", "{1={1=1, 0=1, 2=1}, 0={2=1, 1=1, 0=1}}"),
+        ("numbers 1 2 3\npartition less 3 mapping mul 10 tolist", "{false=[30], true=[10, 20]}"),
+        ("numbers 1 2 3\ngroupby mod 2 filtering greater 2 count", "{1=1, 0=0}"),
+        ("lines 2\nab\ncd\ntomapstrict length self", ("duplicate key 2", 4)),
+        ("lines 3\nab\nc\ncd\ntomapstrict length self", ("duplicate key 2", 4)),
+        ("numbers 1 2 3 4\nteeing mapping mul 2 sum filtering divisible 2 tolist", "[20, [2, 4]]"),
+        ("lines 3\na b\nc\na\ngroupby length mapping length sum", "{3=3, 1=2}"),
+        ("numbers 5 2 7 4 5\npartition greater 3 groupby mod 2 tolist", "{false={0=[2]}, true={1=[5, 7, 5], 0=[4]}}"),
+    ],
+}
+WORKERS = ["1", "7"]
+# the most requests of a row, so that each can be refused, and how many of another command line are refused, evenly spread where it makes more
+MOST_OF_ROWS = 1000
+MOST_REFUSALS = 100
 WANT_OF_MEMORY = (3, b"", b"out of memory\n")
+# a request for the largest file, and what a small file asks for beside it
+GREATEST_REQUEST = 1_100_000
+MOST_BYTES = 3_000_000
 
 
 def devices():
@@ -55,53 +77,82 @@ def devices():
     yield "an endless file", run(["/dev/zero"]), (2, b"", b"line 0: TOO_LARGE\n")
 
 
+def rows():
+    """The row's name, with how many workers it runs, its file, and how it ends."""
+    for first, its_rows in ROWS.items():
+        for (lines, told), workers in itertools.product(its_rows, WORKERS):
+            line, status = told if isinstance(told, tuple) else (told, 0)
+            end = (status, b"", f"{line}\n".encode()) if status else (0, f"{line}\n".encode(), b"")
+            yield f"{workers} workers, {first}; " + "; ".join(lines.split("\n")), workers, f"{first}\n{lines}\n".encode(), end
+
+
 def commands():
-    """Words after the program's name, with what stands on standard input."""
-    yield [SUM, "--workers", "64", "--target", "1"], b""
-    yield [SUM, "--workers", "65"], b""
-    yield ["--help"], b""
-    yield [], b""
-    for workers in ["1", "7"]:
-        settings = ["--workers", workers, "--target", "1"]
-        for file in sorted(EXAMPLES.glob("*.pipeline")):
-            yield [file, *settings], b""
-        for file in FILES:
-            yield ["/dev/stdin", *settings], file.encode()
+    """Other command lines: a name, words behind the program, and how they end."""
+    for words in [SUM, "--workers", "64", "--target", "1"], [SUM, "--workers", "65"], ["--help"], []:
+        yield "pstream " + " ".join(getattr(word, "name", word) for word in words), words, run(words)
+    for file, workers in itertools.product(sorted(EXAMPLES.glob("*.pipeline")), WORKERS):
+        words = [file, "--workers", workers, "--target", "1"]
+        yield f"{workers} workers, {file.name}", words, run(words)
 
 
-def refusals(library):
-    """Runs in which one request for memory is refused: each ends as with ample memory, or says so. With ample memory none says so."""
-    for words, file in commands():
-        ample = run(words, input=file)
-        above = above_requests(words, file, library)
-        numbers = range(1, above, max(above // MOST_REFUSALS, 1))
-        ends = [(number, run(words, refusing(library, REFUSED_REQUEST=number), input=file)) for number in numbers]
-        wrong = [(number, end) for number, end in ends if end not in (ample, WANT_OF_MEMORY)]
-        wants = sum(end == WANT_OF_MEMORY for _, end in ends)
-        spoken = " ".join([getattr(word, "stem", word) for word in words] + file.decode().split("\n")).strip()
-        name = f"memory refused in turn, `{spoken}`: {wants} wants of memory in {len(ends)} runs"
-        yield name, (wrong, wants > 0, ample != WANT_OF_MEMORY), ([], True, True)
+Refused = collections.namedtuple("Refused", "ample tried refused wants others")
 
 
-def refusing(library, **requests):
-    """The variables with which a run loads the library, and those that tell it of requests."""
-    return {"LD_PRELOAD": str(library)} | {name: str(number) for name, number in requests.items()}
+def refuse(refusing, words, file, end, most):
+    """The command with ample memory; how many of its requests were to be refused, one a run, and were; how many runs ended in want of memory; and
+    the runs that ended neither so nor as the command has to."""
+    ample = refusing.run([PSTREAM, *words], file)
+    numbers = range(1, ample.requests + 1, max(1, -(-ample.requests // most)))
+    runs = refusing.run_each([PSTREAM, *words], file, MEMORY, numbers)
+    others = [(number, it[:3]) for number, it in runs if it[:3] not in (end, WANT_OF_MEMORY)]
+    wants = sum(it[:3] == WANT_OF_MEMORY for _, it in runs)
+    return Refused(ample, len(runs), sum(it.refused for _, it in runs), wants, others)
 
 
-def above_requests(words, file, library):
-    """A number above that of the requests of a run."""
-    number = 64
-    while run(words, refusing(library, LAST_REQUEST=number), input=file)[0] == REACHED:
-        number *= 2
-    return number
+def told_of(found, name):
+    return f"{found.refused} of {found.ample.requests} requests refused, {found.wants} wants of memory: {name}"
+
+
+def refused_rows(refusing):
+    """Each request of a row refused in turn."""
+    made, refused = 0, 0
+    for name, workers, file, end in rows():
+        words = ["/dev/stdin", "--workers", workers, "--target", "1"]
+        found = refuse(refusing, words, file, end, MOST_OF_ROWS)
+        # (with several workers a run may make fewer requests than another)
+        is_whole = found.tried == found.ample.requests and (found.refused == found.tried or workers != "1")
+        yield told_of(found, name), (found.ample[:3], found.others, is_whole, found.wants > 0), (end, [], True, True)
+        made, refused = made + found.ample.requests, refused + found.refused
+    yield f"{refused} of {made} requests of the rows refused", 0.95 * made <= refused <= made, True
+
+
+def refused_commands(refusing):
+    for name, words, end in commands():
+        found = refuse(refusing, words, b"", end, MOST_REFUSALS)
+        yield told_of(found, name), (found.ample[:3], found.others, found.wants > 0), (end, [], True)
+
+
+def small_files_with_great_numbers(refusing):
+    """Room is asked for by what a file has, not by a number that it tells."""
+    limits = {"GREATEST_REQUEST": GREATEST_REQUEST, "MOST_BYTES": MOST_BYTES}
+    for lines, told in [
+        ("lines 1000000\nsum", (2, b"", b"line 4: MISSING_TERMINAL\n")),
+        ("lines 1000000\n\xff", (2, b"", b"line 3: BAD_TEXT\n")),
+        ("range 0 100\ngroupby mod 100 tolist", None),
+        ("range 0 4611686018427387904\nlimit 3\ntolist", (0, b"[0, 1, 2]\n", b"")),
+        ("range 0 3\nlimit 9223372036854775807\ntolist", (0, b"[0, 1, 2]\n", b"")),
+        ("range 0 3\nskip 9223372036854775807\ntolist", (0, b"[]\n", b"")),
+    ]:
+        file = f"pipeline 1\n{lines}\n".encode("latin-1")
+        wanted = told or run(["/dev/stdin"], input=file)
+        found = refusing.run([PSTREAM, "/dev/stdin"], file, **limits)
+        yield f"no great request for `{lines!r}`", found[:3], wanted
 
 
 def main():
     need_program()
-    BUILT.mkdir(exist_ok=True)
-    library = BUILT / "librefuse_memory.so"
-    subprocess.run(["rustc", "--edition", "2024", "-O", "-C", "panic=abort", "--crate-type", "cdylib", "-o", library, CHECKS / "refuse_memory.rs"], check=True)
-    sys.exit(tell(devices()) + tell(refusals(library)) > 0)
+    refusing = Refusing()
+    conclude(itertools.chain(devices(), small_files_with_great_numbers(refusing), refused_rows(refusing), refused_commands(refusing)))
 
 
 if __name__ == "__main__":

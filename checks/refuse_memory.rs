@@ -1,7 +1,8 @@
 //! Preloaded into a program, it refuses the request for memory whose number, counted from 1, stands in `REFUSED_REQUEST`, and the start
-//! of a thread whose number stands in `REFUSED_THREAD`, as where no memory is left for it. Where `REFUSAL_TOLD_ON` has the number of an
-//! open file, it then writes a byte to it. At the request in `LAST_REQUEST` it ends the program with status 77, so that one can tell how
-//! many requests there are.
+//! of a thread whose number stands in `REFUSED_THREAD`, as where no memory is left for it. It refuses each request that is greater than
+//! `GREATEST_REQUEST`, and each with which more bytes than `MOST_BYTES` would have been asked for in all. Where `TOLD_ON` has the number of an
+//! open file, the program's end writes three numbers to it: how many requests there were, how many starts of threads, and how many of both
+//! were refused.
 
 #![no_std]
 
@@ -16,11 +17,12 @@ unsafe extern "C" {
     fn dlsym(library: *mut c_void, name: *const c_char) -> *mut c_void;
     fn getenv(name: *const c_char) -> *const c_char;
     fn atol(text: *const c_char) -> c_long;
-    fn write(file: c_int, bytes: *const c_void, count: usize) -> isize;
-    fn _exit(status: c_int) -> !;
+    fn dprintf(file: c_int, form: *const c_char, ...) -> c_int;
 }
 
 type StartThread = unsafe extern "C" fn(*mut c_void, *const c_void, *mut c_void, *mut c_void) -> c_int;
+
+type Exit = unsafe extern "C" fn(c_int) -> !;
 
 // The library that comes next, of C's `RTLD_NEXT`.
 const NEXT: *mut c_void = -1isize as *mut c_void;
@@ -30,45 +32,53 @@ const NO_RESOURCES: c_int = 11;
 
 static REQUESTS: AtomicI64 = AtomicI64::new(0);
 
+static BYTES: AtomicI64 = AtomicI64::new(0);
+
 static THREADS: AtomicI64 = AtomicI64::new(0);
 
-/// The number in a variable of the environment, or 0.
-fn number_in(name: &CStr) -> c_long {
+static REFUSED: AtomicI64 = AtomicI64::new(0);
+
+/// The number in a variable of the environment, if it is there.
+fn number_in(name: &CStr) -> Option<c_long> {
     let text = unsafe { getenv(name.as_ptr()) };
-    if text.is_null() { 0 } else { unsafe { atol(text) } }
+    if text.is_null() { None } else { Some(unsafe { atol(text) }) }
 }
 
-/// Whether the request of that number is the one in the variable; told, where it is.
-fn is_refused(request: c_long, variable: &CStr) -> bool {
-    let refused = request == number_in(variable);
-    let file = number_in(c"REFUSAL_TOLD_ON");
-    if refused && file > 0 {
-        unsafe { write(file as c_int, c"!".as_ptr().cast(), 1) };
-    }
-    refused
+/// Counts a refusal.
+fn told(is_refused: bool) -> bool {
+    REFUSED.fetch_add(i64::from(is_refused), Ordering::SeqCst);
+    is_refused
 }
 
-fn is_memory_refused() -> bool {
+/// Whether the request of that number is the one in the variable.
+fn is_chosen(request: c_long, variable: &CStr) -> bool {
+    number_in(variable) == Some(request)
+}
+
+/// Whether a number is above the one in the variable.
+fn is_above(number: c_long, variable: &CStr) -> bool {
+    number_in(variable).is_some_and(|most| number > most)
+}
+
+fn is_memory_refused(size: usize) -> bool {
     let request = REQUESTS.fetch_add(1, Ordering::SeqCst) + 1;
-    if request == number_in(c"LAST_REQUEST") {
-        unsafe { _exit(77) }
-    }
-    is_refused(request, c"REFUSED_REQUEST")
+    let bytes = BYTES.fetch_add(size as i64, Ordering::SeqCst) + size as i64;
+    told(is_chosen(request, c"REFUSED_REQUEST") || is_above(size as c_long, c"GREATEST_REQUEST") || is_above(bytes, c"MOST_BYTES"))
 }
 
 #[unsafe(no_mangle)]
 extern "C" fn malloc(size: usize) -> *mut c_void {
-    if is_memory_refused() { null_mut() } else { unsafe { __libc_malloc(size) } }
+    if is_memory_refused(size) { null_mut() } else { unsafe { __libc_malloc(size) } }
 }
 
 #[unsafe(no_mangle)]
 extern "C" fn realloc(old: *mut c_void, size: usize) -> *mut c_void {
-    if is_memory_refused() { null_mut() } else { unsafe { __libc_realloc(old, size) } }
+    if is_memory_refused(size) { null_mut() } else { unsafe { __libc_realloc(old, size) } }
 }
 
 #[unsafe(no_mangle)]
 extern "C" fn pthread_create(thread: *mut c_void, settings: *const c_void, start: *mut c_void, word: *mut c_void) -> c_int {
-    if is_refused(THREADS.fetch_add(1, Ordering::SeqCst) + 1, c"REFUSED_THREAD") {
+    if told(is_chosen(THREADS.fetch_add(1, Ordering::SeqCst) + 1, c"REFUSED_THREAD")) {
         return NO_RESOURCES;
     }
     unsafe {
@@ -76,6 +86,28 @@ extern "C" fn pthread_create(thread: *mut c_void, settings: *const c_void, start
         transmute::<*mut c_void, StartThread>(next)(thread, settings, start, word)
     }
 }
+
+// A program with threads ends so, and what stands in `.fini_array` isn't run.
+#[unsafe(no_mangle)]
+extern "C" fn _exit(status: c_int) -> ! {
+    tell_counts();
+    unsafe {
+        let next = dlsym(NEXT, c"_exit".as_ptr());
+        transmute::<*mut c_void, Exit>(next)(status)
+    }
+}
+
+extern "C" fn tell_counts() {
+    if let Some(file) = number_in(c"TOLD_ON") {
+        let [requests, threads, refused] = [&REQUESTS, &THREADS, &REFUSED].map(|it| it.load(Ordering::SeqCst));
+        unsafe { dprintf(file as c_int, c"%ld %ld %ld".as_ptr(), requests, threads, refused) };
+    }
+}
+
+// (run as the program ends)
+#[used]
+#[unsafe(link_section = ".fini_array")]
+static AT_THE_END: extern "C" fn() = tell_counts;
 
 #[panic_handler]
 fn panic(_info: &core::panic::PanicInfo) -> ! {

@@ -1,6 +1,7 @@
 //! Streams by real threads: rows with 1, 2, 7 and 64 workers, at target 1 and at the default.
 
 mod answers;
+mod asked_once;
 mod borrowed;
 mod functions;
 mod gates;

@@ -431,6 +431,28 @@ fn a_gap_is_no_bar_to_a_cut(rt: HostRuntime) -> Result<(), Fail> {
     )
 }
 
+// What was published right of the leaf adds nothing to a settle up to that leaf, whichever seat settles.
+#[test]
+fn a_settle_looks_at_no_leaf_right_of_its_own(rt: HostRuntime) -> Result<(), Fail> {
+    let setting = needing(&rt, rt.alloc(), &[2, 1, 5, 0], 3, 4)?;
+    let steps = [
+        then(0, Act::Draw, Some(0), None),
+        then(2, Act::Draw, Some(2), None),
+        then(2, Act::PublishEnough, None, None),
+        then(0, Act::Publish, None, None),
+        then(0, Act::Settle(0), None, None),
+        then(2, Act::Settle(0), None, None),
+        then(3, Act::Settle(1), None, None),
+    ];
+    play(
+        &rt,
+        rt.alloc(),
+        &setting,
+        &steps,
+        &[Some(2), None, Some(3), None],
+    )
+}
+
 #[test]
 fn no_items_are_enough_where_none_are_needed(rt: HostRuntime) -> Result<(), Fail> {
     let setting = needing(&rt, rt.alloc(), &[5, 5], 0, 1)?;

@@ -8,12 +8,13 @@ use stealing_pool::Gate;
 /// The most turns for which a worker is held.
 const TURNS: u64 = 10_000_000;
 
-/// Counts the leaves that were entered. It holds leaf 0 until so many were, itself among them, and so many others have ended.
+/// Counts the leaves that were entered, each by its number too. It holds leaf 0 until so many were, itself among them, and so many others have ended.
 #[derive(Drop)]
 pub struct Watch {
     wanted_entered: u64,
     wanted_ended: u64,
     entered: AtomicU64,
+    by_number: AtomicU64,
     others_ended: AtomicU64,
     first_ended: AtomicU64,
     /// How often a test was asked meanwhile.
@@ -28,6 +29,7 @@ impl Watch {
             wanted_entered,
             wanted_ended,
             entered: AtomicU64::new(0),
+            by_number: AtomicU64::new(0),
             others_ended: AtomicU64::new(0),
             first_ended: AtomicU64::new(0),
             asked: AtomicU64::new(0),
@@ -38,6 +40,11 @@ impl Watch {
     /// How many leaves were entered.
     pub fn entered(&self) -> u64 {
         self.entered.load(Ordering::SeqCst)
+    }
+
+    /// The sum of `once` of the leaves that were entered.
+    pub fn by_number(&self) -> u64 {
+        self.by_number.load(Ordering::SeqCst)
     }
 
     /// Turns until the number is as great as is wanted, or counts that it never was.
@@ -66,9 +73,15 @@ impl Watch {
     }
 }
 
+/// One time a leaf, in a number that has four bits for each of the first 16 leaves.
+pub fn once(leaf: usize) -> u64 {
+    1 << (4 * (leaf % 16))
+}
+
 impl Gate for Watch {
     fn before_leaf(&self, _worker: u32, leaf: usize) {
         self.entered.fetch_add(1, Ordering::SeqCst);
+        self.by_number.fetch_add(once(leaf), Ordering::SeqCst);
         if leaf == 0 {
             self.wait_for(&self.entered, self.wanted_entered);
             self.wait_for(&self.others_ended, self.wanted_ended);

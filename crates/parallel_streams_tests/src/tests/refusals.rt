@@ -2,6 +2,7 @@
 
 use super::answers::{first_of, listed};
 use super::at;
+use super::functions::Above;
 use parallel_streams::{Stream, StreamError, of};
 use sources::RangeSplit;
 use spliterator::NoMemory;
@@ -22,6 +23,20 @@ impl Mapping<i64> for RefusesAt {
     fn image(&self, x: &i64) -> Result<i64, NoMemory> {
         if *x == self.0 { Err(NoMemory) } else { Ok(*x) }
     }
+}
+
+// With one worker nothing behind the first item is asked for, in its own leaf neither: memory is refused at the item behind it.
+#[test]
+fn one_worker_reads_nothing_behind_the_first_item(rt: HostRuntime) -> Result<(), Fail> {
+    for target in [1, 16, 0] {
+        for found in [0i64, 4] {
+            let numbers = of(RangeSplit::range(0, 10)?).map(RefusesAt(found.saturating_add(1)));
+            let above = numbers.filter(Above(found.saturating_sub(1)));
+            let first = first_of(&rt, &at((1, target)), &above)?;
+            assert!(rt; first == Some(found), "{found} at target {target}");
+        }
+    }
+    Ok(())
 }
 
 // With one worker no leaf right of what is wanted runs; with seven one may.

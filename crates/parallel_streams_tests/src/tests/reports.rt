@@ -1,9 +1,10 @@
 //! What reports say: counts, cuts and skipped leaves.
 
-use super::answers::limited;
+use super::answers::{limited, reported};
 use super::at;
+use super::gates::{Watch, once};
 use super::rows::{front, second_and_one};
-use parallel_streams::of;
+use parallel_streams::{Run, Stream, of};
 use sources::RangeSplit;
 use std::process::Abort;
 use std::test::Fail;
@@ -82,5 +83,44 @@ fn each_barrier_has_an_entry(rt: HostRuntime) -> Result<(), Fail> {
         (1, None, &[(0, 0)]),
     ];
     check_report(&rt, &found, &[6], &entries);
+    Ok(())
+}
+
+/// The sum of `once` of the leaves that have a count, over all entries.
+fn by_number(report: &RunReport) -> u64 {
+    let mut sum: u64 = 0;
+    for entry in report.entries() {
+        for leaf in 0..entry.leaves() {
+            if entry.count(leaf).is_some() {
+                sum = sum.wrapping_add(once(leaf));
+            }
+        }
+    }
+    sum
+}
+
+// Run by run, the leaves with a count are those that the gate was told of: 10 leaves and then 3 where nothing is cut, 2 of 4 and then 1 where
+// one worker is cut.
+#[test]
+fn a_report_is_that_of_the_runs_that_the_gate_saw(rt: HostRuntime) -> Result<(), Fail> {
+    for (workers, target, wanted) in [(1u32, 1u64, 13), (7, 1, 13), (1, 4, 3)] {
+        let gate = Watch::until(0, 0);
+        let run = Run {
+            workers,
+            target,
+            gate: &gate,
+        };
+        let ten = of(RangeSplit::range(0, 10)?);
+        let report = if target == 1 {
+            reported(&rt, &run, &ten.skip(7))?.1
+        } else {
+            limited(&rt, &run, ten, 3)?.1
+        };
+        let is_of_the_runs = by_number(&report) == gate.by_number();
+        assert!(rt;
+            is_of_the_runs && gate.entered() == wanted,
+            "{workers} workers"
+        );
+    }
     Ok(())
 }

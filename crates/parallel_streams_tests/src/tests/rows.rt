@@ -140,10 +140,20 @@ fn reductions<R: Threads + Abort + Alloc<A = Global> + Sync>(
     check_value(rt, joined(rt, run, &[], &Max::new())?, None);
     check_value(rt, joined(rt, run, &[2, 5, 3], &Min::new())?, Some(2));
     check_value(rt, joined(rt, run, &[2, 5, 3], &WrapMul::new())?, Some(30));
-    let last = last_below(rt, run, of(SliceSplit::new(&[4, 9, 50, 60])))?;
-    check_value(rt, Some(last), Some(9));
+    for (numbers, identity) in LASTS {
+        let last = last_below(rt, run, of(SliceSplit::new(numbers)), identity)?;
+        check_value(rt, Some(last), Some(9));
+    }
     Ok(())
 }
+
+/// Numbers of which the last below 10 is 9, in the last leaves or left of them, and an identity.
+const LASTS: [(&[i64], i64); 4] = [
+    (&[4, 9], 0),
+    (&[4, 9], 7),
+    (&[4, 9, 50, 60], 0),
+    (&[4, 9, 50, 60], i64::MIN),
+];
 
 // The first number of a range, and its sum by an operator and by a collector.
 fn first_and_sums<R: Threads + Alloc<A = Global> + Sync>(
@@ -176,18 +186,25 @@ fn ranges<R: Threads + Abort + Alloc<A = Global> + Sync>(
     Ok(())
 }
 
-// The last number below 10, or 0.
+// The last number below 10, or the identity.
 fn last_below<R: Threads + Alloc<A = Global> + Sync, X: Stream<Item = i64> + Drop + Sync>(
     rt: &R,
     run: &Run<'_, NoGate>,
     numbers: X,
+    identity: i64,
 ) -> Result<i64, StreamError>
 where
     X::Progress: Send + Sync,
     X::Part: Send,
     requires { X.ready numbers }
 {
-    reduced(rt, run, &numbers.filter(Below(10)), 0, &LastOf::new())
+    reduced(
+        rt,
+        run,
+        &numbers.filter(Below(10)),
+        identity,
+        &LastOf::new(),
+    )
 }
 
 #[test]

@@ -13,6 +13,9 @@ const LIST: &[u8] = b"pipeline 1\nnumbers 3 1 3 2 1\ndistinct\ntolist\n";
 /// 25 bytes: 6 reads of 4, one of 1, and one that finds the end.
 const FAULTY: &[u8] = b"pipeline 1\nlines 1\nx\nsum\n";
 
+/// 21 bytes: 5 reads of 4, one of 1, and one that finds the end.
+const UNENDED: &[u8] = b"pipeline 1\nlines 1\nx\n";
+
 /// What a run on the file tells and writes. The input gives 4 bytes a read; each device fails at one of its calls, or at none.
 fn run_with<R: Threads + RandomSource + Sync>(
     rt: &R,
@@ -36,9 +39,10 @@ fn run_with<R: Threads + RandomSource + Sync>(
 #[test]
 fn tells_each_failed_read(rt: HostRuntime) -> Result<(), Fail> {
     let alloc = rt.alloc();
-    let cases: [(&[u8], u64, &str, &str); 3] = [
+    let cases: [(&[u8], u64, &str, &str); 4] = [
         (LIST, 13, "", "[3, 1, 2]\n"),
         (FAULTY, 8, "line 4: WRONG_KIND", ""),
+        (UNENDED, 7, "line 4: MISSING_TERMINAL", ""),
         (b"pipe", 2, "line 1: BAD_VERSION", ""),
     ];
     for (file, reads, told, written) in cases {
@@ -80,8 +84,13 @@ fn tells_each_failed_write(rt: HostRuntime) -> Result<(), Fail> {
 
 #[test]
 fn a_fault_writes_nothing(rt: HostRuntime) -> Result<(), Fail> {
-    let end = run_with(&rt, rt.alloc(), FAULTY, 0, 100, 1)?;
-    assert!(rt; end.0.as_str() == "line 4: WRONG_KIND");
-    assert!(rt; end.1.as_str() == "");
+    let cases: [(&[u8], &str); 2] = [
+        (FAULTY, "line 4: WRONG_KIND"),
+        (UNENDED, "line 4: MISSING_TERMINAL"),
+    ];
+    for (file, told) in cases {
+        let end = run_with(&rt, rt.alloc(), file, 0, 100, 1)?;
+        assert!(rt; end.0.as_str() == told && end.1.as_str() == "");
+    }
     Ok(())
 }

@@ -8,10 +8,13 @@ use std::sync::atomic::{AtomicU64, Ordering};
 const TURNS: u64 = 10_000_000;
 
 /// Counts the leaves that were entered and ended, and the calls of no worker. It may hold the first worker at its first leaf until another
-/// worker has entered a leaf.
+/// worker has entered a leaf, or leaf 0 of each run until so many others of that run have ended.
 #[derive(Drop)]
 pub struct Watch {
     holds: bool,
+    others: u64,
+    runs: AtomicU64,
+    others_ended: AtomicU64,
     /// A bit for each worker that has entered a leaf.
     workers: AtomicU64,
     entered: AtomicU64,
@@ -25,12 +28,22 @@ impl Watch {
     pub fn new(holds: bool) -> Watch {
         Watch {
             holds,
+            others: 0,
+            runs: AtomicU64::new(0),
+            others_ended: AtomicU64::new(0),
             workers: AtomicU64::new(0),
             entered: AtomicU64::new(0),
             ended: AtomicU64::new(0),
             strays: AtomicU64::new(0),
             missed: AtomicU64::new(0),
         }
+    }
+
+    /// A gate that holds leaf 0 of each run until so many other leaves of the run have ended. Each run has as many leaves.
+    pub fn of_each_run(others: u64) -> Watch {
+        let mut gate = Watch::new(false);
+        gate.others = others;
+        gate
     }
 
     /// How many leaves were entered and ended, and how many calls were no worker's.
@@ -70,18 +83,37 @@ impl Watch {
         }
         self.missed.fetch_add(1, Ordering::SeqCst);
     }
+
+    /// Turns until the other leaves of this run and of those before it have ended.
+    fn wait_for_others(&self) {
+        let earlier = self.runs.fetch_add(1, Ordering::SeqCst);
+        let wanted = self.others.wrapping_mul(earlier.wrapping_add(1));
+        for _ in 0..TURNS {
+            if self.others_ended.load(Ordering::SeqCst) >= wanted {
+                return;
+            }
+            hint::spin_loop();
+        }
+        self.missed.fetch_add(1, Ordering::SeqCst);
+    }
 }
 
 impl Gate for Watch {
-    fn before_leaf(&self, worker: u32, _leaf: usize) {
+    fn before_leaf(&self, worker: u32, leaf: usize) {
         self.count(&self.entered, worker);
         let own = 1 << (worker % 64);
         if self.workers.fetch_or(own, Ordering::SeqCst) == 0 && self.holds {
             self.wait_for_another(own);
         }
+        if leaf == 0 {
+            self.wait_for_others();
+        }
     }
 
-    fn after_leaf(&self, worker: u32, _leaf: usize) {
+    fn after_leaf(&self, worker: u32, leaf: usize) {
         self.count(&self.ended, worker);
+        if leaf > 0 {
+            self.others_ended.fetch_add(1, Ordering::SeqCst);
+        }
     }
 }

@@ -10,6 +10,25 @@ use std::random::RandomSource;
 use std::test::Fail;
 use std::thread::Threads;
 
+/// Runs a file. Only want of memory is told.
+fn run_file<R: Threads + RandomSource + Sync>(
+    rt: &R,
+    alloc: Global,
+    file: &[u8],
+    settings: &Settings,
+    gate: &Watch,
+) -> Result<(), AllocError>
+    requires workers { (1 ≤ settings.now.workers) × (settings.now.workers ≤ 64) }
+    requires target { settings.now.target ≤ 2 ^ 62 }
+{
+    let mut input = Counted::new(file);
+    let mut output = Counted::new(Vec::with_capacity(alloc, ROOM)?);
+    match run(rt, alloc, &mut input, &mut output, settings, gate) {
+        Err(RunError::NoMemory) => Err(AllocError),
+        _ => Ok(()),
+    }
+}
+
 /// A gate that has watched a run, and may have held its first worker.
 fn watched<R: Threads + RandomSource + Sync>(
     rt: &R,
@@ -22,11 +41,7 @@ fn watched<R: Threads + RandomSource + Sync>(
     requires target { settings.now.target ≤ 2 ^ 62 }
 {
     let gate = Watch::new(holds);
-    let mut input = Counted::new(file);
-    let mut output = Counted::new(Vec::with_capacity(alloc, ROOM)?);
-    if let Err(RunError::NoMemory) = run(rt, alloc, &mut input, &mut output, settings, &gate) {
-        return Err(AllocError);
-    }
+    run_file(rt, alloc, file, settings, &gate)?;
     Ok(gate)
 }
 
@@ -171,5 +186,24 @@ fn other_runs_take_the_workers_that_are_wanted(rt: HostRuntime) -> Result<(), Fa
         let workers = held_workers(&rt, rt.alloc(), file)?;
         assert!(rt; workers == 2, "{place}");
     }
+    Ok(())
+}
+
+// Each barrier keeps the ten items, so that each of the six runs has ten leaves. Leaf 0 is held until another worker has ended the other nine.
+#[test]
+fn two_workers_run_behind_each_barrier(rt: HostRuntime) -> Result<(), Fail> {
+    let file =
+        b"pipeline 1\nrange 0 10\nfilter less 10\nskip 0\ntakewhile less 10\ndropwhile less 0\ndistinct\nlimit 11\nsum\n";
+    let settings = Settings {
+        workers: 2,
+        target: 1,
+    };
+    let gate = Watch::of_each_run(9);
+    run_file(&rt, rt.alloc(), file, &settings, &gate)?;
+    // no second thread came: its start wanted memory
+    if gate.was_missed() {
+        return Err(Fail::from(AllocError));
+    }
+    assert!(rt; gate.calls() == (60, 60, 0));
     Ok(())
 }

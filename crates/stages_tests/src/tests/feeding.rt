@@ -219,6 +219,16 @@ fn a_refused_push_leaves_the_list(rt: HostRuntime) -> Result<(), Fail> {
     check(&rt, &halfway, &[4], &out, &[2, 4, 5])
 }
 
+/// No memory holds 2^63 - 1 copies.
+#[test]
+fn a_list_that_finds_no_memory_is_refused(rt: HostRuntime) -> Result<(), Fail> {
+    let alloc = rt.alloc();
+    let mut out = Vec::from_array(alloc, [2])?;
+    let copies = FlatMap::new(Copies { alloc });
+    check_refused(&rt, &copies, i64::MAX, &mut out);
+    check(&rt, &copies, &[3], &out, &[2, 3, 3, 3])
+}
+
 #[test]
 fn nothing_is_fed_to_a_full_sink(rt: HostRuntime) -> Result<(), Fail> {
     let alloc = rt.alloc();

@@ -76,6 +76,11 @@ impl HoldsFirst {
             missed: AtomicU64::new(0),
         }
     }
+
+    /// Whether each leaf right of leaf 0 that has begun has ended.
+    pub fn all_ended(&self) -> bool {
+        self.ended.load(Ordering::SeqCst) == self.begun.load(Ordering::SeqCst)
+    }
 }
 
 impl Gate for HoldsFirst {

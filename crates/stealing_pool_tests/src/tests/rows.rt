@@ -335,6 +335,7 @@ fn a_leaf_asks_each_1024_items_whether_it_was_cut(rt: HostRuntime) -> Result<(),
     let run = listed(&rt, rt.alloc(), shape, Times::new(-1), -1, 1, &gate)?;
     assert!(rt; are_from_zero(run.acc.as_slice(), 1) && reports(&run.entry, 2, 0, &[(0, 1)]));
     assert!(rt; gate.asked.load(Ordering::SeqCst) == 1024);
+    assert!(rt; gate.all_ended(), "the leaf that was cut while it ran");
     Ok(())
 }
 
@@ -360,6 +361,7 @@ fn of_ten<R: Threads + Sync>(
     needed: u32,
     target: u64,
     workers: u32,
+    gate: &HoldsFirst,
 ) -> Result<Gathered<Vec<i64>>, NoMemory>
     requires { (1 ≤ workers) × (workers ≤ 64) }
 {
@@ -372,33 +374,32 @@ fn of_ten<R: Threads + Sync>(
         factor: 1,
         refused: 7,
     };
-    listed(
-        rt,
-        alloc,
-        shape,
-        refusing,
-        -1,
-        needed,
-        &HoldsFirst::until(0, 0),
-    )
+    listed(rt, alloc, shape, refusing, -1, needed, gate)
 }
 
 #[test]
 fn one_worker_meets_no_refusal_right_of_what_is_wanted(rt: HostRuntime) -> Result<(), Fail> {
     // In the second run all ten stand in one leaf, which reads none behind the item that is enough.
     for target in [1, 16] {
-        let run = of_ten(&rt, rt.alloc(), 1, target, 1)?;
+        let run = of_ten(&rt, rt.alloc(), 1, target, 1, &HoldsFirst::until(0, 0))?;
         assert!(rt; are_from_zero(run.acc.as_slice(), 1), "at {target}");
     }
-    // Ten items are not eleven, so that all are wanted.
-    assert!(rt; matches!(of_ten(&rt, rt.alloc(), 11, 1, 1), Err(NoMemory)));
+    Ok(())
+}
+
+// Ten items are not eleven, so that all are wanted. The gate is told of the end of each leaf, that of the refused one too.
+#[test]
+fn a_refusal_is_met_where_all_is_wanted(rt: HostRuntime) -> Result<(), Fail> {
+    let gate = HoldsFirst::until(0, 0);
+    let is_refused = of_ten(&rt, rt.alloc(), 11, 1, 1, &gate).is_err();
+    assert!(rt; is_refused && gate.all_ended());
     Ok(())
 }
 
 #[test]
 fn seven_workers_may_meet_a_refusal(rt: HostRuntime) -> Result<(), Fail> {
     assert!(rt;
-        match of_ten(&rt, rt.alloc(), 1, 1, 7) {
+        match of_ten(&rt, rt.alloc(), 1, 1, 7, &HoldsFirst::until(0, 0)) {
             Ok(run) => are_from_zero(run.acc.as_slice(), 1),
             Err(NoMemory) => true,
         }
