@@ -1,0 +1,26 @@
+use Rattle.std.proofs.Common.{◌∙◌, refl, sym, inl, inr}
+use Rattle.pipeline_runner.proofs.CommandLemmas.{faulty_input, has_line_fault, names_file, repeating_input}
+use Rattle.pipeline_runner.proofs.command_line.command.Goals as goal
+
+pub returns-in-Err-clause-faulty : goal.returns-in-Err-clause-faulty
+returns-in-Err-clause-faulty g c = λ two.
+    let told = c.stop.ensures.fault two in
+    inl (has_line_fault _ c.in-Err.e c.in-Err.ensures.fails told.0 told.1)
+
+pub returns-in-Ok-run-clause-answered : goal.returns-in-Ok-run-clause-answered
+returns-in-Ok-run-clause-answered g c = λ done.
+    let name = c.line_of.result.0 in
+    let named = names_file _ c.in-Ok.matches name.now c.in-Ok.ensures.fails c.in-Ok.ensures.found c.line_of.ensures.name in
+    inr (name.now, c.in-Some.input, named, (name, c.in-Some.ensures, refl), c.in-Ok-run.ensures.runs)
+
+pub returns-clause-faulty : goal.returns-clause-faulty
+returns-clause-faulty g c = λ two.
+    let name = c.line_of.result.0 in
+    let named = names_file _ c.in-Ok.matches name.now c.in-Ok.ensures.fails c.in-Ok.ensures.found c.line_of.ensures.name in
+    inr (name.now, c.in-Some.input, named, (name, c.in-Some.ensures, refl), faulty_input _ _ _ c.in-Err-run.e c.in-Err-run.ensures.runs (sym c.tell-in-Err-run.ensures ∙ two))
+
+pub returns-clause-repeated : goal.returns-clause-repeated
+returns-clause-repeated g c = λ four.
+    let name = c.line_of.result.0 in
+    let named = names_file _ c.in-Ok.matches name.now c.in-Ok.ensures.fails c.in-Ok.ensures.found c.line_of.ensures.name in
+    (name.now, c.in-Some.input, named, (name, c.in-Some.ensures, refl), repeating_input _ _ _ c.in-Err-run.e c.in-Err-run.ensures.runs (sym c.tell-in-Err-run.ensures ∙ four))
