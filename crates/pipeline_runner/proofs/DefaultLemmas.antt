@@ -267,6 +267,11 @@ takes_one a name id set range simple free =
       no_ifs = is_nil _ ifs.0;
     }
 
+-- the same, of an argument whose rule is known
+takes_by : (a : Arg) (r : Rule) → rule_of a ≡ r → r.action ≡ Some Set → r.range ≡ None → r.is_simple ≡ true → r.is_free ≡ true → TakesOne a r.id
+takes_by a r is set range simple free =
+    takes_one a r.id (ap (λ q. q.id) is) (ap (λ q. q.action) is ∙ set) (ap (λ q. q.range) is ∙ range) (ap (λ q. q.is_simple) is ∙ simple) (ap (λ q. q.is_free) is ∙ free)
+
 -- one default value
 one_default : (a : Arg) (text : List ℕ) → (rule_of a).defaults ≡ text ∷ [] → 0 < length (items_of a.default_vals)
 one_default a text is = go (items_of a.default_vals) is
@@ -288,9 +293,9 @@ pub program_line : (start first second cmd : Command) (file workers target : Arg
     → args_of start ≡ [] → groups_of start ≡ [] → (out-Command start).has_globals ≡ false → (out-Command start).subcommand_negates_reqs ≡ false
     → rule_of file ≡ file_rule → rule_of workers ≡ workers_rule → rule_of target ≡ target_rule → IsParsedFrom cmd m → IsLine m
 program_line start first second cmd file workers target m one two three args groups globals negates is_file is_workers is_target p =
-    let f = takes_one file (codes "FILE") (ap (λ r. r.id) is_file) (ap (λ r. r.action) is_file) (ap (λ r. r.range) is_file) (ap (λ r. r.is_simple) is_file) (ap (λ r. r.is_free) is_file) in
-    let w = takes_one workers (codes "workers") (ap (λ r. r.id) is_workers) (ap (λ r. r.action) is_workers) (ap (λ r. r.range) is_workers) (ap (λ r. r.is_simple) is_workers) (ap (λ r. r.is_free) is_workers) in
-    let t = takes_one target (codes "target") (ap (λ r. r.id) is_target) (ap (λ r. r.action) is_target) (ap (λ r. r.range) is_target) (ap (λ r. r.is_simple) is_target) (ap (λ r. r.is_free) is_target) in
+    let f = takes_by file file_rule is_file refl refl refl refl in
+    let w = takes_by workers workers_rule is_workers refl refl refl refl in
+    let t = takes_by target target_rule is_target refl refl refl refl in
     let xs = file ∷ workers ∷ target ∷ [] in
     let turns : AddsInTurn AddsArg start xs cmd = (first, one, (second, two, (cmd, three, refl))) in
     let fit : All FitsChain xs = all_three FitsChain file workers target
@@ -318,9 +323,9 @@ bare_made new about help bare first second made is_about is_help is_bare =
 pub program_made : (start first second cmd : Command) (file workers target : Arg) → AddsArg start file first → AddsArg first workers second → AddsArg second target cmd
     → app_of start ≡ bare_program → rule_of file ≡ file_rule → rule_of workers ≡ workers_rule → rule_of target ≡ target_rule → app_of cmd ≡ program
 program_made start first second cmd file workers target one two three bare is_file is_workers is_target =
-    let f = takes_one file (codes "FILE") (ap (λ r. r.id) is_file) (ap (λ r. r.action) is_file) (ap (λ r. r.range) is_file) (ap (λ r. r.is_simple) is_file) (ap (λ r. r.is_free) is_file) in
-    let w = takes_one workers (codes "workers") (ap (λ r. r.id) is_workers) (ap (λ r. r.action) is_workers) (ap (λ r. r.range) is_workers) (ap (λ r. r.is_simple) is_workers) (ap (λ r. r.is_free) is_workers) in
-    let t = takes_one target (codes "target") (ap (λ r. r.id) is_target) (ap (λ r. r.action) is_target) (ap (λ r. r.range) is_target) (ap (λ r. r.is_simple) is_target) (ap (λ r. r.is_free) is_target) in
+    let f = takes_by file file_rule is_file refl refl refl refl in
+    let w = takes_by workers workers_rule is_workers refl refl refl refl in
+    let t = takes_by target target_rule is_target refl refl refl refl in
     three.shape t.local ∙ ap₂ with_rule (two.shape w.local ∙ ap₂ with_rule (one.shape f.local ∙ ap₂ with_rule bare is_file) is_workers) is_target
 
 pub same_some : {X : Type 0} {x y : X} → Some x ≡ Some y → x ≡ y

@@ -1,11 +1,6 @@
-use Rattle.std.proofs.Common.{◌∙◌, refl, sym, inl, inr}
-use Rattle.pipeline_runner.proofs.CommandLemmas.{faulty_input, has_line_fault, names_file, repeating_input}
+use Rattle.std.proofs.Common.{◌∙◌, refl, sym, inr}
+use Rattle.pipeline_runner.proofs.CommandLemmas.{faulty_input, names_file, repeating_input}
 use Rattle.pipeline_runner.proofs.command_line.command.Goals as goal
-
-pub returns-in-Err-clause-faulty : goal.returns-in-Err-clause-faulty
-returns-in-Err-clause-faulty g c = λ two.
-    let told = c.stop.ensures.fault two in
-    inl (has_line_fault _ c.in-Err.e c.in-Err.ensures.fails told.0 told.1)
 
 pub returns-in-Ok-run-clause-answered : goal.returns-in-Ok-run-clause-answered
 returns-in-Ok-run-clause-answered g c = λ done.

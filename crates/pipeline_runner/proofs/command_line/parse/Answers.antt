@@ -1,6 +1,6 @@
 use Rattle.std.proofs.Common.{◌≡◌, ◌∙◌, ap, ap₂, map, refl, rules, subst}
 use Rattle.std.proofs.lemmas.Result.{IfOk-weaker}
-use Rattle.clap.specs.Simple.{app_of, app_of_fields}
+use Rattle.clap.specs.Simple.{app_of}
 use Rattle.clap.specs.Words.{FailsBy, fault_of, is_simple, matches_of}
 use Rattle.clap.specs.Faults.{is_simple_and_free}
 use Rattle.pipeline_runner.specs.CommandLine.{bare_program, program}
