@@ -13,8 +13,10 @@ use Rattle.pipeline_runner.specs.declared.runner.RunError.TheVariants.{Fault, No
 
 -- the name that the matches have is that of the words
 pub names_file : (words : List (List ℕ)) (m : ArgMatches) (name : List ℕ) → fault_of program words ≡ [] → rows_of (found_of m) ≡ matches_of program words → HasName m name → NamesFile words name
-names_file words m name none found has =
-    (none, ap (first_of (codes "FILE")) (sym found) ∙ sym (first_value-rows (found_of m) (codes "FILE")) ∙ has)
+names_file words m name none found has = record {
+  faultless = none;
+  named = ap (first_of (codes "FILE")) (sym found) ∙ sym (first_value-rows (found_of m) (codes "FILE")) ∙ has;
+}
 
 -- what a run on a known input says of the file where it told a status
 told_fault : (file : List ℕ) (old new : Option (List ℕ)) (e : RunError) → Runs file old new (Err e) → status_of e ≡ 2 → IsFaulty file

@@ -7,8 +7,13 @@ use Rattle.pipeline_runner.specs.CommandLine.{AsksForHelp, NamesFile}
 use Rattle.pipeline_runner.specs.Run.{OutputOf, RepeatsKey}
 
 -- The words name a file, the opener may give an input for that name, and what the input holds, where it is known, has the property.
-abbrev pub OnFile : {I : Type 0} → (List ℕ → Option I → Type 0) → (I → Option (List ℕ)) → List (List ℕ) → (List ℕ → Type 0) → Type 0
-OnFile {I} opens remaining words P = (name : List ℕ) × (input : I) × NamesFile words name × opens name (Some input) × IfSome (remaining input) P
+pub record OnFile {I : Type 0} (opens : List ℕ → Option I → Type 0) (remaining : I → Option (List ℕ)) (words : List (List ℕ))
+    (P : List ℕ → Type 0) : Type 0 where
+  pub name : List ℕ
+  pub named : NamesFile words name
+  pub input : I
+  pub opened : opens name (Some input)
+  pub holds : IfSome (remaining input) P
 
 -- the output grew by the text of the file's value, with a line end
 abbrev pub Answers : Option (List ℕ) → Option (List ℕ) → List ℕ → Type 0

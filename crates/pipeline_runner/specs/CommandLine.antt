@@ -44,16 +44,19 @@ abbrev pub program : App
 program = with_rule (with_rule (with_rule bare_program file_rule) workers_rule) target_rule
 
 -- What the words say. They ask for the help,
-abbrev pub AsksForHelp : List (List ℕ) → Type 0
-AsksForHelp words = IsAmong DisplayHelp (fault_of program words)
+pub record AsksForHelp (words : List (List ℕ)) : Type 0 where
+  pub help : IsAmong DisplayHelp (fault_of program words)
 
 -- or have a fault,
-abbrev pub HasLineFault : List (List ℕ) → Type 0
-HasLineFault words = (kind : ErrorKind) × IsAmong kind (fault_of program words) × (kind ≢ DisplayHelp)
+pub record HasLineFault (words : List (List ℕ)) : Type 0 where
+  pub kind : ErrorKind
+  pub among : IsAmong kind (fault_of program words)
+  pub other : kind ≢ DisplayHelp
 
 -- or have none, and name this file.
-abbrev pub NamesFile : List (List ℕ) → List ℕ → Type 0
-NamesFile words name = (fault_of program words ≡ []) × (first_of (codes "FILE") (matches_of program words) ≡ Some name)
+pub record NamesFile (words : List (List ℕ)) (name : List ℕ) : Type 0 where
+  pub faultless : fault_of program words ≡ []
+  pub named : first_of (codes "FILE") (matches_of program words) ≡ Some name
 
 -- What a line was read into: a file's name, and two numbers in their ranges.
 pub record IsLine (matches : ArgMatches) : Type 0 where
