@@ -1,5 +1,5 @@
 -- How a command ends.
-use Rattle.std.proofs.Common.{◌≡◌, ◌∙◌, ℕ, List, [], Option, Some, None, Result, Ok, Err, codes, ap, sym, arith}
+use Rattle.std.proofs.Common.{◌≡◌, ◌∙◌, ℕ, List, [], Option, Some, None, Err, codes, ap, sym, arith}
 use Rattle.std.specs.Prelude.{IfSome, string_bytes}
 use Rattle.clap.specs.Words.{fault_of, first_of, found_of, matches_of, rows_of}
 use Rattle.clap.specs.declared.parser.matches.ArgMatches.{ArgMatches}

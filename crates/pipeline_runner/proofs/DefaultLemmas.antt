@@ -3,7 +3,7 @@ use Rattle.std.proofs.Common.{◌≡◌, ◌∙◌, ap₂, map, not, ◌++◌, �
 use Rattle.std.specs.List.{All, slice_index_or}
 use Rattle.std.specs.Str.{bytes_eq}
 use Rattle.std.specs.Borrow.{Bor}
-use Rattle.std.specs.Prelude.{find, option_map, slice_get, Result, Ok, Err, codes, ℤ, pos}
+use Rattle.std.specs.Prelude.{find, option_map, slice_get, Result, Ok, Err, codes}
 use Rattle.std.specs.Str.Parse.{ParsesUnsigned}
 use Rattle.std.proofs.lemmas.Bool.{false≢true}
 use Rattle.std.proofs.lemmas.List.{append-nil}
@@ -14,9 +14,7 @@ use Rattle.clap.specs.Matches.{ReadsOne, first_value, found_of, matched_of, one_
 use Rattle.clap.specs.Simple.{app_of, app_of_fields, new_app, on_top, with_rule}
 use Rattle.clap.specs.Texts.{items_of}
 use Rattle.clap.specs.Walk.{Rule, is_empty, is_free_arg, is_simple_arg, rule_of}
-use Rattle.std.specs.Int.{saturate_unsigned, w64}
-use Rattle.std.specs.Ordering.{nat_cmp, ord_max}
-use Rattle.clap.specs.Values.{unsigned_up_to, Accepts, IsUnsignedIn, read_as, reading_of}
+use Rattle.clap.specs.Values.{Accepts, IsUnsignedIn, read_as, reading_of}
 use Rattle.clap.specs.declared.builder.action.ArgAction.TheVariants.{Count, Set}
 use Rattle.clap.specs.declared.builder.arg.Arg.{Arg}
 use Rattle.clap.specs.declared.builder.command.Command.{Command}
@@ -24,7 +22,6 @@ use Rattle.clap.specs.declared.builder.command.Command.TheViews.{out-Command}
 use Rattle.clap.specs.declared.builder.value_parser.ValueParser.{ValueParser}
 use Rattle.clap.specs.declared.parser.matches.ArgMatches.{ArgMatches}
 use Rattle.clap.specs.declared.parser.matches.MatchedArg.{MatchedArg}
-use Rattle.clap.specs.declared.builder.value_parser.ValueParser.TheVariants as vp
 use Rattle.clap.specs.Lexer.{without_minus}
 use Rattle.pipeline_runner.specs.CommandLine.{IsLine, bare_program, file_rule, program, target_rule, workers_rule}
 use Rattle.clap.proofs.CallerLemmas.{added_plain, default_present, entry_by_id, required_in_chain, same_rules_by_id}

@@ -1,4 +1,4 @@
-use Rattle.std.proofs.Common.{◌≡◌, ◌∙◌, ap, ap₂, map, refl, rules, subst}
+use Rattle.std.proofs.Common.{◌≡◌, ◌∙◌, ap, map, refl, rules, subst}
 use Rattle.std.proofs.lemmas.Result.{IfOk-weaker}
 use Rattle.clap.specs.Simple.{app_of}
 use Rattle.clap.specs.Words.{FailsBy, fault_of, is_simple, matches_of}
