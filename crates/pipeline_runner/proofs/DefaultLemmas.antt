@@ -1,9 +1,9 @@
 -- An argument with a default always has a value, and the value passed the argument's parser.
-use Rattle.std.proofs.Common.{◌≡◌, ◌∙◌, ◌++◌, ◌<◌, ◌≤◌, ℕ, zero, suc, Bool, true, false, List, [], ◌∷◌, length, is_some, Option, Some, None, refl, sym, ap, subst, inl, inr, arith, append_assoc}
+use Rattle.std.proofs.Common.{◌≡◌, ◌∙◌, ap₂, map, not, ◌++◌, ◌<◌, ◌≤◌, ℕ, zero, suc, Bool, true, false, List, [], ◌∷◌, length, is_some, Option, Some, None, refl, sym, ap, subst, inl, inr, arith, append_assoc}
 use Rattle.std.specs.List.{All, slice_index_or}
 use Rattle.std.specs.Str.{bytes_eq}
 use Rattle.std.specs.Borrow.{Bor}
-use Rattle.std.specs.Prelude.{find, option_map, slice_get, Result, Ok, Err, codes, ℤ, pos}
+use Rattle.std.specs.Prelude.{find, option_map, slice_get, Result, Ok, Err, codes}
 use Rattle.std.specs.Str.Parse.{ParsesUnsigned}
 use Rattle.std.proofs.lemmas.Bool.{false≢true}
 use Rattle.std.proofs.lemmas.List.{append-nil}
@@ -11,9 +11,10 @@ use Rattle.std.proofs.lemmas.Slice.Eq.{bytes_eq-Decides}
 use Rattle.clap.specs.Facts.{args_of, groups_of, Entry, EntryPasses, HasIn, HasReading, PassesArg, WantsDefault, least_values, parser_of, parser_of_value}
 use Rattle.clap.specs.Built.{AddsArg, AddsInTurn, FitsChain, HasDistinctIds, IsAuto, IsParsedFrom, IsPlain, IsPlainArg, KeepsList, SameRules}
 use Rattle.clap.specs.Matches.{ReadsOne, first_value, found_of, matched_of, one_text}
-use Rattle.std.specs.Int.{saturate_unsigned, w64}
-use Rattle.std.specs.Ordering.{nat_cmp, ord_max}
-use Rattle.clap.specs.Values.{unsigned_up_to, Accepts, IsUnsignedIn, read_as, reading_of}
+use Rattle.clap.specs.Simple.{app_of, app_of_fields, new_app, on_top, with_rule}
+use Rattle.clap.specs.Texts.{items_of}
+use Rattle.clap.specs.Walk.{Rule, is_empty, is_free_arg, is_simple_arg, rule_of}
+use Rattle.clap.specs.Values.{Accepts, IsUnsignedIn, read_as, reading_of}
 use Rattle.clap.specs.declared.builder.action.ArgAction.TheVariants.{Count, Set}
 use Rattle.clap.specs.declared.builder.arg.Arg.{Arg}
 use Rattle.clap.specs.declared.builder.command.Command.{Command}
@@ -21,10 +22,11 @@ use Rattle.clap.specs.declared.builder.command.Command.TheViews.{out-Command}
 use Rattle.clap.specs.declared.builder.value_parser.ValueParser.{ValueParser}
 use Rattle.clap.specs.declared.parser.matches.ArgMatches.{ArgMatches}
 use Rattle.clap.specs.declared.parser.matches.MatchedArg.{MatchedArg}
-use Rattle.clap.specs.declared.builder.value_parser.ValueParser.TheVariants as vp
 use Rattle.clap.specs.Lexer.{without_minus}
-use Rattle.pipeline_runner.specs.CommandLine.{IsFile, IsLine, IsTarget, IsWorkers, TakesOne}
+use Rattle.pipeline_runner.specs.CommandLine.{IsLine, bare_program, file_rule, program, target_rule, workers_rule}
 use Rattle.clap.proofs.CallerLemmas.{added_plain, default_present, entry_by_id, required_in_chain, same_rules_by_id}
+use Rattle.clap.proofs.SimpleLemmas.{is_false, is_nil}
+use Rattle.clap.proofs.WalkLemmas.{both}
 
 -- the command with these arguments more, each with its rules
 record GrowsBy (old : Command) (xs : List Arg) (new : Command) : Type 0 where
@@ -224,6 +226,57 @@ distinct_three a b c file workers target (suc (suc zero)) (suc (suc (suc k))) d 
 differ : (a b : List ℕ) → bytes_eq a b ≡ false → a ≡ b → ⊥
 differ a b unequal same = false≢true (sym unequal ∙ (bytes_eq-Decides a b).1 same)
 
+-- the argument takes one value under this name, and excludes no other
+record TakesOne (a : Arg) (name : List ℕ) : Type 0 where
+  plain : IsPlainArg a
+  local : a.global ≡ false
+  id : a.id.now ≡ name
+  set : a.action ≡ Some Set
+  delim : a.val_delim ≡ None
+  least : 1 ≤ least_values a
+  no_ifs : a.default_vals_ifs.items ≡ []
+
+no_value : {X : Type 0} (o : Option X) → not (is_some o) ≡ true → o ≡ None
+no_value None e = refl
+no_value (Some x) e = absurd (false≢true e)
+
+takes_one : (a : Arg) (name : List ℕ) → (rule_of a).id ≡ name → (rule_of a).action ≡ Some Set → (rule_of a).range ≡ None
+    → is_simple_arg a ≡ true → is_free_arg a ≡ true → TakesOne a name
+takes_one a name id set range simple free =
+    let overrides = both (is_empty a.overrides.items) _ simple in
+    let ifs = both (is_empty a.default_vals_ifs.items) _ overrides.1 in
+    let groups = both (is_empty a.groups.items) _ ifs.1 in
+    let delim = both (not (is_some a.val_delim)) _ groups.1 in
+    let terminator = both (not (is_some a.terminator)) _ delim.1 in
+    let hyphens = both (not a.allow_hyphen_values) _ terminator.1 in
+    let negative = both (not a.allow_negative_numbers) _ hyphens.1 in
+    let equals = both (not a.require_equals) _ negative.1 in
+    let last = both (not a.last) (not a.global) equals.1 in
+    let exclusive = both (not a.exclusive) _ free in
+    let conflicts = both (is_empty a.conflicts.items) _ exclusive.1 in
+    record {
+      plain = (is_false _ exclusive.0, is_nil _ conflicts.0, is_nil _ overrides.0, is_nil _ groups.0);
+      local = is_false _ last.1;
+      id = id;
+      set = set;
+      delim = no_value _ delim.0;
+      least = rw range (omega arith);
+      no_ifs = is_nil _ ifs.0;
+    }
+
+-- the same, of an argument whose rule is known
+takes_by : (a : Arg) (r : Rule) → rule_of a ≡ r → r.action ≡ Some Set → r.range ≡ None → r.is_simple ≡ true → r.is_free ≡ true → TakesOne a r.id
+takes_by a r is set range simple free =
+    takes_one a r.id (ap (λ q. q.id) is) (ap (λ q. q.action) is ∙ set) (ap (λ q. q.range) is ∙ range) (ap (λ q. q.is_simple) is ∙ simple) (ap (λ q. q.is_free) is ∙ free)
+
+-- one default value
+one_default : (a : Arg) (text : List ℕ) → (rule_of a).defaults ≡ text ∷ [] → 0 < length (items_of a.default_vals)
+one_default a text is = go (items_of a.default_vals) is
+  where
+    go : (values : List (Bor (List ℕ))) → map (λ s. s.now) values ≡ text ∷ [] → 0 < length values
+    go [] none = cc
+    go (v ∷ values) is = omega arith
+
 fits_chain : (a : Arg) (name : List ℕ) → TakesOne a name → bytes_eq name [] ≡ false → bytes_eq name (codes "help") ≡ false → bytes_eq name (codes "version") ≡ false → FitsChain a
 fits_chain a name is some help version = (
   is.plain,
@@ -235,11 +288,11 @@ fits_chain a name is some help version = (
 -- The three arguments of the program, in their order.
 pub program_line : (start first second cmd : Command) (file workers target : Arg) (m : ArgMatches) → AddsArg start file first → AddsArg first workers second → AddsArg second target cmd
     → args_of start ≡ [] → groups_of start ≡ [] → (out-Command start).has_globals ≡ false → (out-Command start).subcommand_negates_reqs ≡ false
-    → IsFile file → IsWorkers workers → IsTarget target → IsParsedFrom cmd m → IsLine m
+    → rule_of file ≡ file_rule → rule_of workers ≡ workers_rule → rule_of target ≡ target_rule → IsParsedFrom cmd m → IsLine m
 program_line start first second cmd file workers target m one two three args groups globals negates is_file is_workers is_target p =
-    let f = is_file.takes in
-    let w = is_workers.takes in
-    let t = is_target.takes in
+    let f = takes_by file file_rule is_file refl refl refl refl in
+    let w = takes_by workers workers_rule is_workers refl refl refl refl in
+    let t = takes_by target target_rule is_target refl refl refl refl in
     let xs = file ∷ workers ∷ target ∷ [] in
     let turns : AddsInTurn AddsArg start xs cmd = (first, one, (second, two, (cmd, three, refl))) in
     let fit : All FitsChain xs = all_three FitsChain file workers target
@@ -247,20 +300,30 @@ program_line start first second cmd file workers target m one two three args gro
     (fits_chain workers (codes "workers") w refl refl refl)
     (fits_chain target (codes "target") t refl refl refl) in
     let distinct = distinct_three file workers target f.id w.id t.id in
-    let name = required_in_chain start cmd xs 0 file m turns args groups globals negates fit distinct (omega arith) (is_file.required, f.set, f.delim, f.least) p in
-    let few = default_in_chain start cmd xs 1 file m turns args groups globals fit distinct (omega arith) (is_workers.default, w.set, w.delim, w.least) p _ is_workers.parser in
-    let most = default_in_chain start cmd xs 2 file m turns args groups globals fit distinct (omega arith) (is_target.default, t.set, t.delim, t.least) p _ is_target.parser in
+    let name = required_in_chain start cmd xs 0 file m turns args groups globals negates fit distinct (omega arith) (ap (λ r. r.required) is_file, f.set, f.delim, f.least) p in
+    let few = default_in_chain start cmd xs 1 file m turns args groups globals fit distinct (omega arith) ((w.no_ifs, one_default workers _ (ap (λ r. r.defaults) is_workers)), w.set, w.delim, w.least) p _ (ap (λ r. r.parser) is_workers) in
+    let most = default_in_chain start cmd xs 2 file m turns args groups globals fit distinct (omega arith) ((t.no_ifs, one_default target _ (ap (λ r. r.defaults) is_target)), t.set, t.delim, t.least) p _ (ap (λ r. r.parser) is_target) in
     record {
       file = subst (λ (w : List ℕ). is_some (first_value (found_of m) w) ≡ true) f.id name;
       workers = (few.0, subst (λ (w : List ℕ). one_text (found_of m) w ≡ Some (without_minus few.0)) w.id few.1, few.2);
       target = (most.0, subst (λ (w : List ℕ). one_text (found_of m) w ≡ Some most.0) t.id most.1, most.2);
     }
 
+-- the program before its arguments, with its two texts
+pub bare_made : (new about help bare : Command) (first second : Option (Bor (List ℕ))) → app_of new ≡ new_app (codes "pstream")
+    → out-Command about ≡ record (out-Command new) { about = first } → out-Command help ≡ record (out-Command about) { after_help = second }
+    → out-Command bare ≡ record (out-Command help) { no_binary_name = true } → app_of bare ≡ bare_program
+bare_made new about help bare first second made is_about is_help is_bare =
+    ap app_of_fields is_bare ∙ ap (on_top (λ s. record s { no_binary_name = true })) (ap app_of_fields is_help ∙ ap app_of_fields is_about ∙ made)
+
+-- The program, as clap's specification has it.
+pub program_made : (start first second cmd : Command) (file workers target : Arg) → AddsArg start file first → AddsArg first workers second → AddsArg second target cmd
+    → app_of start ≡ bare_program → rule_of file ≡ file_rule → rule_of workers ≡ workers_rule → rule_of target ≡ target_rule → app_of cmd ≡ program
+program_made start first second cmd file workers target one two three bare is_file is_workers is_target =
+    let f = takes_by file file_rule is_file refl refl refl refl in
+    let w = takes_by workers workers_rule is_workers refl refl refl refl in
+    let t = takes_by target target_rule is_target refl refl refl refl in
+    three.shape t.local ∙ ap₂ with_rule (two.shape w.local ∙ ap₂ with_rule (one.shape f.local ∙ ap₂ with_rule bare is_file) is_workers) is_target
+
 pub same_some : {X : Type 0} {x y : X} → Some x ≡ Some y → x ≡ y
 same_some same = cc
-
--- the range of the target, as its ends give it
-pub target_range : (low high : ℤ) (r : ValueParser) → r ≡ unsigned_up_to (ord_max nat_cmp 0 (saturate_unsigned w64 low)) 18446744073709551615 (Some high) → low ≡ pos 0 → high ≡ pos 4611686018427387904
-    → r ≡ vp.Unsigned 0 4611686018427387904
-target_range low high r is zero_low most = is ∙ ap (λ l. unsigned_up_to (ord_max nat_cmp 0 (saturate_unsigned w64 l)) 18446744073709551615 (Some high)) zero_low
-    ∙ ap (λ h. unsigned_up_to (ord_max nat_cmp 0 (saturate_unsigned w64 (pos 0))) 18446744073709551615 (Some h)) most

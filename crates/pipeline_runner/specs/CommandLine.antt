@@ -1,42 +1,74 @@
--- The arguments of the program, and what a command line gives that was taken.
-use Rattle.std.specs.Prelude.{◌≡◌, ◌≤◌, ℕ, pos, List, Some, None, true, false, is_some, codes}
-use Rattle.clap.specs.Built.{IsPlainArg}
-use Rattle.clap.specs.Facts.{WantsDefault, least_values}
-use Rattle.clap.specs.Words.{first_value, found_of, one_text, without_minus}
+-- The command line: the program's arguments, and what the words of a line say.
+use Rattle.std.specs.Prelude.{◌≡◌, ◌≢◌, ℕ, pos, List, [], ◌∷◌, Some, true, is_some, codes}
+use Rattle.std.specs.Str.Parse.{IsNumeral, digits_value, without_leading_plus}
+use Rattle.clap.specs.Kinds.{IsAmong}
+use Rattle.clap.specs.Simple.{on_top}
 use Rattle.clap.specs.Values.{IsSignedIn, IsUnsignedIn}
+use Rattle.clap.specs.Words.{App, Rule, fault_of, first_of, first_value, found_of, matches_of, new_app, new_rule, one_text, with_rule, without_minus}
 use Rattle.clap.specs.declared.builder.action.ArgAction.TheVariants.{Set}
-use Rattle.clap.specs.declared.builder.arg.Arg.{Arg}
 use Rattle.clap.specs.declared.builder.value_parser.ValueParser.TheVariants.{Signed, Unsigned}
+use Rattle.clap.specs.declared.error.kind.ErrorKind.{ErrorKind}
+use Rattle.clap.specs.declared.error.kind.ErrorKind.TheVariants.{DisplayHelp}
 use Rattle.clap.specs.declared.parser.matches.ArgMatches.{ArgMatches}
 
--- the argument takes one value under this name, and excludes no other
-pub record TakesOne (arg : Arg) (name : List ℕ) : Type 0 where
-  pub plain : IsPlainArg arg
-  pub local : arg.global ≡ false
-  pub id : arg.id.now ≡ name
-  pub set : arg.action ≡ Some Set
-  pub delim : arg.val_delim ≡ None
-  pub least : 1 ≤ least_values arg
+-- The program's arguments, as clap's specification writes a program down. First the file's name, which has to be there.
+abbrev pub file_rule : Rule
+file_rule = record (new_rule (codes "FILE")) { action = Some Set; required = true }
 
--- the file's name, which has to be there
-pub record IsFile (arg : Arg) : Type 0 where
-  pub takes : TakesOne arg (codes "FILE")
-  pub required : arg.required ≡ true
+-- a number from 1 to 64, which is 4 where none is given
+abbrev pub workers_rule : Rule
+workers_rule = record (new_rule (codes "workers")) {
+  long = Some (codes "workers");
+  action = Some Set;
+  value_names = 1;
+  defaults = codes "4" ∷ [];
+  parser = Some (Signed (pos 1) (pos 64));
+}
 
--- a number from 1 to 64, with a default
-pub record IsWorkers (arg : Arg) : Type 0 where
-  pub takes : TakesOne arg (codes "workers")
-  pub default : WantsDefault arg
-  pub parser : arg.value_parser ≡ Some (Signed (pos 1) (pos 64))
+-- a number from 0 to 2^62, which is 0 where none is given
+abbrev pub target_rule : Rule
+target_rule = record (new_rule (codes "target")) {
+  long = Some (codes "target");
+  action = Some Set;
+  value_names = 1;
+  defaults = codes "0" ∷ [];
+  parser = Some (Unsigned 0 4611686018427387904);
+}
 
--- a number from 0 to 2^62, with a default
-pub record IsTarget (arg : Arg) : Type 0 where
-  pub takes : TakesOne arg (codes "target")
-  pub default : WantsDefault arg
-  pub parser : arg.value_parser ≡ Some (Unsigned 0 4611686018427387904)
+-- the program before its arguments: the words don't begin with its own name
+abbrev pub bare_program : App
+bare_program = on_top (λ s. record s { no_binary_name = true }) (new_app (codes "pstream"))
 
--- what a command line gives: a file's name, and two numbers in their ranges
+-- and with them
+abbrev pub program : App
+program = with_rule (with_rule (with_rule bare_program file_rule) workers_rule) target_rule
+
+-- What the words say. They ask for the help,
+pub record AsksForHelp (words : List (List ℕ)) : Type 0 where
+  pub help : IsAmong DisplayHelp (fault_of program words)
+
+-- or have a fault,
+pub record HasLineFault (words : List (List ℕ)) : Type 0 where
+  pub kind : ErrorKind
+  pub among : IsAmong kind (fault_of program words)
+  pub other : kind ≢ DisplayHelp
+
+-- or have none, and name this file.
+pub record NamesFile (words : List (List ℕ)) (name : List ℕ) : Type 0 where
+  pub faultless : fault_of program words ≡ []
+  pub named : first_of (codes "FILE") (matches_of program words) ≡ Some name
+
+-- What a line was read into: a file's name, and two numbers in their ranges.
 pub record IsLine (matches : ArgMatches) : Type 0 where
   pub file : is_some (first_value (found_of matches) (codes "FILE")) ≡ true
   pub workers : (text : List ℕ) × (one_text (found_of matches) (codes "workers") ≡ Some (without_minus text)) × IsSignedIn (pos 1) (pos 64) text
   pub target : (text : List ℕ) × (one_text (found_of matches) (codes "target") ≡ Some text) × IsUnsignedIn 0 4611686018427387904 text
+
+-- the file's name is this
+abbrev pub HasName : ArgMatches → List ℕ → Type 0
+HasName matches name = first_value (found_of matches) (codes "FILE") ≡ Some name
+
+-- the text of the option, which a line gives or is the default, writes this number
+abbrev pub HasNumber : ArgMatches → List ℕ → ℕ → Type 0
+HasNumber matches option number = (text : List ℕ) × (one_text (found_of matches) option ≡ Some text)
+    × IsNumeral 10 (without_leading_plus text) × (number ≡ digits_value 10 (without_leading_plus text))
