@@ -4,7 +4,8 @@ ghost use Rattle.std.specs.Int.{int_rem_euclid};
 ghost use Rattle.std.specs.Ordering.{int_eq};
 ghost use Rattle.pipeline_meaning.specs.Functions.{divisor};
 
-/// A divisor from 1 to 2^63 - 1, with what spares each remainder a division.
+/// A divisor from 1 to 2^63 - 1, with what spares each remainder and each test a division: how often it goes into 2^64 - 1, how many twos
+/// it has, and the inverse of the odd number that is left without them.
 #[derive(Clone, Copy, Debug)]
 pub struct Divisor {
     pub number: u64,
@@ -73,11 +74,11 @@ impl Divisor {
 }
 
 /// The inverse of an odd number modulo 2^64.
-// 1 / (1 - r) is (1 + r)(1 + r^2)(1 + r^4) .. (1 + r^32): r is even, so r^64 is 0.
 fn inverse(odd: u64) -> u64
     requires { odd % 2 ≡ 1 }
     ensures { odd * result % 2 ^ 64 ≡ 1 }
 {
+    // 1 / (1 - r) is (1 + r)(1 + r^2)(1 + r^4) .. (1 + r^32): r is even, so r^64 is 0.
     let mut inverse = 1u64;
     let mut rest = 1u64.wrapping_sub(odd);
     for _step in 0..6u32 {

@@ -1,0 +1,104 @@
+-- Maps that give different numbers for different ones.
+use Rattle.std.specs.Prelude.{◌≡◌, ◌≢◌, ◌<◌, ◌+◌, ◌*◌, ◌%◌, ◌^◌, ◌-◌, All, ℕ, zero, suc, ℤ, pos, negsuc, neg_ℤ, ◌+ℤ◌, ◌*ℤ◌, List, [], ◌∷◌, length, map, unsigned_abs, refl}
+use Rattle.std.specs.List.{AllPairs, slice_index_or}
+use Rattle.std.proofs.Common.{w64, FitsSigned, ap, sym, ◌∙◌, arith}
+use Rattle.std.proofs.lemmas.Int.{ints, int_wrap_fits, int_wrap-add_left}
+use Rattle.std.proofs.lemmas.List.{get_or-map, length-map}
+use Rattle.stages.specs.Products.{wrapped_product, wrapped_product_assoc}
+use Rattle.stages.specs.Wrapping.{wrapped, wrapped-value, wrapped_sum}
+use Rattle.spliterator.specs.Values.{IsI64}
+use Rattle.pipeline_language.specs.declared.pipeline.NumberFunction.TheVariants.{Add, Mul, Negate, Mod, Itself}
+use Rattle.pipeline_language.specs.declared.pipeline.NumberStage.{NumberStage}
+use Rattle.pipeline_language.specs.declared.pipeline.NumberStage.TheVariants.{Map, Filter, Repeat, Distinct, Limit, Skip, TakeWhile, DropWhile}
+use Rattle.pipeline_meaning.proofs.Inverses.{inverse_step, squared}
+use Rattle.pipeline_meaning.specs.Stages.{number_stages}
+use Rattle.pipeline_meaning.specs.Functions.{number_image}
+
+-- Numbers of an i64 have images of an i64, and those that differ have images that differ.
+abbrev pub IsOneToOne : (ℤ → ℤ) → Type 0
+IsOneToOne f = ((x : ℤ) → IsI64 x → IsI64 (f x)) × ((x y : ℤ) → IsI64 x → IsI64 y → f x ≡ f y → x ≡ y)
+
+abbrev pub IsOneToOneMap : NumberStage → Type 0
+IsOneToOneMap (Map f) = IsOneToOne (number_image f)
+IsOneToOneMap _ = ⊥
+
+-- ---- lists
+
+-- the images of numbers that differ differ
+pub map-apart : (f : ℤ → ℤ) (l : List ℤ) → IsOneToOne f → All IsI64 l → AllPairs (λ c d. c ≢ d) l → AllPairs (λ c d. c ≢ d) (map f l)
+map-apart f l one values apart i j d before within same =
+    let later : j < length l = omega (arith, within, length-map l f) in
+    let earlier : i < length l = omega arith in
+    let first = get_or-map f l i d d earlier in
+    let second = get_or-map f l j d d later in
+    apart i j d before later (one.1 (slice_index_or l i d) (slice_index_or l j d) (values i d earlier) (values j d later) (sym first ∙ same ∙ second))
+
+map-values : (f : ℤ → ℤ) (l : List ℤ) → IsOneToOne f → All IsI64 l → All IsI64 (map f l)
+map-values f l one values k d within =
+    let there : k < length l = omega (arith, within, length-map l f) in
+    subst IsI64 (sym (get_or-map f l k d d there)) (one.0 (slice_index_or l k d) (values k d there))
+
+rest-one : (m : NumberStage) (maps : List NumberStage) → All IsOneToOneMap (m ∷ maps) → All IsOneToOneMap maps
+rest-one m maps all k d within = all (suc k) d (omega arith)
+
+-- numbers that differ, through maps that are one to one
+pub maps-apart : (maps : List NumberStage) (l : List ℤ) → All IsOneToOneMap maps → All IsI64 l → AllPairs (λ c d. c ≢ d) l → AllPairs (λ c d. c ≢ d) (number_stages maps l)
+maps-apart [] l all values apart = apart
+maps-apart (Map f ∷ maps) l all values apart =
+    let one : IsOneToOne (number_image f) = all 0 Distinct (omega arith) in
+    maps-apart maps (map (number_image f) l) (rest-one (Map f) maps all) (map-values (number_image f) l one values) (map-apart (number_image f) l one values apart)
+maps-apart (Filter p ∷ maps) l all values apart = absurd (all 0 Distinct (omega arith))
+maps-apart (Repeat n ∷ maps) l all values apart = absurd (all 0 Distinct (omega arith))
+maps-apart (Distinct ∷ maps) l all values apart = absurd (all 0 Distinct (omega arith))
+maps-apart (Limit n ∷ maps) l all values apart = absurd (all 0 Distinct (omega arith))
+maps-apart (Skip n ∷ maps) l all values apart = absurd (all 0 Distinct (omega arith))
+maps-apart (TakeWhile p ∷ maps) l all values apart = absurd (all 0 Distinct (omega arith))
+maps-apart (DropWhile p ∷ maps) l all values apart = absurd (all 0 Distinct (omega arith))
+
+-- ---- which functions are one to one
+
+wrapped-fits : (x : ℤ) → IsI64 x → wrapped x ≡ x
+wrapped-fits x value = int_wrap_fits w64 x (fits x value)
+  where
+    fits : (x : ℤ) → IsI64 x → FitsSigned w64 x
+    fits x value = record {sfits = omega (arith, ints)}
+
+pub itself-one_to_one : IsOneToOne (number_image Itself)
+itself-one_to_one = (λ x value. value, λ x y value_x value_y same. same)
+
+-- the summand is taken away again
+pub add-one_to_one : (n : ℤ) → IsOneToOne (number_image (Add n))
+add-one_to_one n = (λ x value. wrapped-value (x +ℤ n), λ x y value_x value_y same. sym (back x value_x) ∙ ap (λ z. wrapped_sum z (neg_ℤ n)) same ∙ back y value_y)
+  where
+    back : (x : ℤ) → IsI64 x → wrapped_sum (wrapped_sum x n) (neg_ℤ n) ≡ x
+    back x value =
+        let whole : (x +ℤ n) +ℤ neg_ℤ n ≡ x = omega (arith, ints) in
+        int_wrap-add_left w64 (x +ℤ n) (neg_ℤ n) ∙ ap wrapped whole ∙ wrapped-fits x value
+
+-- the negatives, each with the sum of both numbers
+pub negate-one_to_one : IsOneToOne (number_image Negate)
+negate-one_to_one = (
+      λ x value. wrapped-value (neg_ℤ x),
+      λ x y value_x value_y same. sym (other y x value_x) ∙ ap (λ z. wrapped_sum z (y +ℤ x)) (sym same) ∙ turned x y value_y,
+    )
+  where
+    other : (x y : ℤ) → IsI64 y → wrapped_sum (wrapped (neg_ℤ x)) (x +ℤ y) ≡ y
+    other x y value =
+        let whole : neg_ℤ x +ℤ (x +ℤ y) ≡ y = omega (arith, ints) in
+        int_wrap-add_left w64 (neg_ℤ x) (x +ℤ y) ∙ ap wrapped whole ∙ wrapped-fits y value
+
+    turned : (x y : ℤ) → IsI64 y → wrapped_sum (wrapped (neg_ℤ x)) (y +ℤ x) ≡ y
+    turned x y value =
+        let whole : neg_ℤ x +ℤ (y +ℤ x) ≡ y = omega (arith, ints) in
+        int_wrap-add_left w64 (neg_ℤ x) (y +ℤ x) ∙ ap wrapped whole ∙ wrapped-fits y value
+
+-- an odd number has an inverse
+inverse_of : (n : ℕ) → n % 2 ≡ 1 → n < 2 ^ 64 → (i : ℕ) × (n * i % 2 ^ 64 ≡ 1)
+inverse_of n odd word =
+    let last = approached 6 (omega arith) in
+    let i = last.0 in
+    let r = last.1 in
+    (i, let none : r ≡ 0 = omega (arith, last.2.1, last.2.2) in let one = last.2.0 in ap (λ r. (n * i + r) % 2 ^ 64) (sym none) ∙ one)
+  where
+    approached : (j : ℕ) → j < 7 → (i : ℕ) × (r : ℕ) × ((n * i + r) % 2 ^ 64 ≡ 1) × (r % 2 ^ 2 ^ j ≡ 0) × (r < 2 ^ 64)
+    approached j h = ?
