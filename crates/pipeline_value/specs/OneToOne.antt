@@ -1,7 +1,12 @@
 -- Maps that give different numbers for different ones.
-use Rattle.std.specs.Prelude.{◌≡◌, ◌≢◌, ◌<◌, ◌+◌, ◌*◌, ◌%◌, ◌^◌, ◌-◌, All, ℕ, zero, suc, ℤ, pos, negsuc, neg_ℤ, ◌+ℤ◌, ◌*ℤ◌, List, [], ◌∷◌, length, map, unsigned_abs, refl}
+use Rattle.std.specs.Prelude.{◌≡◌, ◌≢◌, ◌<◌, ◌+◌, ◌*◌, ◌%◌, ◌^◌, ◌-◌, All, ℕ, zero, suc, ℤ, pos, negsuc, neg_ℤ, ◌+ℤ◌, ◌*ℤ◌, List, [], ◌∷◌, length, map, unsigned_abs, refl, ◌≤◌}
 use Rattle.std.specs.List.{AllPairs, slice_index_or}
 use Rattle.std.proofs.Common.{w64, FitsSigned, ap, sym, ◌∙◌, arith}
+use Rattle.std.specs.Int.{cast_signed, int_wrap}
+use Rattle.std.proofs.Math.IntN.{*ℤ-one}
+use Rattle.std.proofs.Math.Nat.{mod-eq_of_lt, pow-suc}
+use Rattle.std.proofs.Math.Pow.{pow_mono}
+use Rattle.std.proofs.lemmas.Nat.{mod_below}
 use Rattle.std.proofs.lemmas.Int.{ints, int_wrap_fits, int_wrap-add_left}
 use Rattle.std.proofs.lemmas.List.{get_or-map, length-map}
 use Rattle.stages.specs.Products.{wrapped_product, wrapped_product_assoc}
@@ -93,12 +98,54 @@ negate-one_to_one = (
         int_wrap-add_left w64 (neg_ℤ x) (y +ℤ x) ∙ ap wrapped whole ∙ wrapped-fits y value
 
 -- an odd number has an inverse
-inverse_of : (n : ℕ) → n % 2 ≡ 1 → n < 2 ^ 64 → (i : ℕ) × (n * i % 2 ^ 64 ≡ 1)
-inverse_of n odd word =
-    let last = approached 6 (omega arith) in
+Approached : (n j : ℕ) → Type 0
+Approached n j = (i : ℕ) × (r : ℕ) × ((n * i + r) % 2 ^ 64 ≡ 1) × (r % 2 ^ 2 ^ j ≡ 0) × (r < 2 ^ 64)
+
+approached : (n j : ℕ) → n % 2 ≡ 1 → n < 2 ^ 64 → j ≤ 6 → Approached n j
+approached n zero odd word few = (1, (1 + (2 ^ 64 - n)) % 2 ^ 64, omega arith, omega arith, omega arith)
+approached n (suc j) odd word few =
+    let last = approached n j odd word (omega arith) in
     let i = last.0 in
     let r = last.1 in
-    (i, let none : r ≡ 0 = omega (arith, last.2.1, last.2.2) in let one = last.2.0 in ap (λ r. (n * i + r) % 2 ^ 64) (sym none) ∙ one)
+    let small : 2 ^ j ≤ 2 ^ 5 = pow_mono {i = j} {j = 5} (omega arith) in
+    let twice : 2 ^ j + 2 ^ j ≡ 2 ^ suc j = omega (arith, pow-suc 2 j) in
+    (
+      i * ((r + 1) % 2 ^ 64) % 2 ^ 64,
+      r * r % 2 ^ 64,
+      inverse_step (2 ^ 64) n i r last.2.0,
+      ap (λ e. r * r % 2 ^ 64 % 2 ^ e) (sym twice) ∙ squared (2 ^ j) r (omega (arith, small)) last.2.1,
+      mod_below (r * r) (2 ^ 64) (omega arith),
+    )
+
+inverse_of : (n : ℕ) → n % 2 ≡ 1 → n < 2 ^ 64 → (i : ℕ) × (n * i % 2 ^ 64 ≡ 1)
+inverse_of n odd word =
+    let last = approached n 6 odd word (omega arith) in
+    let i = last.0 in
+    let none : last.1 ≡ 0 = sym (mod-eq_of_lt last.2.2.1) ∙ last.2.2.0 in
+    let count : n * i ≡ n * i + last.1 = omega (arith, none) in
+    (i, ap (λ a. a % 2 ^ 64) count ∙ last.2.0)
+
+one-wrapped : (m : ℕ) → m % 2 ^ 64 ≡ 1 → wrapped (pos m) ≡ pos 1
+unfolding int_wrap
+one-wrapped m is = ap (λ a. cast_signed w64 a) is
+
+undoing : (n : ℤ) → unsigned_abs n % 2 ≡ 1 → IsI64 n → (j : ℤ) × (wrapped_product n j ≡ pos 1)
+undoing (pos m) odd value = let i = inverse_of m odd (omega (arith, ints)) in (pos i.0, one-wrapped (m * i.0) i.1)
+undoing (negsuc m) odd value = let i = inverse_of (suc m) odd (omega (arith, ints)) in below i.0 i.1
   where
-    approached : (j : ℕ) → j < 7 → (i : ℕ) × (r : ℕ) × ((n * i + r) % 2 ^ 64 ≡ 1) × (r % 2 ^ 2 ^ j ≡ 0) × (r < 2 ^ 64)
-    approached j h = ?
+    below : (i : ℕ) → suc m * i % 2 ^ 64 ≡ 1 → (j : ℤ) × (wrapped_product (negsuc m) j ≡ pos 1)
+    below zero is = absurd (omega (arith, is))
+    below (suc i) is = (negsuc i, one-wrapped (suc m * suc i) is)
+
+-- a product by an odd number is multiplied by the inverse
+pub mul-one_to_one : (n : ℤ) → unsigned_abs n % 2 ≡ 1 → IsI64 n → IsOneToOne (number_image (Mul n))
+mul-one_to_one n odd number =
+    let j = undoing n odd number in
+    (
+      λ x value. wrapped-value (x *ℤ n),
+      λ x y value_x value_y same. sym (back j.0 j.1 x value_x) ∙ ap (λ z. wrapped_product z j.0) same ∙ back j.0 j.1 y value_y,
+    )
+  where
+    back : (j : ℤ) → wrapped_product n j ≡ pos 1 → (x : ℤ) → IsI64 x → wrapped_product (wrapped_product x n) j ≡ x
+    back j one x value =
+        sym (wrapped_product_assoc x n j) ∙ ap (wrapped_product x) one ∙ ap wrapped (*ℤ-one x) ∙ wrapped-fits x value
