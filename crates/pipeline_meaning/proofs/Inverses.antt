@@ -8,7 +8,7 @@ use Rattle.std.proofs.Math.Nat.{mul_assoc, mul_comm, mul-mod_left, add-mod-mod, 
 use Rattle.std.proofs.Math.Pow.{mod-mod-pow}
 use Rattle.std.proofs.lemmas.Bool.{cases_lt}
 use Rattle.std.proofs.lemmas.Bool.Decides.{nat_tests}
-use Rattle.std.proofs.lemmas.Nat.{pow_pos, pow-add, mul-mod_first, mul-mod_second, mod-mul-add, div-mul-add, div-add-mod', mod-pow-add, le_or_r, le-div, mod_below, shl-shr}
+use Rattle.std.proofs.lemmas.Nat.{pow_pos, pow-add, mul-mod_first, mul-mod_second, mod-mul-add, div-add-mod', mod-pow-add, le_or_r, le-div, mod_below, shl-shr}
 use Rattle.std.proofs.lemmas.Nat.Bits.{bit_at-trailing_zeros}
 
 -- ---- an inverse by squaring: what is left to 1

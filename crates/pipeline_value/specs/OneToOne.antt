@@ -1,11 +1,12 @@
 -- Maps that give different numbers for different ones.
-use Rattle.std.specs.Prelude.{◌≡◌, ◌≢◌, ◌<◌, ◌+◌, ◌*◌, ◌%◌, ◌^◌, ◌-◌, All, ℕ, zero, suc, ℤ, pos, negsuc, neg_ℤ, ◌+ℤ◌, ◌*ℤ◌, List, [], ◌∷◌, length, map, unsigned_abs, refl, ◌≤◌}
+use Rattle.std.specs.Prelude.{◌≡◌, ◌≢◌, ◌<◌, ◌+◌, ◌*◌, ◌%◌, ◌^◌, ◌-◌, All, ℕ, zero, suc, ℤ, pos, negsuc, neg_ℤ, ◌+ℤ◌, ◌*ℤ◌, List, [], ◌∷◌, length, map, unsigned_abs, int_rem, false, nat_eq, refl, ◌≤◌}
 use Rattle.std.specs.List.{AllPairs, slice_index_or}
-use Rattle.std.proofs.Common.{w64, FitsSigned, ap, sym, ◌∙◌, arith}
+use Rattle.std.proofs.Common.{w64, FitsSigned, of_z, ap, sym, subst, ⊎_elim, true≢false, ◌∙◌, arith}
 use Rattle.std.specs.Int.{cast_signed, int_wrap}
-use Rattle.std.proofs.Math.IntN.{*ℤ-one}
+use Rattle.std.proofs.Math.IntN.{one, *ℤ-one}
 use Rattle.std.proofs.Math.Nat.{mod-eq_of_lt, pow-suc}
 use Rattle.std.proofs.Math.Pow.{pow_mono}
+use Rattle.std.proofs.lemmas.Bool.{cases_lt}
 use Rattle.std.proofs.lemmas.Nat.{mod_below}
 use Rattle.std.proofs.lemmas.Int.{ints, int_wrap_fits, int_wrap-add_left}
 use Rattle.std.proofs.lemmas.List.{get_or-map, length-map}
@@ -66,7 +67,8 @@ wrapped-fits : (x : ℤ) → IsI64 x → wrapped x ≡ x
 wrapped-fits x value = int_wrap_fits w64 x (fits x value)
   where
     fits : (x : ℤ) → IsI64 x → FitsSigned w64 x
-    fits x value = record {sfits = omega (arith, ints)}
+    fits (pos n) value = record {sfits = omega (arith, ints)}
+    fits (negsuc n) value = record {sfits = omega (arith, ints)}
 
 pub itself-one_to_one : IsOneToOne (number_image Itself)
 itself-one_to_one = (λ x value. value, λ x y value_x value_y same. same)
@@ -98,13 +100,13 @@ negate-one_to_one = (
         int_wrap-add_left w64 (neg_ℤ x) (y +ℤ x) ∙ ap wrapped whole ∙ wrapped-fits y value
 
 -- an odd number has an inverse
-Approached : (n j : ℕ) → Type 0
+abbrev Approached : (n j : ℕ) → Type 0
 Approached n j = (i : ℕ) × (r : ℕ) × ((n * i + r) % 2 ^ 64 ≡ 1) × (r % 2 ^ 2 ^ j ≡ 0) × (r < 2 ^ 64)
 
-approached : (n j : ℕ) → n % 2 ≡ 1 → n < 2 ^ 64 → j ≤ 6 → Approached n j
-approached n zero odd word few = (1, (1 + (2 ^ 64 - n)) % 2 ^ 64, omega arith, omega arith, omega arith)
-approached n (suc j) odd word few =
-    let last = approached n j odd word (omega arith) in
+approached : (n j : ℕ) → n % 2 ≡ 1 → j ≤ 6 → Approached n j
+approached n zero odd few = (1, (1 + (2 ^ 64 - n % 2 ^ 64)) % 2 ^ 64, omega arith, omega arith, omega arith)
+approached n (suc j) odd few =
+    let last = approached n j odd (omega arith) in
     let i = last.0 in
     let r = last.1 in
     let small : 2 ^ j ≤ 2 ^ 5 = pow_mono {i = j} {j = 5} (omega arith) in
@@ -112,35 +114,39 @@ approached n (suc j) odd word few =
     (
       i * ((r + 1) % 2 ^ 64) % 2 ^ 64,
       r * r % 2 ^ 64,
-      inverse_step (2 ^ 64) n i r last.2.0,
-      ap (λ e. r * r % 2 ^ 64 % 2 ^ e) (sym twice) ∙ squared (2 ^ j) r (omega (arith, small)) last.2.1,
+      inverse_step (2 ^ 64) n i r last.2,
+      ap (λ e. r * r % 2 ^ 64 % 2 ^ e) (sym twice) ∙ squared (2 ^ j) r (omega (arith, small)) last.3,
       mod_below (r * r) (2 ^ 64) (omega arith),
     )
 
-inverse_of : (n : ℕ) → n % 2 ≡ 1 → n < 2 ^ 64 → (i : ℕ) × (n * i % 2 ^ 64 ≡ 1)
-inverse_of n odd word =
-    let last = approached n 6 odd word (omega arith) in
+inverse_of : (n : ℕ) → n % 2 ≡ 1 → (i : ℕ) × (n * i % 2 ^ 64 ≡ 1)
+inverse_of n odd =
+    let last = approached n 6 odd (omega arith) in
     let i = last.0 in
-    let none : last.1 ≡ 0 = sym (mod-eq_of_lt last.2.2.1) ∙ last.2.2.0 in
+    let none : last.1 ≡ 0 = sym (mod-eq_of_lt last.4) ∙ last.3 in
     let count : n * i ≡ n * i + last.1 = omega (arith, none) in
-    (i, ap (λ a. a % 2 ^ 64) count ∙ last.2.0)
+    (i, ap (λ a. a % 2 ^ 64) count ∙ last.2)
 
 one-wrapped : (m : ℕ) → m % 2 ^ 64 ≡ 1 → wrapped (pos m) ≡ pos 1
 unfolding int_wrap
 one-wrapped m is = ap (λ a. cast_signed w64 a) is
 
-undoing : (n : ℤ) → unsigned_abs n % 2 ≡ 1 → IsI64 n → (j : ℤ) × (wrapped_product n j ≡ pos 1)
-undoing (pos m) odd value = let i = inverse_of m odd (omega (arith, ints)) in (pos i.0, one-wrapped (m * i.0) i.1)
-undoing (negsuc m) odd value = let i = inverse_of (suc m) odd (omega (arith, ints)) in below i.0 i.1
+undoing : (n : ℤ) → unsigned_abs n % 2 ≡ 1 → (j : ℤ) × (wrapped_product n j ≡ pos 1)
+undoing (pos m) odd = let i = inverse_of m odd in (pos i.0, one-wrapped (m * i.0) i.1)
+undoing (negsuc m) odd = let i = inverse_of (suc m) odd in below i.0 i.1
   where
     below : (i : ℕ) → suc m * i % 2 ^ 64 ≡ 1 → (j : ℤ) × (wrapped_product (negsuc m) j ≡ pos 1)
     below zero is = absurd (omega (arith, is))
     below (suc i) is = (negsuc i, one-wrapped (suc m * suc i) is)
 
+times-one : (x : ℤ) → x *ℤ pos 1 ≡ x
+unfolding one
+times-one x = *ℤ-one x
+
 -- a product by an odd number is multiplied by the inverse
-pub mul-one_to_one : (n : ℤ) → unsigned_abs n % 2 ≡ 1 → IsI64 n → IsOneToOne (number_image (Mul n))
-mul-one_to_one n odd number =
-    let j = undoing n odd number in
+pub mul-one_to_one : (n : ℤ) → unsigned_abs n % 2 ≡ 1 → IsOneToOne (number_image (Mul n))
+mul-one_to_one n odd =
+    let j = undoing n odd in
     (
       λ x value. wrapped-value (x *ℤ n),
       λ x y value_x value_y same. sym (back j.0 j.1 x value_x) ∙ ap (λ z. wrapped_product z j.0) same ∙ back j.0 j.1 y value_y,
@@ -148,4 +154,15 @@ mul-one_to_one n odd number =
   where
     back : (j : ℤ) → wrapped_product n j ≡ pos 1 → (x : ℤ) → IsI64 x → wrapped_product (wrapped_product x n) j ≡ x
     back j one x value =
-        sym (wrapped_product_assoc x n j) ∙ ap (wrapped_product x) one ∙ ap wrapped (*ℤ-one x) ∙ wrapped-fits x value
+        sym (wrapped_product_assoc x n j) ∙ ap (wrapped_product x) one ∙ ap wrapped (times-one x) ∙ wrapped-fits x value
+
+even-rest : (n : ℤ) → unsigned_abs n % 2 ≡ 0 → int_rem n (pos 2) ≡ pos 0
+even-rest (pos m) even = ap pos even
+even-rest (negsuc m) even = ap (λ r. neg_ℤ (pos r)) even
+
+-- a number is odd where the remainder with its sign isn't 0
+pub odd_from : (n : ℤ) → nat_eq (of_z w64 (int_rem n (pos 2))) 0 ≡ false → unsigned_abs n % 2 ≡ 1
+odd_from n is = ⊎_elim
+    (λ (z : unsigned_abs n % 2 < 1). absurd (true≢false (sym (ap (λ r. nat_eq (of_z w64 r) 0) (even-rest n (omega arith))) ∙ is)))
+    (λ some. omega arith)
+    (cases_lt (unsigned_abs n % 2) 1)

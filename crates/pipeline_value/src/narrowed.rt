@@ -56,7 +56,9 @@ fn is_one_to_one(stage: &NumberStage) -> bool
 {
     match stage {
         NumberStage::Map(function) => match function {
-            NumberFunction::Add(_) | NumberFunction::Negate | NumberFunction::Itself => true,
+            NumberFunction::Itself => true,
+            NumberFunction::Add(_) => true,
+            NumberFunction::Negate => true,
             NumberFunction::Mul(factor) => *factor % 2 != 0,
             NumberFunction::Mod(_) => false,
         },

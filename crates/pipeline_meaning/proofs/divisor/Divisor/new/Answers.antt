@@ -1,4 +1,4 @@
-use Rattle.std.proofs.Common.{arith, rules, ◌≡◌, ◌<◌, ◌^◌}
+use Rattle.std.proofs.Common.{rules}
 use Rattle.pipeline_meaning.proofs.Inverses.{twos}
 use Rattle.pipeline_meaning.proofs.divisor.Divisor.new.Goals as goal
 
