@@ -67,8 +67,8 @@ wrapped-fits : (x : ℤ) → IsI64 x → wrapped x ≡ x
 wrapped-fits x value = int_wrap_fits w64 x (fits x value)
   where
     fits : (x : ℤ) → IsI64 x → FitsSigned w64 x
-    fits (pos n) value = record {sfits = omega (arith, ints)}
-    fits (negsuc n) value = record {sfits = omega (arith, ints)}
+    fits (pos n) value = record { sfits = omega (arith, ints) }
+    fits (negsuc n) value = record { sfits = omega (arith, ints) }
 
 pub itself-one_to_one : IsOneToOne (number_image Itself)
 itself-one_to_one = (λ x value. value, λ x y value_x value_y same. same)
@@ -85,9 +85,9 @@ add-one_to_one n = (λ x value. wrapped-value (x +ℤ n), λ x y value_x value_y
 -- the negatives, each with the sum of both numbers
 pub negate-one_to_one : IsOneToOne (number_image Negate)
 negate-one_to_one = (
-      λ x value. wrapped-value (neg_ℤ x),
-      λ x y value_x value_y same. sym (other y x value_x) ∙ ap (λ z. wrapped_sum z (y +ℤ x)) (sym same) ∙ turned x y value_y,
-    )
+  λ x value. wrapped-value (neg_ℤ x),
+  λ x y value_x value_y same. sym (other y x value_x) ∙ ap (λ z. wrapped_sum z (y +ℤ x)) (sym same) ∙ turned x y value_y,
+)
   where
     other : (x y : ℤ) → IsI64 y → wrapped_sum (wrapped (neg_ℤ x)) (x +ℤ y) ≡ y
     other x y value =
@@ -110,8 +110,7 @@ approached n (suc j) odd few =
     let i = last.0 in
     let r = last.1 in
     let small : 2 ^ j ≤ 2 ^ 5 = pow_mono {i = j} {j = 5} (omega arith) in
-    let twice : 2 ^ j + 2 ^ j ≡ 2 ^ suc j = omega (arith, pow-suc 2 j) in
-    (
+    let twice : 2 ^ j + 2 ^ j ≡ 2 ^ suc j = omega (arith, pow-suc 2 j) in (
       i * ((r + 1) % 2 ^ 64) % 2 ^ 64,
       r * r % 2 ^ 64,
       inverse_step (2 ^ 64) n i r last.2,
@@ -146,8 +145,7 @@ times-one x = *ℤ-one x
 -- a product by an odd number is multiplied by the inverse
 pub mul-one_to_one : (n : ℤ) → unsigned_abs n % 2 ≡ 1 → IsOneToOne (number_image (Mul n))
 mul-one_to_one n odd =
-    let j = undoing n odd in
-    (
+    let j = undoing n odd in (
       λ x value. wrapped-value (x *ℤ n),
       λ x y value_x value_y same. sym (back j.0 j.1 x value_x) ∙ ap (λ z. wrapped_product z j.0) same ∙ back j.0 j.1 y value_y,
     )

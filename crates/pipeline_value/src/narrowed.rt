@@ -2,6 +2,7 @@
 
 ghost use Rattle.std.specs.Prelude.{◌≡◌, All, IfSome, true};
 ghost use Rattle.std.specs.Bool.{OnTrue};
+ghost use Rattle.spliterator.specs.Values.{IsI64};
 ghost use Rattle.pipeline_meaning.specs.Stages.{is_number_map, number_stage, number_stages};
 ghost use Rattle.pipeline_value.specs.Narrowing.{passes_maps, distinct-range};
 ghost use Rattle.pipeline_value.specs.OneToOne.{IsOneToOneMap};
@@ -69,6 +70,7 @@ fn is_one_to_one(stage: &NumberStage) -> bool
 /// What a stage leaves of a range, where that is a range and the maps before the stage make no difference.
 fn part_of(range: RangeSplit, stage: &NumberStage, one_to_one: bool) -> Option<RangeSplit>
     ensures part { IfSome result (λ part. ⟦<RangeSplit as Spliterator>⟧.items part ≡ number_stage stage.now (⟦<RangeSplit as Spliterator>⟧.items range)) }
+    ensures numbers { IfSome result (λ _. All IsI64 (⟦<RangeSplit as Spliterator>⟧.items range)) }
     ensures passes { IfSome result (λ _. passes_maps one_to_one stage.now ≡ true) }
 {
     match *stage {

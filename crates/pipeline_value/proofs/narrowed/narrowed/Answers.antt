@@ -1,10 +1,10 @@
-use Rattle.std.proofs.Common.{rules, ◌≡◌, ◌<◌, length, true, ap, sym, ◌∙◌, arith}
+use Rattle.std.proofs.Common.{◌≡◌, ◌<◌, length, true, ap, subst, sym, ◌∙◌, arith}
 use Rattle.std.specs.List.{slice_index_or}
 use Rattle.std.specs.Bool.{OnTrue}
 use Rattle.std.specs.Prelude.{remove}
 use Rattle.sources.specs.Integers.{integers}
 use Rattle.pipeline_meaning.specs.Stages.{is_number_map, number_stage, number_stages}
-use Rattle.pipeline_value.specs.Narrowing.{passes_maps, maps-more, maps-kept, one_to_one-more, one_to_one-kept, done-first, fits-kept, range-values}
+use Rattle.pipeline_value.specs.Narrowing.{passes_maps, maps-more, maps-kept, one_to_one-more, one_to_one-kept, done-first, fits-kept}
 use Rattle.pipeline_value.specs.OneToOne.{IsOneToOneMap}
 use Rattle.pipeline_value.specs.Ranges.{NumberStageFits}
 use Rattle.pipeline_value.proofs.narrowed.narrowed.Goals.{then-is_map, else-is_map+in-Some}
@@ -19,10 +19,13 @@ loop-round-preserved c =
     elim c.if-is_map.branch [
       | then-is_map w ↦
           let passes : is_number_map (slice_index_or stages maps d) ≡ true = ap is_number_map (sym c.index.ensures) ∙ sym c.is_map.ensures ∙ w.if-is_map.true in
-          let one : OnTrue w.is_one_to_one.result (IsOneToOneMap (slice_index_or stages maps d)) = ? in
+          let e = w.index-then-is_map.result.now in
+          let at : e ≡ slice_index_or stages maps e = w.index-then-is_map.ensures in
+          let more = w.is_one_to_one-one_to_one.result in
+          let one : OnTrue more (IsOneToOneMap (slice_index_or stages maps e)) = subst (λ s. OnTrue more (IsOneToOneMap s)) at w.is_one_to_one-one_to_one.ensures in
           rw (w.maps-is, w.one_to_one-is, w.stages-is, w.range-is) (
             maps-more stages maps d within c.loop-round.invariant.0 passes,
-            one_to_one-more c.loop-round.one_to_one w.is_one_to_one.result stages maps d within c.loop-round.invariant.1 one,
+            one_to_one-more c.loop-round.one_to_one more stages maps e within c.loop-round.invariant.1 one,
             c.loop-round.invariant.2,
             c.loop-round.invariant.3,
           )
@@ -38,7 +41,7 @@ loop-round-preserved c =
             one_to_one-kept one_to_one stages maps within c.loop-round.invariant.1,
             ap (number_stages (remove stages maps)) (made.part ∙ ap (λ s. number_stage s items) at)
                 ∙ done-first one_to_one stages maps e range.next range.left within c.loop-round.invariant.0 c.loop-round.invariant.1
-                (range-values range.next range.left (search rules) range.within_type) (ap (passes_maps one_to_one) (sym at) ∙ made.passes)
+                made.numbers (ap (passes_maps one_to_one) (sym at) ∙ made.passes)
                 ∙ c.loop-round.invariant.2,
             fits-kept NumberStageFits stages maps c.loop-round.invariant.3,
           )
