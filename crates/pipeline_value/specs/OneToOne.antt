@@ -1,5 +1,5 @@
 -- Maps that give different numbers for different ones.
-use Rattle.std.specs.Prelude.{◌≡◌, ◌≢◌, ◌<◌, ◌+◌, ◌*◌, ◌%◌, ◌^◌, ◌-◌, All, ℕ, zero, suc, ℤ, pos, negsuc, neg_ℤ, ◌+ℤ◌, ◌*ℤ◌, List, [], ◌∷◌, length, map, unsigned_abs, int_rem, false, nat_eq, refl, ◌≤◌}
+use Rattle.std.specs.Prelude.{◌≡◌, ◌≢◌, ◌<◌, ◌+◌, ◌*◌, ◌%◌, ◌^◌, ◌-◌, All, ℕ, zero, suc, ℤ, pos, negsuc, neg_ℤ, ◌+ℤ◌, ◌*ℤ◌, List, [], ◌∷◌, length, map, unsigned_abs, int_rem, false, nat_eq, ◌≤◌}
 use Rattle.std.specs.List.{AllPairs, slice_index_or}
 use Rattle.std.proofs.Common.{w64, FitsSigned, of_z, ap, sym, subst, ⊎_elim, true≢false, ◌∙◌, arith}
 use Rattle.std.specs.Int.{cast_signed, int_wrap}
@@ -13,7 +13,7 @@ use Rattle.std.proofs.lemmas.List.{get_or-map, length-map}
 use Rattle.stages.specs.Products.{wrapped_product, wrapped_product_assoc}
 use Rattle.stages.specs.Wrapping.{wrapped, wrapped-value, wrapped_sum}
 use Rattle.spliterator.specs.Values.{IsI64}
-use Rattle.pipeline_language.specs.declared.pipeline.NumberFunction.TheVariants.{Add, Mul, Negate, Mod, Itself}
+use Rattle.pipeline_language.specs.declared.pipeline.NumberFunction.TheVariants.{Add, Mul, Negate, Itself}
 use Rattle.pipeline_language.specs.declared.pipeline.NumberStage.{NumberStage}
 use Rattle.pipeline_language.specs.declared.pipeline.NumberStage.TheVariants.{Map, Filter, Repeat, Distinct, Limit, Skip, TakeWhile, DropWhile}
 use Rattle.pipeline_meaning.proofs.Inverses.{inverse_step, squared}

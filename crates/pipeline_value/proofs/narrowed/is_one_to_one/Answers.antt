@@ -1,4 +1,4 @@
-use Rattle.std.proofs.Common.{rules, ◌≡◌, false, true, not, of_z, to_z, pos, nat_eq, int_rem, subst, sym, ap, ◌∙◌, w64}
+use Rattle.std.proofs.Common.{rules, ◌≡◌, false, of_z, to_z, pos, nat_eq, int_rem, subst, sym, ap, ◌∙◌, w64}
 use Rattle.std.proofs.lemmas.Bool.{OnTrue_from, not-true}
 use Rattle.pipeline_value.specs.OneToOne.{IsOneToOneMap, add-one_to_one, negate-one_to_one, mul-one_to_one, odd_from}
 use Rattle.pipeline_value.proofs.narrowed.is_one_to_one.Goals as goal
