@@ -1,5 +1,6 @@
 pub mod Blocks
 pub mod Copies
+pub mod Inverses
 pub mod NumberFronts
 pub mod Quotients
 pub mod Separated

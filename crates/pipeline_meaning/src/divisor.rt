@@ -1,17 +1,23 @@
 //! Remainders by a divisor that is prepared once.
-ghost use Rattle.std.specs.Prelude.{◌≡◌, ◌≤◌, ◌<◌, ◌^◌, ◌-◌, ◌/◌, ◌%◌, pos};
+ghost use Rattle.std.specs.Prelude.{◌≡◌, ◌≤◌, ◌<◌, ◌^◌, ◌-◌, ◌*◌, ◌/◌, ◌%◌, pos};
 ghost use Rattle.std.specs.Int.{int_rem_euclid};
 ghost use Rattle.std.specs.Ordering.{int_eq};
 ghost use Rattle.pipeline_meaning.specs.Functions.{divisor};
 
-/// A divisor from 1 to 2^63 - 1, with what spares each remainder a division.
+/// A divisor from 1 to 2^63 - 1, with what spares each remainder and each test a division: how often it goes into 2^64 - 1, how many twos
+/// it has, and the inverse of the odd number that is left without them.
 #[derive(Clone, Copy, Debug)]
 pub struct Divisor {
     pub number: u64,
     reciprocal: u64,
+    twos: u32,
+    inverse: u64,
     ghost least: { 1 ≤ number },
     ghost most: { number < 2 ^ 63 },
     ghost reciprocal_is: { reciprocal ≡ (2 ^ 64 - 1) / number },
+    ghost twos_most: { twos < 64 },
+    ghost twos_divide: { number / 2 ^ twos * 2 ^ twos ≡ number },
+    ghost inverse_is: { number / 2 ^ twos * inverse % 2 ^ 64 ≡ 1 },
 }
 
 impl Divisor {
@@ -20,9 +26,12 @@ impl Divisor {
         ensures { pos result.number ≡ divisor number }
     {
         let number = number.max(1).unsigned_abs();
+        let twos = number.trailing_zeros();
         Divisor {
             number,
             reciprocal: u64::MAX / number,
+            twos,
+            inverse: inverse(number >> twos),
         }
     }
 
@@ -44,7 +53,9 @@ impl Divisor {
     pub fn divides(&self, x: i64) -> bool
         ensures { result ≡ int_eq (int_rem_euclid x (pos self.now.number)) (pos 0) }
     {
-        self.rest(x.unsigned_abs()) == 0
+        // Of a multiple this is the quotient. Any other number gives more than the greatest quotient.
+        let product = x.unsigned_abs().wrapping_mul(self.inverse);
+        product.rotate_right(self.twos) <= self.reciprocal
     }
 
     // The reciprocal gives the quotient, or one less.
@@ -60,4 +71,19 @@ impl Divisor {
             rest - self.number
         }
     }
+}
+
+/// The inverse of an odd number modulo 2^64.
+fn inverse(odd: u64) -> u64
+    requires { odd % 2 ≡ 1 }
+    ensures { odd * result % 2 ^ 64 ≡ 1 }
+{
+    // 1 / (1 - r) is (1 + r)(1 + r^2)(1 + r^4) .. (1 + r^32): r is even, so r^64 is 0.
+    let mut inverse = 1u64;
+    let mut rest = 1u64.wrapping_sub(odd);
+    for _step in 0..6u32 {
+        inverse = inverse.wrapping_mul(rest.wrapping_add(1));
+        rest = rest.wrapping_mul(rest);
+    }
+    inverse
 }

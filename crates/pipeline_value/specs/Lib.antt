@@ -6,6 +6,7 @@ pub mod Folds
 pub mod Fronts
 pub mod KnownSizes
 pub mod NumberContents
+pub mod OneToOne
 pub mod Ranges
 pub mod TextContents
 pub mod Value

@@ -48,7 +48,7 @@ fn numbers_are_mapped(rt: HostRuntime) -> Result<(), Fail> {
 /// The number, the divisor, and the least remainder that isn't negative. A divisor below 1 counts as 1.
 #[test]
 fn prepared_divisors_divide(rt: HostRuntime) -> Result<(), Fail> {
-    let rows: [(i64, i64, i64); 26] = [
+    let rows: [(i64, i64, i64); 29] = [
         (0, 7, 0),
         (6, 7, 6),
         (7, 7, 0),
@@ -75,6 +75,9 @@ fn prepared_divisors_divide(rt: HostRuntime) -> Result<(), Fail> {
         (i64::MIN, 2, 0),
         (-1, 1 << 62, 4611686018427387903),
         (-1, i64::MAX, i64::MAX - 1),
+        (36, 12, 0),
+        (18, 12, 6),
+        (-20, 12, 4),
     ];
     for (x, number, rest) in rows {
         let divisor = Divisor::new(number);

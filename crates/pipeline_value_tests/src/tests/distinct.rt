@@ -4,7 +4,7 @@ use super::answers::all_told;
 use std::test::Fail;
 
 // At target 1 each item is a leaf's, at the default a leaf has several: with one worker 25 of these hundred.
-const RANGES: [(&str, &str); 6] = [
+const RANGES: [(&str, &str); 10] = [
     (
         "range 0 100\nmap mod 7\ndistinct\ntolist",
         "[0, 1, 2, 3, 4, 5, 6]",
@@ -19,6 +19,19 @@ const RANGES: [(&str, &str); 6] = [
     (
         "range 1 101\nmap mod 7\ndistinct\nflatmap repeat 2\nskip 1\nmap mod 3\ndistinct\ntolist",
         "[1, 2, 0]",
+    ),
+    ("range 0 5\nmap mul 3\ndistinct\ntolist", "[0, 3, 6, 9, 12]"),
+    (
+        "range 0 6\nmap mul 4611686018427387904\ndistinct\ntolist",
+        "[0, 4611686018427387904, -9223372036854775808, -4611686018427387904]",
+    ),
+    (
+        "range -2 3\nmap negate\nmap add 9223372036854775807\ndistinct\nskip 1\ntolist",
+        "[-9223372036854775808, 9223372036854775807, 9223372036854775806, 9223372036854775805]",
+    ),
+    (
+        "range 0 10\nmap mul 3\nmap mod 4\ndistinct\ntolist",
+        "[0, 3, 2, 1]",
     ),
 ];
 
