@@ -12,6 +12,7 @@ line tells how many were refused, and of how many; where all are tried, so many 
 import argparse
 import pathlib
 import subprocess
+import sys
 
 from built import conclude
 from refusing import MEMORY, THREAD, Refusing
@@ -47,6 +48,8 @@ def all_findings(crates, most):
     refusing = Refusing()
     for crate in crates:
         program = CRATES / f"{crate}_tests" / "out" / f"{crate}_tests_tests"
+        if not program.exists():
+            sys.exit(f"{program.relative_to(CRATES.parent)} is missing: `rt ci` leaves it, and `rt test` in crates/{crate}_tests builds it")
         listed = subprocess.run([program, "--list"], capture_output=True, text=True, check=True).stdout
         for test in [line.removesuffix(": test") for line in listed.splitlines() if line.endswith(": test")]:
             yield from findings(crate, program, test, refusing, most)
