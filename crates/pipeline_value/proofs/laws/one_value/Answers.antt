@@ -1,5 +1,5 @@
 use Rattle.pipeline_value.specs.ContentLaws.{told_by_content, one_value}
-use Rattle.pipeline_value.proofs.one_value.one_value.Goals as goal
+use Rattle.pipeline_value.proofs.laws.one_value.Goals as goal
 
 pub returns-clause-by_content : goal.returns-clause-by_content
 returns-clause-by_content c = told_by_content
