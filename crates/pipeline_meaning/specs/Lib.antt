@@ -1,4 +1,5 @@
 pub mod Adapting
+pub mod AtMostOne
 pub mod Functions
 pub mod NumberSteps
 pub mod Prepared

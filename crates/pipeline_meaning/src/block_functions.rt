@@ -1,5 +1,5 @@
 //! The functions and tests of steps over a block, each a type of its own: which one it is is asked once a block.
-ghost use Rattle.std.specs.Prelude.{◌≡◌, OnOk, [], ◌∷◌, ◌+ℤ◌, ◌*ℤ◌, cond, flat_map, int_lt, neg_ℤ, pos};
+ghost use Rattle.std.specs.Prelude.{◌≡◌, OnOk, [], ◌∷◌, ◌+ℤ◌, ◌*ℤ◌, cond, flat_map, int_lt, neg_ℤ, not, pos};
 ghost use Rattle.std.specs.Int.{int_rem_euclid};
 ghost use Rattle.std.specs.Ordering.{int_eq};
 ghost use Rattle.stages.specs.Products.{wrapped_product};
@@ -132,6 +132,22 @@ impl Test<i64> for Multiple {
     }
 }
 
+/// The contrary of a test.
+#[derive(Clone, Copy, Debug)]
+struct Fails<P> {
+    test: P,
+}
+
+impl<P: Test<i64>> Test<i64> for Fails<P> {
+    ghost ready = { λ t. P.ready t.test };
+
+    ghost holds = { λ t x. not (P.holds t.test x) };
+
+    fn holds(&self, x: &i64) -> bool {
+        !self.test.holds(x)
+    }
+}
+
 /// Puts each number's image in its place.
 pub(crate) fn map_block(mapping: NumberMapping, items: &mut Vec<i64>) -> Result<(), NoMemory>
     ensures { OnOk result (items.new.items ≡ flat_map (λ x. mapping_image mapping x ∷ []) items.old.items) }
@@ -157,6 +173,27 @@ pub(crate) fn filter_block(check: NumberCheck, items: &mut Vec<i64>)
             NumberComparison::Less(bound) => keep_all(Below { bound }, items),
             NumberComparison::Greater(bound) => keep_all(Above { bound }, items),
             NumberComparison::Equals(number) => keep_all(Equal { number }, items),
+        },
+    }
+}
+
+fn keep_failing<P: Test<i64> + Copy>(test: P, items: &mut Vec<i64>)
+    requires { P.ready test }
+    ensures { items.new.items ≡ flat_map (λ x. cond (not (P.holds test x)) (x ∷ []) []) items.old.items }
+{
+    keep_all(Fails { test }, items);
+}
+
+/// Leaves the numbers that fail a test.
+pub(crate) fn drop_block(check: NumberCheck, items: &mut Vec<i64>)
+    ensures { items.new.items ≡ flat_map (λ x. cond (not (check_holds check x)) (x ∷ []) []) items.old.items }
+{
+    match check {
+        NumberCheck::Divisible(divisor) => keep_failing(Multiple { divisor }, items),
+        NumberCheck::Comparison(comparison) => match comparison {
+            NumberComparison::Less(bound) => keep_failing(Below { bound }, items),
+            NumberComparison::Greater(bound) => keep_failing(Above { bound }, items),
+            NumberComparison::Equals(number) => keep_failing(Equal { number }, items),
         },
     }
 }

@@ -2,8 +2,10 @@
 #![tactic(auto)]
 
 mod adapted;
+mod at_most_one;
 mod block_functions;
 mod divisor;
+mod failing;
 mod functions;
 mod number_bases;
 mod number_blocks;
@@ -20,7 +22,9 @@ mod text_summaries;
 mod written;
 
 pub use adapted::{Adapted, Adapting};
+pub use at_most_one::AtMostOne;
 pub use divisor::Divisor;
+pub use failing::Failing;
 pub use functions::{
     Itself, NumberChange, NumberCheck, NumberComparison, NumberMapping, NumberMerging, TextCheck,
     TextLength, TextMerging,

@@ -83,8 +83,8 @@ impl NumberSteps {
         Ok((front, stages.len()))
     }
 
-    // Puts a stage behind the others. Says whether it did: it doesn't put a stage that looks at more than one item.
-    fn put(&mut self, stage: &NumberStage) -> Result<bool, NoMemory>
+    /// Puts a stage behind the others. Says whether it did: it doesn't put a stage that looks at more than one item.
+    pub fn put(&mut self, stage: &NumberStage) -> Result<bool, NoMemory>
         ensures { IfOk result (λ is_put. MatchBool is_put (Follows stage.now self.old self.new) (IsTrue (is_number_barrier stage.now) × (self.new ≡ self.old))) }
     {
         match *stage {
@@ -106,7 +106,7 @@ impl NumberSteps {
         Ok(true)
     }
 
-    fn has_no_repeats(&self) -> bool
+    pub(crate) fn has_no_repeats(&self) -> bool
         ensures { result ≡ is_none self.now.repeats.items }
     {
         matches!(self.repeats.as_slice(), [])

@@ -6,7 +6,7 @@ ghost use Rattle.std.specs.Cmp.Lexicographic.{slice_cmp};
 ghost use Rattle.std.proofs.Math.ListN.{replicate};
 ghost use Rattle.file_words.specs.Words.{words_of};
 ghost use Rattle.pipeline_meaning.specs.Rows.{row_of, size_of};
-ghost use Rattle.pipeline_meaning.specs.TextSteps.{text_images, text_step_images, walked_images, IsFewer, words_left, letters_left, is_map_step, only_maps, KeepsSound-text_steps};
+ghost use Rattle.pipeline_meaning.specs.TextSteps.{text_images, text_step_images, walked_images, IsFewer, words_left, letters_left, is_map_step, is_single_step, only_maps, KeepsSound-text_steps};
 ghost use Rattle.pipeline_meaning.specs.Stages.{text_stage, text_stages, is_text_barrier, is_text_map};
 ghost use Rattle.pipeline_meaning.specs.WalkLaws.{IsStep};
 
@@ -48,6 +48,13 @@ impl<'a> TextStep<'a> {
     {
         matches!(self, TextStep::Itself)
     }
+
+    // Whether no text has more than one image.
+    fn is_single(&self) -> bool
+        ensures { result ≡ is_single_step self.now }
+    {
+        matches!(self, TextStep::Itself | TextStep::Filter(_))
+    }
 }
 
 /// Stages over texts up to the first that looks at more than one item, as one stage: a text walks through them.
@@ -75,6 +82,13 @@ impl<'a> TextSteps<'a> {
             }
         }
         Ok((TextSteps { steps }, stages.len()))
+    }
+
+    // Whether no text has more than one image.
+    pub(crate) fn is_single(&self) -> bool
+        ensures { result ≡ list_all is_single_step self.now.steps.items }
+    {
+        self.steps.iter().all(|step| step.is_single())
     }
 
     // Whether each text has one image.

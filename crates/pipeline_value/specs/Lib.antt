@@ -7,6 +7,7 @@ pub mod Fronts
 pub mod KnownSizes
 pub mod NumberContents
 pub mod OneToOne
+pub mod Places
 pub mod Ranges
 pub mod TextContents
 pub mod Value

@@ -14,7 +14,7 @@ use barriers::{Demand, FirstHit, TakeWhile};
 use parallel_streams::Run;
 use pipeline_language::{NumberBody, NumberStage, NumberTerminal, NumberTest};
 use pipeline_meaning::{NumberCheck, SeededHashes};
-use sources::RangeSplit;
+use sources::{RangeSplit, Windowed};
 use spliterator::Spliterator;
 use std::alloc::Global;
 use std::thread::Threads;

@@ -17,6 +17,8 @@ mod number_groups;
 mod number_maps;
 mod number_parts;
 mod numbers;
+mod places;
+mod settled;
 mod text_end;
 mod text_groups;
 mod text_maps;

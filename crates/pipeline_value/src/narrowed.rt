@@ -9,7 +9,7 @@ ghost use Rattle.pipeline_value.specs.OneToOne.{IsOneToOneMap};
 ghost use Rattle.pipeline_value.specs.Ranges.{NumberStageFits};
 
 use pipeline_language::{NumberFunction, NumberStage};
-use sources::RangeSplit;
+use sources::{RangeSplit, Windowed};
 use spliterator::Spliterator;
 
 /// Takes the limits and the skips that stand behind maps alone off the stages, and narrows the range by them. A `distinct` goes too, where

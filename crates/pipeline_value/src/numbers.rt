@@ -8,14 +8,15 @@ ghost use Rattle.pipeline_value.specs.Value.{Tells, number_told, number_body_tol
 
 use crate::gather::{gather, gather_distinct};
 use crate::number_end::number_end;
+use crate::settled::settle;
 use crate::told::ValueError;
 use barriers::{DropWhile, Limit, Skip, TakeWhile};
 use parallel_streams::{Run, Stream, of};
 use pipeline_language::{NumberBody, NumberStage, NumberTerminal};
-use pipeline_meaning::{NumberCheck, NumberSteps, SeededHashes};
-use sources::{RangeSplit, SliceSplit};
+use pipeline_meaning::{AtMostOne, NumberCheck, NumberSteps, SeededHashes};
+use sources::{RangeSplit, SliceSplit, Windowed};
 use spliterator::{NoMemory, Spliterator};
-use stages::{Stage, Then};
+use stages::{Nothing, Stage, Then};
 use std::alloc::Global;
 use std::thread::Threads;
 use stealing_pool::Gate;
@@ -32,9 +33,9 @@ pub(crate) fn number_value<R, S, A, H>(
 ) -> Result<String, ValueError>
 where
     R: Threads + Sync,
-    S: Spliterator + Drop + Send + Sync,
+    S: Windowed + Copy + Drop + Send + Sync,
     S::Item: Clone + Send + Sync,
-    A: Stage<In = S::Item, Out = i64> + Drop + Sync,
+    A: AtMostOne + Stage<In = S::Item, Out = i64> + Drop + Sync,
     H: Gate + Sync,
     requires settings { IsLawfulRun run.now.workers run.now.target }
     requires front { A.ready front }
@@ -42,19 +43,21 @@ where
     ensures { Tells (number_body_told body.now (flat_map (A.expand front) (S.items source))) result }
 {
     let stages = body.stages.as_slice();
-    let (steps, taken) = NumberSteps::front_of(alloc, stages)?;
-    let stage = Then::new(front, steps);
+    let settled = settle(rt, alloc, source, &front, stages, run)?;
+    let taken = settled.taken;
+    let stage = Then::new(front, settled.steps);
     if taken == stages.len() {
         return number_end(
             rt,
             alloc,
             hashes,
-            &of(source).then(stage),
+            &of(settled.source).then(stage),
             &body.terminal,
             run,
         );
     }
-    let items = through_barrier(rt, alloc, hashes, source, &stage, &stages[taken], run)?;
+    let barrier = &stages[taken];
+    let items = through_barrier(rt, alloc, hashes, settled.source, &stage, barrier, run)?;
     list_value(
         rt,
         alloc,
@@ -80,12 +83,22 @@ pub(crate) fn list_value<R: Threads + Sync, H: Gate + Sync>(
     requires fits { All NumberStageFits stages.now }
     ensures { Tells (number_told terminal.now (number_stages stages.now items.items)) result }
 {
-    let (steps, taken) = NumberSteps::front_of(alloc, stages)?;
     let source = SliceSplit::new(items.as_slice());
+    let settled = settle(rt, alloc, source, &Nothing::new(), stages, run)?;
+    let taken = settled.taken;
+    let steps = settled.steps;
     if taken == stages.len() {
-        return number_end(rt, alloc, hashes, &of(source).then(steps), terminal, run);
+        return number_end(
+            rt,
+            alloc,
+            hashes,
+            &of(settled.source).then(steps),
+            terminal,
+            run,
+        );
     }
-    let kept = through_barrier(rt, alloc, hashes, source, &steps, &stages[taken], run)?;
+    let barrier = &stages[taken];
+    let kept = through_barrier(rt, alloc, hashes, settled.source, &steps, barrier, run)?;
     drop(items);
     list_value(rt, alloc, hashes, kept, &stages[taken + 1..], terminal, run)
 }

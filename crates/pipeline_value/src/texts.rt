@@ -15,8 +15,8 @@ use crate::told::ValueError;
 use barriers::{DropWhile, Limit, Skip, TakeWhile};
 use parallel_streams::{Run, Stream, of};
 use pipeline_language::{NumberBody, TextEnd, TextStage};
-use pipeline_meaning::{SeededHashes, TextCheck, TextLength, TextSteps};
-use sources::SliceSplit;
+use pipeline_meaning::{AtMostOne, SeededHashes, TextCheck, TextLength, TextSteps};
+use sources::{SliceSplit, Windowed};
 use spliterator::{NoMemory, OrderedValue, Spliterator, Text};
 use stages::{Map, Stage, Then};
 use std::alloc::Global;
@@ -85,9 +85,9 @@ fn lengths_value<T, R, S, A, H>(
 where
     T: Text + OrderedValue + Drop + Send + Sync,
     R: Threads + Sync,
-    S: Spliterator + Drop + Send + Sync,
+    S: Windowed + Copy + Drop + Send + Sync,
     S::Item: Clone + Send + Sync,
-    A: Stage<In = S::Item, Out = T> + Drop + Sync,
+    A: AtMostOne + Stage<In = S::Item, Out = T> + Drop + Sync,
     H: Gate + Sync,
     requires settings { IsLawfulRun run.now.workers run.now.target }
     requires stage { A.ready stage }

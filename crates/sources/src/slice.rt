@@ -1,6 +1,7 @@
-ghost use Rattle.std.specs.Prelude.{◌≡◌, ⊤, length, map};
+ghost use Rattle.std.specs.Prelude.{◌≡◌, ⊤, length, map, min};
 ghost use Rattle.spliterator.specs.Clones.{ClonesAlike, TestsClonesAlike};
 
+use crate::Windowed;
 use crate::counted::{capped, told};
 use spliterator::{NoMemory, OrderedValue, Spliterator, Value};
 use std::alloc::AllocError;
@@ -35,6 +36,13 @@ impl<'a, T: OrderedValue + Clone> SliceSplit<'a, T> {
     {
         SliceSplit { items }
     }
+}
+
+/// The lesser of two numbers of items.
+fn within(number: u64, count: usize) -> usize
+    ensures { result ≡ min number count }
+{
+    (count as u64).min(number) as usize
 }
 
 impl<'a, T: OrderedValue + Clone> Spliterator for SliceSplit<'a, T> {
@@ -95,4 +103,20 @@ impl<'a, T: OrderedValue + Clone> Spliterator for SliceSplit<'a, T> {
     ghost size_law = { λ s. IsEstimate-counts (λ r. map T.content r.items.now) _ _ _ (CountsItems-by_count (λ r. map T.content r.items.now)) s };
 
     ghost flag_law = { λ s. IsSoundFor-by_count T.order (map T.content s.items.now) };
+}
+
+impl<'a, T: OrderedValue + Clone> Windowed for SliceSplit<'a, T> {
+    fn count(&self) -> u64 {
+        self.items.len() as u64
+    }
+
+    fn first(self, most: u64) -> SliceSplit<'a, T> {
+        let (part, _) = self.items.split_at(within(most, self.items.len()));
+        SliceSplit { items: part }
+    }
+
+    fn after_first(self, number: u64) -> SliceSplit<'a, T> {
+        let (_, part) = self.items.split_at(within(number, self.items.len()));
+        SliceSplit { items: part }
+    }
 }

@@ -1,0 +1,81 @@
+-- Stages that give no item more than one image.
+use Rattle.std.specs.Prelude.{◌≡◌, ◌≤◌, ◌+◌, ℕ, Bool, true, false, cond, ◌&&◌, List, [], ◌∷◌, ◌++◌, length, flat_map, refl}
+use Rattle.std.proofs.Common.{ap, sym, subst, ◌∙◌, arith, true≢false}
+use Rattle.std.proofs.lemmas.List.{length-append}
+use Rattle.std.specs.List.{list_all}
+use Rattle.stages.specs.Passing.{flat_map-one}
+use Rattle.pipeline_meaning.specs.Prepared.{check_holds}
+use Rattle.pipeline_meaning.specs.Walks.{images_after}
+use Rattle.pipeline_meaning.specs.NumberSteps.{number_step_images, steps_images, images_of, number_images, is_none}
+use Rattle.pipeline_meaning.specs.Functions.{text_holds}
+use Rattle.pipeline_meaning.specs.TextSteps.{is_single_step, text_images, text_step_images}
+use Rattle.pipeline_meaning.specs.declared.text_steps.TextStep.{TextStep}
+use Rattle.pipeline_meaning.specs.declared.text_steps.TextStep.TheVariants as texts
+use Rattle.pipeline_meaning.specs.declared.number_steps.NumberStep.{NumberStep}
+use Rattle.pipeline_meaning.specs.declared.number_steps.NumberStep.TheVariants.{Map, Filter}
+use Rattle.pipeline_meaning.specs.declared.number_steps.NumberSteps.{NumberSteps}
+
+-- no item has more than one image
+abbrev pub GivesAtMostOne : {A B : Type 0} → (A → List B) → Type 0
+GivesAtMostOne {A} images = (x : A) → length (images x) ≤ 1
+
+-- so a list's images are no more than its items
+pub images-few : {A B : Type 0} (images : A → List B) → GivesAtMostOne images → (l : List A) → length (flat_map images l) ≤ length l
+images-few images few [] = omega arith
+images-few images few (x ∷ l) = let e = length-append (images x) (flat_map images l) in omega (arith, e, few x, images-few images few l)
+
+pub one-few : {A B : Type 0} (f : A → B) → GivesAtMostOne (λ x. f x ∷ [])
+one-few f x = omega arith
+
+pub kept-few : {A : Type 0} (p : A → Bool) → GivesAtMostOne (λ x. cond (p x) (x ∷ []) [])
+kept-few {A} p x = choice (p x)
+  where
+    choice : (b : Bool) → length (cond b (x ∷ []) []) ≤ 1
+    choice true = omega arith
+    choice false = omega arith
+
+-- one stage behind another
+pub then-few : {A B C : Type 0} (first : A → List B) (second : B → List C) → GivesAtMostOne first → GivesAtMostOne second → GivesAtMostOne (λ x. flat_map second (first x))
+then-few first second few_first few_second x = let e = images-few second few_second (first x) in omega (arith, e, few_first x)
+
+-- steps of which each gives at most one
+pub after-few : {S A : Type 0} (images : S → A → List A) (is_few : S → Bool) → ((step : S) → is_few step ≡ true → GivesAtMostOne (images step))
+    → (steps : List S) → list_all is_few steps ≡ true → GivesAtMostOne (images_after images steps)
+after-few images is_few each [] all x = omega arith
+after-few images is_few each (step ∷ steps) all x =
+    then-few (images step) (images_after images steps) (each step (and-left (is_few step) (list_all is_few steps) all))
+    (after-few images is_few each steps (and-right (is_few step) (list_all is_few steps) all)) x
+  where
+    and-left : (a b : Bool) → (a && b) ≡ true → a ≡ true
+    and-left true b h = refl
+    and-left false b h = h
+
+    and-right : (a b : Bool) → (a && b) ≡ true → b ≡ true
+    and-right true b h = h
+    and-right false b h = absurd (true≢false (sym h))
+
+step-few : (step : NumberStep) → GivesAtMostOne (number_step_images step)
+step-few (Map f) x = omega arith
+step-few (Filter p) x = kept-few (check_holds p) x
+
+steps-few : (steps : List NumberStep) → GivesAtMostOne (steps_images steps)
+steps-few [] x = omega arith
+steps-few (step ∷ steps) x = then-few (number_step_images step) (steps_images steps) (step-few step) (steps-few steps) x
+
+-- without repeats
+pub number-few : (s : NumberSteps) → is_none s.repeats.items ≡ true → GivesAtMostOne (number_images s)
+number-few s none x = few s.repeats.items none
+  where
+    few : (repeats : List ℕ) → is_none repeats ≡ true → length (images_of s.steps.items repeats x) ≤ 1
+    few [] h = let e = ap length (flat_map-one (steps_images s.steps.items x)) in omega (arith, e, steps-few s.steps.items x)
+    few (n ∷ repeats) h = absurd (true≢false (sym h))
+
+text_step-few : (step : TextStep) → is_single_step step ≡ true → GivesAtMostOne (text_step_images step)
+text_step-few texts.Itself single x = omega arith
+text_step-few (texts.Filter check) single x = kept-few (text_holds check.test) x
+text_step-few (texts.Repeat n) single x = absurd (true≢false (sym single))
+text_step-few texts.Words single x = absurd (true≢false (sym single))
+
+-- without repeats and words
+pub text-few : (steps : List TextStep) → list_all is_single_step steps ≡ true → GivesAtMostOne (text_images steps)
+text-few steps single = after-few text_step_images is_single_step text_step-few steps single

@@ -1,0 +1,161 @@
+//! Places in a source at which so many images of its items have come.
+
+ghost use Rattle.std.specs.Prelude.{◌≡◌, ◌<◌, ◌≤◌, IfOk, Some, flat_map, length};
+ghost use Rattle.parallel_streams.specs.Runs.{IsLawfulRun};
+ghost use Rattle.pipeline_meaning.specs.AtMostOne.{GivesAtMostOne};
+ghost use Rattle.pipeline_value.specs.Places.{PlaceOrFewer};
+
+use parallel_streams::{Run, Stream, of};
+use sources::Windowed;
+use spliterator::NoMemory;
+use stages::Stage;
+use std::alloc::Global;
+use std::thread::Threads;
+use stealing_pool::Gate;
+
+/// The source items of the first part that is looked at; each further part is twice as long.
+const FIRST_PART: u64 = 1 << 12;
+
+/// One worker looks at a part of at most so many items, since threads take longer to start than they would save.
+const ALONE: u64 = 1 << 16;
+
+/// How many images the items of a part have.
+fn count_images<R, S, A, H>(
+    rt: &R,
+    alloc: Global,
+    part: S,
+    stage: &A,
+    run: &Run<'_, H>,
+) -> Result<u64, NoMemory>
+where
+    R: Threads + Sync,
+    S: Windowed + Drop + Send + Sync,
+    S::Item: Clone + Send + Sync,
+    A: Stage<In = S::Item> + Sync,
+    A::Out: Clone + Send + Sync,
+    H: Gate + Sync,
+    requires settings { IsLawfulRun run.now.workers run.now.target }
+    requires stage { A.ready stage.now }
+    requires few { GivesAtMostOne (A.expand stage.now) }
+    ensures { IfOk result (λ count. count ≡ length (flat_map (A.expand stage.now) (S.items part))) }
+{
+    let run = Run {
+        workers: if part.count() <= ALONE {
+            1
+        } else {
+            run.workers
+        },
+        target: run.target,
+        gate: run.gate,
+    };
+    match of(part).then(stage).count(rt, alloc, &run) {
+        Ok(count) => Ok(count.cast_unsigned()),
+        Err(_) => Err(NoMemory),
+    }
+}
+
+/// The place in a part at which so many images have come, of which there are as many.
+fn place_within<R, S, A, H>(
+    rt: &R,
+    alloc: Global,
+    part: S,
+    stage: &A,
+    wanted: u64,
+    run: &Run<'_, H>,
+) -> Result<u64, NoMemory>
+where
+    R: Threads + Sync,
+    S: Windowed + Copy + Drop + Send + Sync,
+    S::Item: Clone + Send + Sync,
+    A: Stage<In = S::Item> + Sync,
+    A::Out: Clone + Send + Sync,
+    H: Gate + Sync,
+    requires settings { IsLawfulRun run.now.workers run.now.target }
+    requires stage { A.ready stage.now }
+    requires few { GivesAtMostOne (A.expand stage.now) }
+    requires some { 1 ≤ wanted }
+    requires enough { wanted ≤ length (flat_map (A.expand stage.now) (S.items part)) }
+    ensures { IfOk result (λ place. PlaceOrFewer (A.expand stage.now) (S.items part) wanted (Some place)) }
+{
+    let half = part.count() / 2;
+    if half == 0 {
+        return Ok(0);
+    }
+    let front = part.first(half);
+    let count = count_images(rt, alloc, front, stage, run)?;
+    if wanted <= count {
+        return place_within(rt, alloc, front, stage, wanted, run);
+    }
+    let rest = part.after_first(half);
+    let place = place_within(rt, alloc, rest, stage, wanted - count, run)?;
+    Ok(half + place)
+}
+
+/// The place of the source item with whose image so many have come, or `None` where there are fewer.
+///
+/// It counts the images of one part after another, each on all workers, and then in halves of the part in which the last one comes. So a
+/// place near the front costs little.
+pub(crate) fn place_of<R, S, A, H>(
+    rt: &R,
+    alloc: Global,
+    source: S,
+    stage: &A,
+    wanted: u64,
+    run: &Run<'_, H>,
+) -> Result<Option<u64>, NoMemory>
+where
+    R: Threads + Sync,
+    S: Windowed + Copy + Drop + Send + Sync,
+    S::Item: Clone + Send + Sync,
+    A: Stage<In = S::Item> + Sync,
+    A::Out: Clone + Send + Sync,
+    H: Gate + Sync,
+    requires settings { IsLawfulRun run.now.workers run.now.target }
+    requires stage { A.ready stage.now }
+    requires few { GivesAtMostOne (A.expand stage.now) }
+    requires some { 1 ≤ wanted }
+    ensures { IfOk result (PlaceOrFewer (A.expand stage.now) (S.items source) wanted) }
+{
+    place_from(rt, alloc, source, stage, wanted, FIRST_PART, run)
+}
+
+/// The same, where the first part that is looked at has so many items.
+fn place_from<R, S, A, H>(
+    rt: &R,
+    alloc: Global,
+    source: S,
+    stage: &A,
+    wanted: u64,
+    size: u64,
+    run: &Run<'_, H>,
+) -> Result<Option<u64>, NoMemory>
+where
+    R: Threads + Sync,
+    S: Windowed + Copy + Drop + Send + Sync,
+    S::Item: Clone + Send + Sync,
+    A: Stage<In = S::Item> + Sync,
+    A::Out: Clone + Send + Sync,
+    H: Gate + Sync,
+    requires settings { IsLawfulRun run.now.workers run.now.target }
+    requires stage { A.ready stage.now }
+    requires few { GivesAtMostOne (A.expand stage.now) }
+    requires some { 1 ≤ wanted }
+    requires size { 1 ≤ size }
+    ensures { IfOk result (PlaceOrFewer (A.expand stage.now) (S.items source) wanted) }
+{
+    let part = source.first(size);
+    let count = count_images(rt, alloc, part, stage, run)?;
+    if wanted <= count {
+        let place = place_within(rt, alloc, part, stage, wanted, run)?;
+        return Ok(Some(place));
+    }
+    if source.count() <= size {
+        return Ok(None);
+    }
+    let rest = source.after_first(size);
+    let wanted = wanted - count;
+    match place_from(rt, alloc, rest, stage, wanted, size.saturating_mul(2), run)? {
+        Some(place) => Ok(Some(size + place)),
+        None => Ok(None),
+    }
+}
