@@ -40,3 +40,7 @@ kept n small = ap (cast_signed w64) (mod-eq_of_lt small)
 
 pub counted : (n : ℕ) (r : ℤ) → n < 2 ^ 64 → r ≡ cast_signed w64 n → to_z w64 (of_z w64 r) ≡ wrapped (pos n)
 counted n r small is = ap (λ z. to_z w64 (of_z w64 z)) is ∙ ap (to_z w64) (of_z-to_z w64 n small) ∙ sym (kept n small)
+
+-- a count that wrapped, without its sign
+pub uncounted : (n : ℕ) (r : ℤ) → n < 2 ^ 64 → r ≡ wrapped (pos n) → of_z w64 r ≡ n
+uncounted n r small is = ap (of_z w64) (is ∙ kept n small) ∙ of_z-to_z w64 n small

@@ -1,5 +1,5 @@
 -- Places in a list at which so many images have come.
-use Rattle.std.specs.Prelude.{◌≡◌, ◌<◌, ◌≤◌, ◌+◌, ℕ, zero, suc, Bool, true, false, cond, not, Option, Some, None, List, [], ◌∷◌, ◌++◌, length, take, drop, filter, flat_map, take_while, refl}
+use Rattle.std.specs.Prelude.{◌≡◌, ◌<◌, ◌≤◌, ◌+◌, ◌-◌, ℕ, zero, suc, Bool, true, false, cond, not, Option, Some, None, List, [], ◌∷◌, ◌++◌, length, take, drop, filter, flat_map, take_while, refl}
 use Rattle.std.specs.List.{prefix_len}
 use Rattle.std.proofs.Common.{ap, ap₂, sym, subst, ◌∙◌, arith, append-nil}
 use Rattle.std.proofs.lemmas.List.{length-append, length-take, length-drop, take-append-drop, take_at, drop_at, take_all, drop_all, take-take, drop-drop}
@@ -62,6 +62,12 @@ module _ {A B : Type 0} (images : A → List B) where
       let all = ap length (parts size l) ∙ length-append (flat_map images (take size l)) (flat_map images (drop size l)) in
       omega (arith, all, counted, few)
 
+  pub enough-behind : (size : ℕ) (l : List A) (count wanted : ℕ) → length (flat_map images (take size l)) ≡ count
+      → wanted ≤ length (flat_map images l) → wanted - count ≤ length (flat_map images (drop size l))
+  enough-behind size l count wanted counted enough =
+      let all = ap length (parts size l) ∙ length-append (flat_map images (take size l)) (flat_map images (drop size l)) in
+      omega (arith, all, counted, enough)
+
   -- an item alone
   pub place-alone : GivesAtMostOne images → (l : List A) (wanted : ℕ) → length l ≤ 1 → 1 ≤ wanted → wanted ≤ length (flat_map images l) → IsPlace images l wanted 0
   place-alone few l wanted short some enough =
@@ -78,6 +84,12 @@ module _ {A B : Type 0} (images : A → List B) where
   pub skip-place : (l : List A) (n i : ℕ) → IsPlace images l n i → flat_map images (drop (i + 1) l) ≡ drop n (flat_map images l)
   skip-place l n i (within, before, there) =
       sym (ap (drop n) (parts (i + 1) l) ∙ drop_at (flat_map images (take (i + 1) l)) (flat_map images (drop (i + 1) l)) n (omega (arith, there)))
+
+  pub limit-all : GivesAtMostOne images → (l : List A) (n : ℕ) → length l ≤ n → flat_map images l ≡ take n (flat_map images l)
+  limit-all few l n long = sym (take_all n (flat_map images l) (let e = images-few images few l in omega (arith, e, long)))
+
+  pub skip-all : GivesAtMostOne images → (l : List A) (n : ℕ) → length l ≤ n → [] ≡ drop n (flat_map images l)
+  skip-all few l n long = sym (drop_all n (flat_map images l) (let e = images-few images few l in omega (arith, e, long)))
 
 -- ---- whiles
 

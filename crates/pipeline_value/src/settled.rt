@@ -39,6 +39,9 @@ where
     requires few { GivesAtMostOne (A.expand stage.now) }
     ensures { IfOk result (λ part. flat_map (A.expand stage.now) (S.items part) ≡ take most (flat_map (A.expand stage.now) (S.items source))) }
 {
+    if source.count() <= most {
+        return Ok(source);
+    }
     if most == 0 {
         return Ok(source.first(0));
     }
@@ -68,6 +71,9 @@ where
     requires few { GivesAtMostOne (A.expand stage.now) }
     ensures { IfOk result (λ part. flat_map (A.expand stage.now) (S.items part) ≡ drop number (flat_map (A.expand stage.now) (S.items source))) }
 {
+    if source.count() <= number {
+        return Ok(source.first(0));
+    }
     if number == 0 {
         return Ok(source);
     }

@@ -1,0 +1,15 @@
+-- No part has more images than items, and these are counted by a word.
+use Rattle.std.proofs.Common.{◌≡◌, ◌<◌, ◌^◌, arith, rules, ap, of_z, to_z, w64, ◌∙◌}
+use Rattle.std.specs.Prelude.{flat_map, length}
+use Rattle.pipeline_meaning.specs.AtMostOne.{images-few}
+use Rattle.pipeline_value.proofs.KnownSizes.{uncounted}
+use Rattle.pipeline_value.proofs.places.count_images.Goals as goal
+
+pub returns-in-Ok : goal.returns-in-Ok
+returns-in-Ok g c =
+    let images = g.A.Stage.expand c.args.stage.now in
+    let items = g.S.Spliterator.items c.args.part in
+    let few = images-few images c.requires.few items in
+    let small : length (flat_map images items) < 2 ^ 64 = omega (arith, few, c.count.ensures, c.count.type_inv) in
+    let count : to_z w64 (of_z w64 c.in-Ok.count) ≡ c.in-Ok.count = search rules in
+    c.cast_unsigned.ensures ∙ ap (of_z w64) count ∙ uncounted _ c.in-Ok.count small (rw (c.then.ensures.upstream, c.then.ensures.stage, c.of.ensures) at c.in-Ok.ensures.value)

@@ -1,0 +1,19 @@
+use Rattle.std.proofs.Common.{ap, arith, ◌∙◌}
+use Rattle.std.specs.Prelude.{flat_map}
+use Rattle.pipeline_value.specs.Places.{skip-all, skip-place}
+use Rattle.pipeline_value.proofs.settled.skipped.Goals as goal
+
+pub returns-then-count-number : goal.returns-then-count-number
+returns-then-count-number g c =
+    let images = g.A.Stage.expand c.args.stage.now in
+    ap (flat_map images) c.first.ensures ∙ skip-all images c.requires.few (g.S.Spliterator.items c.args.source) c.args.number (omega (arith, c.if-count-number.true, c.count.ensures))
+
+pub overflow_add-place : goal.overflow_add-place
+overflow_add-place g c =
+    let place = rw c.in-Some.is at c.in_ok-place.ensures in
+    record { fits = omega (arith, place.0, c.count.ensures, c.count.type_inv) }
+
+pub returns-in-Some : goal.returns-in-Some
+returns-in-Some g c =
+    let images = g.A.Stage.expand c.args.stage.now in
+    ap (flat_map images) c.after_first.ensures ∙ skip-place images (g.S.Spliterator.items c.args.source) c.args.number c.in-Some.place (rw c.in-Some.is at c.in_ok-place.ensures)
