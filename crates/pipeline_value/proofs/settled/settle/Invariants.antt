@@ -7,4 +7,4 @@ use Rattle.pipeline_value.proofs.settled.settle.Given as goal
 abbrev pub invariant-loop-taken : goal.invariant-loop-taken
 invariant-loop-taken g l =
     let images = flat_map (g.A.Stage.expand l.fn.front) in
-    flat_map (number_images l.steps) (images (g.S.Spliterator.items l.source)) ≡ number_stages (take l.taken l.stages.now) (images (g.S.Spliterator.items l.fn.source))
+    flat_map (number_images l.steps) (images (g.S.Spliterator.items l.source)) ≡ number_stages (take l.taken l.stages) (images (g.S.Spliterator.items l.fn.source))
