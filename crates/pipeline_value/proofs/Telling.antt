@@ -26,27 +26,30 @@ list-cut Q stages at d items before kept through within same means is h =
     let kept_is : kept ≡ number_stage barrier (number_stages (take at stages) items) = is ∙ ap (λ l. number_stage barrier (through l)) same ∙ ap (number_stage barrier) (means items) in
     subst Q (sym (numbers-cut stages at d items within ∙ ap (number_stages rest) (sym kept_is))) h
 
-pub list-told : (terminal : NumberTerminal) (stages : List NumberStage) (at : ℕ) (d : NumberStage) (items before kept : List ℤ) (through : List ℤ → List ℤ) (r : Result (String Global) ValueError)
-    → at < length stages → before ≡ items → ((l : List ℤ) → through l ≡ number_stages (take at stages) l) → kept ≡ number_stage (slice_index_or stages at d) (through before)
-    → Tells (number_told terminal (number_stages (take (length stages - (at + 1)) (drop (at + 1) stages)) kept)) r → Tells (number_told terminal (number_stages stages items)) r
-list-told terminal stages at d items before kept through r =
-    list-cut (λ l. Tells (number_told terminal l) r) stages at d items before kept through
-
-pub front-told : {X : Type 0} (terminal : NumberTerminal) (stages : List NumberStage) (at : ℕ) (items : List X) (front : X → List ℤ) (steps : ℤ → List ℤ) (r : Result (String Global) ValueError)
-    → at ≡ length stages → ((l : List ℤ) → flat_map steps l ≡ number_stages (take at stages) l)
-    → Tells (number_told terminal (flat_map (λ x. flat_map steps (front x)) items)) r → Tells (number_told terminal (number_stages stages (flat_map front items))) r
-front-told terminal stages at items front steps r all means h =
+-- what is told of what the stages leave is told of the whole, where no stage is left ..
+pub whole-told : (terminal : NumberTerminal) (stages : List NumberStage) (at : ℕ) (whole before : List ℤ) (r : Result (String Global) ValueError)
+    → at ≡ length stages → before ≡ number_stages (take at stages) whole → Tells (number_told terminal before) r → Tells (number_told terminal (number_stages stages whole)) r
+whole-told terminal stages at whole before r all means h =
     let Q : List ℤ → Type 0 = λ l. Tells (number_told terminal l) r in
-    subst Q (sym (flat_map-flat_map front steps items) ∙ means (flat_map front items) ∙ numbers-whole stages at (flat_map front items) all) h
+    subst Q (means ∙ numbers-whole stages at whole all) h
 
-pub cut-told : {X : Type 0} (terminal : NumberTerminal) (stages : List NumberStage) (at : ℕ) (d : NumberStage) (items : List X) (front : X → List ℤ) (steps : ℤ → List ℤ) (kept : List ℤ) (r : Result (String Global) ValueError)
-    → at < length stages → ((l : List ℤ) → flat_map steps l ≡ number_stages (take at stages) l)
-    → kept ≡ number_stage (slice_index_or stages at d) (flat_map (λ x. flat_map steps (front x)) items)
-    → Tells (number_told terminal (number_stages (take (length stages - (at + 1)) (drop (at + 1) stages)) kept)) r
-    → Tells (number_told terminal (number_stages stages (flat_map front items))) r
-cut-told terminal stages at d items front steps kept r within means is h =
-    list-told terminal stages at d (flat_map front items) (flat_map front items) kept (flat_map steps) r within refl means
-    (is ∙ ap (number_stage (slice_index_or stages at d)) (sym (flat_map-flat_map front steps items))) h
+-- .. and where a barrier and the stages behind it are left
+pub cut-told : (terminal : NumberTerminal) (stages : List NumberStage) (at : ℕ) (d : NumberStage) (whole before kept : List ℤ) (r : Result (String Global) ValueError)
+    → at < length stages → before ≡ number_stages (take at stages) whole → kept ≡ number_stage (slice_index_or stages at d) before
+    → Tells (number_told terminal (number_stages (take (length stages - (at + 1)) (drop (at + 1) stages)) kept)) r → Tells (number_told terminal (number_stages stages whole)) r
+cut-told terminal stages at d whole before kept r within means is =
+    list-cut (λ l. Tells (number_told terminal l) r) stages at d whole whole kept (number_stages (take at stages)) within refl (λ l. refl) (is ∙ ap (number_stage (slice_index_or stages at d)) means)
+
+-- steps behind a stage in front, over a part of the source
+pub in_one : {X : Type 0} (front : X → List ℤ) (steps : ℤ → List ℤ) (part : List X) (left : List ℤ)
+    → flat_map steps (flat_map front part) ≡ left → flat_map (λ x. flat_map steps (front x)) part ≡ left
+in_one front steps part left means = sym (flat_map-flat_map front steps part) ∙ means
+
+-- .. and behind none
+pub behind-none : (steps : ℤ → List ℤ) (stages : List NumberStage) (part items source : List ℤ)
+    → flat_map steps (flat_map (λ x. x ∷ []) part) ≡ number_stages stages (flat_map (λ x. x ∷ []) source) → source ≡ items → flat_map steps part ≡ number_stages stages items
+behind-none steps stages part items source means same =
+    sym (ap (flat_map steps) (flat_map-one part)) ∙ means ∙ ap (number_stages stages) (flat_map-one source ∙ same)
 
 pub texts-told : (end : TextEnd) (stages : List TextStage) (at : ℕ) (d : TextStage) (items before kept : List (List ℕ)) (through : List (List ℕ) → List (List ℕ)) (r : Result (String Global) ValueError)
     → at < length stages → before ≡ items → ((l : List (List ℕ)) → through l ≡ text_stages (take at stages) l) → kept ≡ text_stage (slice_index_or stages at d) (through before)

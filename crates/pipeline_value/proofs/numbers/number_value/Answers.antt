@@ -1,14 +1,23 @@
-use Rattle.std.proofs.Common.{◌≡◌, ◌<◌, length, arith}
+use Rattle.std.proofs.Common.{◌≡◌, ◌<◌, flat_map, length, take, arith}
 use Rattle.std.proofs.lemmas.List.Elements.{All-drop, All-take}
+use Rattle.pipeline_meaning.specs.NumberSteps.{number_images}
+use Rattle.pipeline_meaning.specs.Stages.{number_stages}
 use Rattle.pipeline_value.specs.Ranges.{NumberStageFits}
-use Rattle.pipeline_value.proofs.Telling.{cut-told, front-told}
+use Rattle.pipeline_value.proofs.Telling.{cut-told, in_one, whole-told}
 use Rattle.pipeline_value.proofs.numbers.number_value.Goals as goal
 
 pub returns-then-taken-stages : goal.returns-then-taken-stages
 returns-then-taken-stages g c =
-    let all : c.in_ok-steps.taken ≡ length c.as_slice-stages.result.now = omega (arith, c.if-taken-stages.true) in
+    let stages = c.as_slice-stages.result.now in
+    let front = g.A.Stage.expand c.args.front in
+    let settled = c.in_ok-settled.settled in
+    let part = g.S.Spliterator.items settled.source in
+    let steps = number_images settled.steps in
+    let whole = flat_map front (g.S.Spliterator.items c.args.source) in
+    let all : settled.taken ≡ length stages = omega (arith, c.if-taken-stages.true) in
     rw (← c.as_slice-stages.ensures.value)
-    (front-told c.args.body.now.terminal c.as_slice-stages.result.now c.in_ok-steps.taken (g.S.Spliterator.items c.args.source) (g.A.Stage.expand c.args.front) _ c.number_end.result all c.in_ok-steps.ensures.means
+    (whole-told c.args.body.now.terminal stages settled.taken whole (flat_map (λ x. flat_map steps (front x)) part) c.number_end.result all
+    (in_one front steps part (number_stages (take settled.taken stages) whole) c.in_ok-settled.ensures.means)
     (rw (c.then.ensures.upstream, c.of.ensures, c.then.ensures.stage, c.new-stage.ensures.first, c.new-stage.ensures.second) at c.number_end.ensures))
 
 pub list_value-requires-clause-fits : goal.list_value-requires-clause-fits
@@ -16,7 +25,14 @@ list_value-requires-clause-fits g c = λ lifetimes outlive. rw c.as_slice-stages
 
 pub returns : goal.returns
 returns g c =
-    let within : c.in_ok-steps.taken < length c.as_slice-stages.result.now = omega (arith, c.in_ok-steps.ensures.within, c.if-taken-stages.false) in
+    let stages = c.as_slice-stages.result.now in
+    let front = g.A.Stage.expand c.args.front in
+    let settled = c.in_ok-settled.settled in
+    let part = g.S.Spliterator.items settled.source in
+    let steps = number_images settled.steps in
+    let whole = flat_map front (g.S.Spliterator.items c.args.source) in
+    let within : settled.taken < length stages = omega (arith, c.in_ok-settled.ensures.within, c.if-taken-stages.false) in
     rw (← c.as_slice-stages.ensures.value)
-    (cut-told c.args.body.now.terminal c.as_slice-stages.result.now c.in_ok-steps.taken _ (g.S.Spliterator.items c.args.source) (g.A.Stage.expand c.args.front) _ c.in_ok-items.items.items c.list_value.result within c.in_ok-steps.ensures.means
+    (cut-told c.args.body.now.terminal stages settled.taken _ whole (flat_map (λ x. flat_map steps (front x)) part) c.in_ok-items.items.items c.list_value.result within
+    (in_one front steps part (number_stages (take settled.taken stages) whole) c.in_ok-settled.ensures.means)
     (rw (c.new-stage.ensures.first, c.new-stage.ensures.second) at c.in_ok-items.ensures) c.list_value.ensures)
