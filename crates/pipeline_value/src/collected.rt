@@ -4,7 +4,7 @@ ghost use Rattle.std.specs.Prelude.{Ok, List};
 ghost use Rattle.parallel_streams.specs.Runs.{IsLawfulRun};
 ghost use Rattle.pipeline_value.specs.Value.{Tells};
 
-use crate::told::ValueError;
+use crate::told::{ValueError, ran};
 use collectors::Collector;
 use parallel_streams::{Run, Stream};
 use pipeline_meaning::{Summarizes, Written, write_result};
@@ -35,7 +35,7 @@ where
     requires collector { C.ready collector.now }
     ensures { Tells (Ok (C.summary collector.now (X.value stream.now))) result }
 {
-    let made = stream.collect(rt, alloc, run, collector)?;
+    let made = ran(run, stream.collect(rt, alloc, run, collector))?;
     told_summary(alloc, collector, &made)
 }
 

@@ -4,7 +4,7 @@ ghost use Rattle.parallel_streams.specs.Runs.{IsLawfulRun};
 ghost use Rattle.pipeline_value.specs.Folds.{fold_terminal};
 ghost use Rattle.pipeline_value.specs.Value.{Tells, number_told};
 
-use crate::told::{ValueError, told};
+use crate::told::{ValueError, ran, told};
 use collectors::SummingLong;
 use parallel_streams::{Run, Stream};
 use pipeline_meaning::Itself;
@@ -45,11 +45,23 @@ where
         // a sum needs no question whether a number came before
         Fold::Sum => told(
             alloc,
-            &stream.collect(rt, alloc, run, &SummingLong::new(Itself))?,
+            &ran(
+                run,
+                stream.collect(rt, alloc, run, &SummingLong::new(Itself)),
+            )?,
         ),
-        Fold::Product => told(alloc, &stream.reduce(rt, alloc, run, 1, &WrapMul::new())?),
-        Fold::Max => told(alloc, &stream.reduce_optional(rt, alloc, run, &Max::new())?),
-        Fold::Min => told(alloc, &stream.reduce_optional(rt, alloc, run, &Min::new())?),
-        Fold::Count => told(alloc, &stream.count(rt, alloc, run)?),
+        Fold::Product => told(
+            alloc,
+            &ran(run, stream.reduce(rt, alloc, run, 1, &WrapMul::new()))?,
+        ),
+        Fold::Max => told(
+            alloc,
+            &ran(run, stream.reduce_optional(rt, alloc, run, &Max::new()))?,
+        ),
+        Fold::Min => told(
+            alloc,
+            &ran(run, stream.reduce_optional(rt, alloc, run, &Min::new()))?,
+        ),
+        Fold::Count => told(alloc, &ran(run, stream.count(rt, alloc, run))?),
     }
 }

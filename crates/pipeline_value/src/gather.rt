@@ -4,14 +4,16 @@ ghost use Rattle.std.specs.Prelude.{◌≡◌, List, IfOk, flat_map, map};
 ghost use Rattle.barriers.specs.Needs.{IsOutcome};
 ghost use Rattle.spliterator.specs.Clones.{ClonesAlike};
 ghost use Rattle.stages.specs.Distinct.{distinct};
+ghost use Rattle.parallel_streams.specs.Leaves.{ArePlanned};
 ghost use Rattle.parallel_streams.specs.Runs.{IsLawfulRun};
+ghost use Rattle.split_tree.specs.Plan.{leaves_of, tree_of};
 
 use crate::distinct_items::DistinctItems;
 use barriers::{Barrier, Whole};
 use collectors::{ToList, finish_container};
 use parallel_streams::Run;
 use pipeline_meaning::SeededHashes;
-use split_tree::Plan;
+use split_tree::{Plan, PlanError};
 use spliterator::{NoMemory, OrderedValue, Spliterator};
 use stages::Stage;
 use std::alloc::Global;
@@ -42,9 +44,7 @@ where
     requires clones { ClonesAlike A.Out.is_clone A.Out.content }
     ensures { IfOk result (λ kept. map A.Out.content kept.items ≡ B.value barrier.now (flat_map (A.expand stage.now) (S.items source))) }
 {
-    let Ok(plan) = Plan::make(alloc, source, run.workers, run.target) else {
-        return Err(NoMemory);
-    };
+    let plan = plan_of(alloc, source, run)?;
     let list = ToList::new(alloc);
     let gathered = run_leaves(
         rt,
@@ -57,6 +57,24 @@ where
         run.gate,
     )?;
     apply_to_front(barrier, gathered.acc)
+}
+
+/// The leaves of a source under lawful settings: only want of memory can refuse them.
+fn plan_of<S: Spliterator, H>(
+    alloc: Global,
+    source: S,
+    run: &Run<'_, H>,
+) -> Result<Plan<S>, NoMemory>
+    requires settings { IsLawfulRun run.now.workers run.now.target }
+    ensures items { IfOk result (λ plan. flat_map S.items (leaves_of plan) ≡ S.items source) }
+    ensures leaves { let planned = ArePlanned S.estimate S.split_gives source in
+        IfOk result (λ plan. planned run.now.workers run.now.target (tree_of plan) (leaves_of plan)) }
+{
+    match Plan::make(alloc, source, run.workers, run.target) {
+        Ok(plan) => Ok(plan),
+        Err(PlanError::NoMemory) => Err(NoMemory),
+        Err(PlanError::BadTarget) => unreachable!(),
+    }
 }
 
 /// What a barrier leaves of a list of which there is a front: all of it, or as much as the barrier asks.
@@ -93,9 +111,7 @@ where
     requires stage { A.ready stage.now }
     ensures { IfOk result (λ kept. map A.Out.content kept.items ≡ distinct A.Out.same (flat_map (A.expand stage.now) (S.items source))) }
 {
-    let Ok(plan) = Plan::make(alloc, source, run.workers, run.target) else {
-        return Err(NoMemory);
-    };
+    let plan = plan_of(alloc, source, run)?;
     let first_ones = DistinctItems::new(alloc, hashes);
     let gathered = run_leaves(
         rt,

@@ -8,7 +8,7 @@ ghost use Rattle.pipeline_value.specs.Value.{Tells, strict_told};
 
 use crate::collected::collected;
 use crate::nested::merged;
-use crate::told::{ValueError, text_of, told};
+use crate::told::{ValueError, ran, text_of, told};
 use collectors::{Collector, DuplicateKey, ToMapStrict};
 use indexmap::IndexMap;
 use parallel_streams::{Run, Stream};
@@ -83,7 +83,7 @@ where
     ensures { Tells (strict_told K.Out.spelling V.Out.spelling K.Out.same (K.image key) (V.image value) (X.value stream.now)) result }
 {
     let strict = ToMapStrict::with_hasher(alloc, key, value, hashes);
-    let made = stream.collect(rt, alloc, run, &strict)?;
+    let made = ran(run, stream.collect(rt, alloc, run, &strict))?;
     told_strict(alloc, &strict, &made)
 }
 

@@ -6,7 +6,7 @@ ghost use Rattle.pipeline_value.specs.Value.{Tells, number_told};
 use crate::folds::{Fold, fold_value};
 use crate::number_maps::{map_value, strict_map_value};
 use crate::number_parts::{groups_value, pair_value, parts_value};
-use crate::told::{ValueError, told};
+use crate::told::{ValueError, ran, told};
 use collectors::ToList;
 use parallel_streams::{Run, Stream};
 use pipeline_language::NumberTerminal;
@@ -40,22 +40,31 @@ where
         NumberTerminal::Max => fold_value(rt, alloc, stream, Fold::Max, run),
         NumberTerminal::Min => fold_value(rt, alloc, stream, Fold::Min, run),
         NumberTerminal::Count => fold_value(rt, alloc, stream, Fold::Count, run),
-        NumberTerminal::FindFirst => told(alloc, &stream.find_first(rt, alloc, run)?),
+        NumberTerminal::FindFirst => told(alloc, &ran(run, stream.find_first(rt, alloc, run))?),
         NumberTerminal::ToList => told(
             alloc,
-            &stream.collect(rt, alloc, run, &ToList::new(alloc))?,
+            &ran(run, stream.collect(rt, alloc, run, &ToList::new(alloc)))?,
         ),
         NumberTerminal::AllMatch(test) => told(
             alloc,
-            &stream.all_match(rt, alloc, run, &NumberCheck::of(test))?,
+            &ran(
+                run,
+                stream.all_match(rt, alloc, run, &NumberCheck::of(test)),
+            )?,
         ),
         NumberTerminal::AnyMatch(test) => told(
             alloc,
-            &stream.any_match(rt, alloc, run, &NumberCheck::of(test))?,
+            &ran(
+                run,
+                stream.any_match(rt, alloc, run, &NumberCheck::of(test)),
+            )?,
         ),
         NumberTerminal::NoneMatch(test) => told(
             alloc,
-            &stream.none_match(rt, alloc, run, &NumberCheck::of(test))?,
+            &ran(
+                run,
+                stream.none_match(rt, alloc, run, &NumberCheck::of(test)),
+            )?,
         ),
         NumberTerminal::GroupBy(function, summary) => {
             groups_value(rt, alloc, hashes, stream, function, summary, run)

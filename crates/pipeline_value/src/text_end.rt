@@ -13,7 +13,7 @@ use crate::collected::collected;
 use crate::text_groups::text_arrangement;
 use crate::text_maps::{map_value, strict_map_value};
 use crate::text_parts::arranged_value;
-use crate::told::{ValueError, told};
+use crate::told::{ValueError, ran, told};
 use collectors::{Joining, ToList};
 use parallel_streams::{Run, Source, Staged, Stream};
 use pipeline_language::TextTerminal;
@@ -72,28 +72,28 @@ where
     ensures { Tells (text_told terminal.now (X.value stream.now)) result }
 {
     match *terminal {
-        TextTerminal::Count => told(alloc, &stream.count(rt, alloc, run)?),
-        TextTerminal::FindFirst => told_first(alloc, &stream.find_first(rt, alloc, run)?),
+        TextTerminal::Count => told(alloc, &ran(run, stream.count(rt, alloc, run))?),
+        TextTerminal::FindFirst => told_first(alloc, &ran(run, stream.find_first(rt, alloc, run))?),
         TextTerminal::ToList => collected(rt, alloc, stream, &ToList::new(alloc), run),
         TextTerminal::AllMatch(test) => told(
             alloc,
-            &stream.all_match(rt, alloc, run, &TextCheck::of(test))?,
+            &ran(run, stream.all_match(rt, alloc, run, &TextCheck::of(test)))?,
         ),
         TextTerminal::AnyMatch(test) => told(
             alloc,
-            &stream.any_match(rt, alloc, run, &TextCheck::of(test))?,
+            &ran(run, stream.any_match(rt, alloc, run, &TextCheck::of(test)))?,
         ),
         TextTerminal::NoneMatch(test) => told(
             alloc,
-            &stream.none_match(rt, alloc, run, &TextCheck::of(test))?,
+            &ran(run, stream.none_match(rt, alloc, run, &TextCheck::of(test)))?,
         ),
         TextTerminal::Joining(between) => {
             let joining = Joining::new(alloc, between, "", "");
-            Ok(stream.collect(rt, alloc, run, &joining)?)
+            Ok(ran(run, stream.collect(rt, alloc, run, &joining))?)
         }
         TextTerminal::JoiningWithin(between, front, back) => {
             let joining = Joining::new(alloc, between, front, back);
-            Ok(stream.collect(rt, alloc, run, &joining)?)
+            Ok(ran(run, stream.collect(rt, alloc, run, &joining))?)
         }
         TextTerminal::ToMap(key, value) => map_value(rt, alloc, hashes, stream, key, value, run),
         TextTerminal::ToMapStrict(key, value) => {

@@ -1,10 +1,11 @@
 //! What a pipeline tells: the text of its value, or of a repeated key.
 
-ghost use Rattle.std.specs.Prelude.{◌≡◌, Ok, IfOk, string_bytes};
+ghost use Rattle.std.specs.Prelude.{◌≡◌, Ok, Err, IfOk, IsErr, string_bytes};
+ghost use Rattle.parallel_streams.specs.Runs.{AnswersUnder, IsLawfulRun};
 ghost use Rattle.pipeline_value.specs.Value.{Tells};
 ghost use Rattle.pipeline_value.specs.declared.told.ValueError.TheVariants as variants;
 
-use parallel_streams::StreamError;
+use parallel_streams::{Run, StreamError};
 use pipeline_meaning::Written;
 use spliterator::NoMemory;
 use std::alloc::{AllocError, Global};
@@ -33,11 +34,17 @@ impl From<AllocError> for ValueError {
     }
 }
 
-impl From<StreamError> for ValueError {
-    ghost from_gives = { λ _ e. e ≡ variants.NoMemory };
-
-    fn from(_refused: StreamError) -> ValueError {
-        ValueError::NoMemory
+/// What a stream made under lawful settings: only want of memory can have refused it.
+pub(crate) fn ran<V, H>(_run: &Run<'_, H>, made: Result<V, StreamError>) -> Result<V, NoMemory>
+    requires settings { IsLawfulRun _run.now.workers _run.now.target }
+    requires answers { AnswersUnder _run.now.workers _run.now.target made }
+    ensures value { IfOk result (λ v. made ≡ Ok v) }
+    ensures memory { IsErr result → made ≡ Err StreamError.NoMemory }
+{
+    match made {
+        Ok(value) => Ok(value),
+        Err(StreamError::NoMemory) => Err(NoMemory),
+        Err(StreamError::BadWorkers | StreamError::BadTarget) => unreachable!(),
     }
 }
 

@@ -1,5 +1,6 @@
 //! Each collector at concrete types: folded on one thread, and folded in every two and every three parts that are then combined.
 
+mod asked_once;
 mod chosen;
 mod cuts;
 mod functions;

@@ -39,6 +39,20 @@ fn one_worker_reads_nothing_behind_the_first_item(rt: HostRuntime) -> Result<(),
     Ok(())
 }
 
+// The same of a match: with one worker nothing behind the first hit is asked for.
+#[test]
+fn one_worker_reads_nothing_behind_the_first_hit(rt: HostRuntime) -> Result<(), Fail> {
+    for target in [1, 16, 0] {
+        for hit in [0i64, 4] {
+            let numbers = of(RangeSplit::range(0, 10)?).map(RefusesAt(hit.saturating_add(1)));
+            let above = Above(hit.saturating_sub(1));
+            let met = numbers.any_match(&rt, rt.alloc(), &at((1, target)), &above)?;
+            assert!(rt; met, "{hit} at target {target}");
+        }
+    }
+    Ok(())
+}
+
 // With one worker no leaf right of what is wanted runs; with seven one may.
 #[test]
 fn a_refusal_right_of_the_first_item_gives_no_other_item(rt: HostRuntime) -> Result<(), Fail> {

@@ -10,8 +10,8 @@ pub returns : goal.returns
 returns g c =
     let front = c.in_ok-gathered.ensures.front in
     let through = flat_map (g.A.Stage.expand c.args.stage.now) in
-    let whole = through (flat_map g.S.Spliterator.items (leaves_of c.in-Ok.plan)) in
-    let all = sym (whole-front no_item whole front.0 front.1) ∙ ap through c.in-Ok.ensures.items in
+    let whole = through (flat_map g.S.Spliterator.items (leaves_of c.in_ok-plan.plan)) in
+    let all = sym (whole-front no_item whole front.0 front.1) ∙ ap through c.in_ok-plan.ensures.items in
     IfOk-weaker c.finish_container.result _ _
     (λ kept is. is ∙ ap (distinct g.A.Out.Value.same) all)
     (c.finish_container.ensures front.0 front.2)
