@@ -5,6 +5,7 @@ ghost use Rattle.parallel_streams.specs.Runs.{IsLawfulRun};
 ghost use Rattle.pipeline_meaning.specs.AtMostOne.{GivesAtMostOne};
 ghost use Rattle.pipeline_value.specs.Places.{PlaceOrFewer};
 
+use crate::told::ran;
 use parallel_streams::{Run, Stream, of};
 use sources::Windowed;
 use spliterator::NoMemory;
@@ -48,10 +49,8 @@ where
         target: run.target,
         gate: run.gate,
     };
-    match of(part).then(stage).count(rt, alloc, &run) {
-        Ok(count) => Ok(count.cast_unsigned()),
-        Err(_) => Err(NoMemory),
-    }
+    let count = ran(&run, of(part).then(stage).count(rt, alloc, &run))?;
+    Ok(count.cast_unsigned())
 }
 
 /// The place in a part at which so many images have come, of which there are as many.

@@ -5,11 +5,11 @@ use Rattle.pipeline_meaning.specs.AtMostOne.{images-few}
 use Rattle.pipeline_value.proofs.KnownSizes.{uncounted}
 use Rattle.pipeline_value.proofs.places.count_images.Goals as goal
 
-pub returns-in-Ok : goal.returns-in-Ok
-returns-in-Ok g c =
+pub returns : goal.returns
+returns g c =
     let images = g.A.Stage.expand c.args.stage.now in
     let items = g.S.Spliterator.items c.args.part in
     let few = images-few images c.requires.few items in
     let small : length (flat_map images items) < 2 ^ 64 = omega (arith, few, c.count.ensures, c.count.type_inv) in
-    let count : to_z w64 (of_z w64 c.in-Ok.count) ≡ c.in-Ok.count = search rules in
-    c.cast_unsigned.ensures ∙ ap (of_z w64) count ∙ uncounted _ c.in-Ok.count small (rw (c.then.ensures.upstream, c.then.ensures.stage, c.of.ensures) at c.in-Ok.ensures.value)
+    let count : to_z w64 (of_z w64 c.in_ok-count.count) ≡ c.in_ok-count.count = search rules in
+    c.cast_unsigned.ensures ∙ ap (of_z w64) count ∙ uncounted _ c.in_ok-count.count small (rw (c.in_ok-count.ensures.value, c.then.ensures.upstream, c.then.ensures.stage, c.of.ensures) at c.count-2.ensures.value)
