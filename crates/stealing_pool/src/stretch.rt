@@ -37,12 +37,17 @@ fn feed_one<S: Spliterator, G: Stage<In = S::Item>, K: Sink<G::Out>>(
     Ok(true)
 }
 
-/// Feeds a stretch of a source that can't tell how many items are left. Says whether more may make a difference.
-fn feed_uncounted<S: Spliterator, G: Stage<In = S::Item>, K: Sink<G::Out>>(
+/// Feeds so many of a source's items to a sink. Says whether it did: else nothing is left, or no item makes a difference any more.
+///
+/// Where the number is a constant and small, a compiler lays the steps out in a row, and steps the source's own numbers once for all.
+#[inline(always)]
+fn feed_some<S: Spliterator, G: Stage<In = S::Item>, K: Sink<G::Out>>(
     stage: &G,
     source: &mut S,
     sink: &mut K,
+    number: u64,
 ) -> Result<bool, NoMemory>
+    requires some { 0 < number }
     requires stage { G.ready stage.now }
     requires sink { K.ready sink.old }
     ensures taken { OnOk result ((end : K)
@@ -51,40 +56,12 @@ fn feed_uncounted<S: Spliterator, G: Stage<In = S::Item>, K: Sink<G::Out>>(
     ensures ready { OnOk result (K.ready sink.new) }
     ensures more { IfOk result (λ more. MatchBool more (length (S.items source.new) < length (S.items source.old)) (K.takes sink.new (flat_map (G.expand stage.now) (S.items source.new)) sink.new)) }
 {
-    for _read in 0..STRETCH {
+    for _read in 0..number {
         if !feed_one(stage, source, sink)? {
             return Ok(false);
         }
     }
     Ok(true)
-}
-
-/// Feeds a round of a source's items to a sink. Says whether more may make a difference.
-///
-/// The calls stand in a row, so a compiler steps the source's own numbers once a round.
-fn feed_round<S: Spliterator, G: Stage<In = S::Item>, K: Sink<G::Out>>(
-    stage: &G,
-    source: &mut S,
-    sink: &mut K,
-) -> Result<bool, NoMemory>
-    requires stage { G.ready stage.now }
-    requires sink { K.ready sink.old }
-    ensures taken { OnOk result ((end : K)
-        → K.takes sink.new (flat_map (G.expand stage.now) (S.items source.new)) end
-        → K.takes sink.old (flat_map (G.expand stage.now) (S.items source.old)) end) }
-    ensures ready { OnOk result (K.ready sink.new) }
-    ensures more { IfOk result (λ more. MatchBool more (length (S.items source.new) < length (S.items source.old)) (K.takes sink.new (flat_map (G.expand stage.now) (S.items source.new)) sink.new)) }
-{
-    Ok(
-        feed_one(stage, source, sink)?
-            && feed_one(stage, source, sink)?
-            && feed_one(stage, source, sink)?
-            && feed_one(stage, source, sink)?
-            && feed_one(stage, source, sink)?
-            && feed_one(stage, source, sink)?
-            && feed_one(stage, source, sink)?
-            && feed_one(stage, source, sink)?,
-    )
 }
 
 /// Feeds rounds of a source's items to a sink, at least one, as long as it tells that more than so many items are left. Says whether more
@@ -106,7 +83,7 @@ fn feed_rounds<S: Spliterator, G: Stage<In = S::Item>, K: Sink<G::Out>>(
     ensures more { IfOk result (λ more. MatchBool more (length (S.items source.new) < length (S.items source.old)) (K.takes sink.new (flat_map (G.expand stage.now) (S.items source.new)) sink.new)) }
 {
     'reading: loop {
-        if !feed_round(stage, source, sink)? {
+        if !feed_some(stage, source, sink, ROUND)? {
             return Ok(false);
         }
         match source.exact_size() {
@@ -167,7 +144,7 @@ fn feed_items<S: Spliterator, G: Stage<In = S::Item>, K: Sink<G::Out>>(
     match source.exact_size() {
         Some(0) => Ok(false),
         Some(left) => feed_counted(stage, source, sink, left.saturating_sub(STRETCH)),
-        None => feed_uncounted(stage, source, sink),
+        None => feed_some(stage, source, sink, STRETCH),
     }
 }
 
@@ -199,7 +176,8 @@ fn feed_block<S: Spliterator, G: Stage<In = S::Item>, K: Sink<G::Out>>(
     Ok(true)
 }
 
-/// Feeds a stretch of a source's items to a sink in blocks that grow. Says whether more may make a difference.
+/// Feeds a stretch of a source's items to a sink in blocks that grow: each is as long as those before it, and 64 at least. Says whether more may
+/// make a difference.
 fn feed_growing<S: Spliterator, G: Stage<In = S::Item>, K: Sink<G::Out>>(
     stage: &G,
     source: &mut S,
@@ -214,13 +192,17 @@ fn feed_growing<S: Spliterator, G: Stage<In = S::Item>, K: Sink<G::Out>>(
     ensures ready { OnOk result (K.ready sink.new) }
     ensures more { IfOk result (λ more. MatchBool more (length (S.items source.new) < length (S.items source.old)) (K.takes sink.new (flat_map (G.expand stage.now) (S.items source.new)) sink.new)) }
 {
-    Ok(
-        feed_block(stage, source, 64, room, sink)?
-            && feed_block(stage, source, 64, room, sink)?
-            && feed_block(stage, source, 128, room, sink)?
-            && feed_block(stage, source, 256, room, sink)?
-            && feed_block(stage, source, 512, room, sink)?,
-    )
+    let mut fed: usize = 0;
+    'reading: loop {
+        let most = fed.max(64);
+        if !feed_block(stage, source, most, room, sink)? {
+            return Ok(false);
+        }
+        fed = fed.saturating_add(most);
+        if STRETCH as usize <= fed {
+            return Ok(true);
+        }
+    }
 }
 
 /// Feeds a stretch of what the source covers to a sink, as the stage prefers it. Says whether more may make a difference.

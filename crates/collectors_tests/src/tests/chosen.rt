@@ -3,6 +3,7 @@ use super::cuts::check;
 use super::functions::{Itself, Modulo};
 use collectors::{Collector, Counting, GroupingBy, SummingLong, ToList};
 use either::{Either, Left, Right};
+use spliterator::NoMemory;
 use std::alloc::Global;
 use std::test::Fail;
 
@@ -17,29 +18,42 @@ fn choose(alloc: Global, number: u8) -> Chosen {
     }
 }
 
+/// The number of a collector, and lists with the texts of their results.
+const CHOSEN: [(u8, &[(&[i64], &str)]); 3] = [
+    (0, &[(&[5, 2, 7], "3")]),
+    (1, &[(&[5, 2, 7], "14")]),
+    (2, &[(&[5, 2, 7], "[5, 2, 7]"), (&[], "[]")]),
+];
+
+const GROUPED: [(&[i64], &str); 1] = [(&[5, 2, 7, 4, 5], "{1=17, 0=6}")];
+
 #[test]
 fn collects_on_the_chosen_side(rt: HostRuntime) -> Result<(), Fail> {
     let alloc = rt.alloc();
-    check(&rt, alloc, choose(alloc, 0), &[(&[5, 2, 7], "3")])?;
-    check(&rt, alloc, choose(alloc, 1), &[(&[5, 2, 7], "14")])?;
-    check(
-        &rt,
-        alloc,
-        choose(alloc, 2),
-        &[(&[5, 2, 7], "[5, 2, 7]"), (&[], "[]")],
-    )?;
+    for (number, rows) in CHOSEN {
+        check(&rt, alloc, choose(alloc, number), rows)?;
+    }
     let groups = GroupingBy::new(alloc, Modulo::new(2), choose(alloc, 1));
-    check(&rt, alloc, groups, &[(&[5, 2, 7, 4, 5], "{1=17, 0=6}")])
+    check(&rt, alloc, groups, &GROUPED)
+}
+
+/// What a collector makes of a container that has an item and an empty container taken in.
+fn finished<C: Collector<Item = i64>>(
+    collector: &C,
+    mut container: C::Acc,
+) -> Result<C::Out, NoMemory>
+    requires { C.ready collector.now }
+{
+    collector.accumulate(&mut container, &5)?;
+    collector.combine(&mut container, collector.supply()?)?;
+    collector.finish(container)
 }
 
 #[test]
 fn a_container_of_the_other_side_takes_nothing_in(rt: HostRuntime) -> Result<(), Fail> {
     let alloc = rt.alloc();
-    let counting = choose(alloc, 0);
-    let mut foreign = choose(alloc, 2).supply()?;
-    counting.accumulate(&mut foreign, &5)?;
-    counting.combine(&mut foreign, counting.supply()?)?;
-    let result = counting.finish(foreign)?;
+    let foreign = choose(alloc, 2).supply()?;
+    let result = finished(&choose(alloc, 0), foreign)?;
     assert!(&rt; result.left() == Some(0));
     Ok(())
 }

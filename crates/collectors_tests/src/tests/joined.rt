@@ -10,57 +10,70 @@ use std::alloc::Global;
 use std::process::Abort;
 use std::test::Fail;
 
+/// What stands between, before and after the texts, and rows. An empty text is an item like any other.
+const JOINED: [(&str, &str, &str, &[(&[&str], &str)]); 3] = [
+    (",", "<", ">", &[(&["", "", ""], "<,,>"), (&[], "<>")]),
+    (",", "", "", &[(&["", "a", ""], ",a,")]),
+    ("-", "<", ">", &[(&["a", "b", "c"], "<a-b-c>")]),
+];
+
 #[test]
 fn joins_empty_texts_as_items(rt: HostRuntime) -> Result<(), Fail> {
     let alloc = rt.alloc();
-    let framed = Joining::<&str>::new(alloc, ",", "<", ">");
-    check(&rt, alloc, framed, &[(&["", "", ""], "<,,>"), (&[], "<>")])?;
-    let plain = Joining::<&str>::new(alloc, ",", "", "");
-    check(&rt, alloc, plain, &[(&["", "a", ""], ",a,")])?;
-    let dashes = Joining::<&str>::new(alloc, "-", "<", ">");
-    check(&rt, alloc, dashes, &[(&["a", "b", "c"], "<a-b-c>")])
+    for (between, before, after, rows) in JOINED {
+        let joining = Joining::<&str>::new(alloc, between, before, after);
+        check(&rt, alloc, joining, rows)?;
+    }
+    Ok(())
 }
+
+const BY_LENGTH: [(&[&str], &str); 1] = [(&["bb", "a", "cc"], "{2=bb+cc, 1=a}")];
+
+const COUNTS: [(&[&str], &str); 1] = [(&["b", "", "b", "a"], "{b=2, =1, a=1}")];
 
 #[test]
 fn groups_of_texts(rt: HostRuntime) -> Result<(), Fail> {
     let alloc = rt.alloc();
     let texts = Joining::<&str>::new(alloc, "+", "", "");
-    let by_length = GroupingBy::new(alloc, Length, texts);
     check(
         &rt,
         alloc,
-        by_length,
-        &[(&["bb", "a", "cc"], "{2=bb+cc, 1=a}")],
+        GroupingBy::new(alloc, Length, texts),
+        &BY_LENGTH,
     )?;
     let counts = GroupingBy::new(alloc, Itself, Counting::<&str>::new());
-    check(
-        &rt,
-        alloc,
-        counts,
-        &[(&["b", "", "b", "a"], "{b=2, =1, a=1}")],
-    )
+    check(&rt, alloc, counts, &COUNTS)
 }
+
+const LAST_BY_LENGTH: [(&[&str], &str); 1] = [(&["bb", "a", "cc"], "{2=cc, 1=a}")];
+
+const LENGTHS_BY_TEXT: [(&[&str], &str); 1] = [(&["bb", "a"], "{bb=2, a=1}")];
 
 #[test]
 fn maps_of_texts(rt: HostRuntime) -> Result<(), Fail> {
     let alloc = rt.alloc();
     let last = ToMap::<&str, _, _, _, _>::new(alloc, Length, Itself, LastOf::<&str>::new());
-    check(&rt, alloc, last, &[(&["bb", "a", "cc"], "{2=cc, 1=a}")])?;
+    check(&rt, alloc, last, &LAST_BY_LENGTH)?;
     let lengths = ToMap::<&str, _, _, _, _>::new(alloc, Itself, Length, LastOf::<i64>::new());
-    check(&rt, alloc, lengths, &[(&["bb", "a"], "{bb=2, a=1}")])
+    check(&rt, alloc, lengths, &LENGTHS_BY_TEXT)
 }
+
+const LISTS: [(&[&str], &str); 1] = [(&["b", "a"], "[b, a]")];
+
+const FIRSTS: [(&[&str], &str); 1] = [(&["b", "a"], "Optional[b]")];
+
+const SUMS: [(&[&str], &str); 1] = [(&["bb", "", "a"], "3")];
+
+const LENGTHS: [(&[&str], &str); 1] = [(&["bb", "", "a"], "[2, 0, 1]")];
 
 #[test]
 fn lists_and_sums_texts(rt: HostRuntime) -> Result<(), Fail> {
     let alloc = rt.alloc();
-    let list = ToList::<&str>::new(alloc);
-    check(&rt, alloc, list, &[(&["b", "a"], "[b, a]")])?;
-    let first = First::<&str>::new();
-    check(&rt, alloc, first, &[(&["b", "a"], "Optional[b]")])?;
-    let total = SummingLong::<&str, _>::new(Length);
-    check(&rt, alloc, total, &[(&["bb", "", "a"], "3")])?;
+    check(&rt, alloc, ToList::<&str>::new(alloc), &LISTS)?;
+    check(&rt, alloc, First::<&str>::new(), &FIRSTS)?;
+    check(&rt, alloc, SummingLong::<&str, _>::new(Length), &SUMS)?;
     let lengths = MappingTo::<&str, _, _>::new(Length, ToList::<i64>::new(alloc));
-    check(&rt, alloc, lengths, &[(&["bb", "", "a"], "[2, 0, 1]")])
+    check(&rt, alloc, lengths, &LENGTHS)
 }
 
 fn owned(alloc: Global) -> Result<[String; 3], NoMemory> {

@@ -20,8 +20,15 @@ fn is_light<C: Collector<Item = i64>>(collector: &C, count: i64) -> Result<bool,
     Ok(collector.is_light(&acc))
 }
 
+/// How many numbers a container has, and whether it is light: a number always is.
+const ALWAYS: [(i64, bool); 1] = [(100, true)];
+
 /// Containers of up to 64 numbers alone are light.
 const UP_TO_64: [(i64, bool); 3] = [(0, true), (64, true), (65, false)];
+
+/// By which number the keys are remainders, and containers of so many numbers: each has a key of its own, or there are few keys, however many
+/// items.
+const BY_KEYS: [(i64, &[(i64, bool)]); 2] = [(1_000_000, &UP_TO_64), (64, &[(1000, true)])];
 
 /// Checks whether the containers of the first numbers, so many, are light.
 fn check<C: Collector<Item = i64> + Drop>(
@@ -38,16 +45,11 @@ fn check<C: Collector<Item = i64> + Drop>(
 }
 
 #[test]
-fn numbers_are_light(rt: HostRuntime) -> Result<(), Fail> {
-    check(&rt, Counting::<i64>::new(), &[(100, true)])?;
-    check(&rt, SummingLong::new(Itself), &[(100, true)])?;
-    check(&rt, Reducing::<i64, _>::new(WrapAdd::new()), &[(100, true)])?;
-    Ok(())
-}
-
-#[test]
-fn lists_and_maps_are_light_up_to_64_entries(rt: HostRuntime) -> Result<(), Fail> {
+fn numbers_are_light_and_lists_and_maps_up_to_64_entries(rt: HostRuntime) -> Result<(), Fail> {
     let alloc = rt.alloc();
+    check(&rt, Counting::<i64>::new(), &ALWAYS)?;
+    check(&rt, SummingLong::new(Itself), &ALWAYS)?;
+    check(&rt, Reducing::<i64, _>::new(WrapAdd::new()), &ALWAYS)?;
     check(&rt, ToList::<i64>::new(alloc), &UP_TO_64)?;
     let first = ToMap::new(alloc, Itself, Itself, FirstOf::<i64>::new());
     check(&rt, first, &UP_TO_64)?;
@@ -57,33 +59,27 @@ fn lists_and_maps_are_light_up_to_64_entries(rt: HostRuntime) -> Result<(), Fail
 }
 
 #[test]
-fn groups_are_light_up_to_64(rt: HostRuntime) -> Result<(), Fail> {
+fn groups_are_light_up_to_64_and_where_all_inner_ones_are(rt: HostRuntime) -> Result<(), Fail> {
     let alloc = rt.alloc();
-    let counts = GroupingBy::new(alloc, Itself, Counting::<i64>::new());
-    check(&rt, counts, &UP_TO_64)?;
-    // few keys, however many items
-    let counts = GroupingBy::new(alloc, Modulo::new(64), Counting::<i64>::new());
-    check(&rt, counts, &[(1000, true)])?;
+    for (number, rows) in BY_KEYS {
+        assert!(rt; number > 0);
+        let counts = GroupingBy::new(alloc, Modulo::new(number), Counting::<i64>::new());
+        check(&rt, counts, rows)?;
+    }
+    // one group has all items
+    let lists = GroupingBy::new(alloc, Modulo::new(1), ToList::<i64>::new(alloc));
+    check(&rt, lists, &UP_TO_64)?;
     Ok(())
 }
 
 #[test]
-fn nested_containers_are_light_where_all_inner_ones_are(rt: HostRuntime) -> Result<(), Fail> {
+fn parts_and_pairs_are_light_where_both_are(rt: HostRuntime) -> Result<(), Fail> {
     let alloc = rt.alloc();
-    // one group has all items
-    let lists = GroupingBy::new(alloc, Modulo::new(1), ToList::<i64>::new(alloc));
-    check(&rt, lists, &UP_TO_64)?;
     // one side has all items: the numbers above -1, or those above 1,000
     for limit in [-1, 1000] {
         let parts = PartitioningBy::new(Above(limit), ToList::<i64>::new(alloc));
         check(&rt, parts, &UP_TO_64)?;
     }
-    Ok(())
-}
-
-#[test]
-fn pairs_are_light_where_both_are(rt: HostRuntime) -> Result<(), Fail> {
-    let alloc = rt.alloc();
     let pair = Teeing::new(Counting::<i64>::new(), ToList::<i64>::new(alloc), Pair);
     check(&rt, pair, &UP_TO_64)?;
     let pair = Teeing::new(ToList::<i64>::new(alloc), Counting::<i64>::new(), Pair);

@@ -14,25 +14,37 @@ use collectors::{
 use spliterator::NoMemory;
 use std::test::Fail;
 
+const SUM_AND_COUNT: [(&[i64], &str); 1] = [(&[1, 2, 3, 4], "(10, 4)")];
+
+const GROUPED_TOTALS: [(&[i64], &str); 1] = [(&[5, 2, 7, 4, 5], "{1=(3, 17), 0=(2, 6)}")];
+
 #[test]
 fn teeing_feeds_both(rt: HostRuntime) -> Result<(), Fail> {
     let alloc = rt.alloc();
     let totals = Teeing::new(SummingLong::new(Itself), Counting::<i64>::new(), Pair);
-    check(&rt, alloc, totals, &[(&[1, 2, 3, 4], "(10, 4)")])?;
+    check(&rt, alloc, totals, &SUM_AND_COUNT)?;
     let totals = Teeing::new(Counting::<i64>::new(), SummingLong::new(Itself), Pair);
     let groups = GroupingBy::new(alloc, Modulo::new(2), totals);
-    let expected = "{1=(3, 17), 0=(2, 6)}";
-    check(&rt, alloc, groups, &[(&[5, 2, 7, 4, 5], expected)])
+    check(&rt, alloc, groups, &GROUPED_TOTALS)
 }
+
+const PARTS_OF_GROUPS: [(&[i64], &str); 1] = [(
+    &[5, 2, 7, 4, 5],
+    "{false={0=[2]}, true={1=[5, 7, 5], 0=[4]}}",
+)];
 
 #[test]
 fn parts_of_groups(rt: HostRuntime) -> Result<(), Fail> {
     let alloc = rt.alloc();
     let groups = GroupingBy::new(alloc, Modulo::new(2), ToList::<i64>::new(alloc));
     let parts = PartitioningBy::new(Above(3), groups);
-    let expected = "{false={0=[2]}, true={1=[5, 7, 5], 0=[4]}}";
-    check(&rt, alloc, parts, &[(&[5, 2, 7, 4, 5], expected)])
+    check(&rt, alloc, parts, &PARTS_OF_GROUPS)
 }
+
+const GROUPS_OF_PARTS: [(&[i64], &str); 1] = [(
+    &[5, 2, 1, 7],
+    "{1={false=[10], true=[50, 70]}, 0={false=[20], true=[]}}",
+)];
 
 #[test]
 fn groups_of_parts(rt: HostRuntime) -> Result<(), Fail> {
@@ -40,27 +52,23 @@ fn groups_of_parts(rt: HostRuntime) -> Result<(), Fail> {
     let tens = MappingTo::<i64, _, _>::new(Times(10), ToList::<i64>::new(alloc));
     let parts = PartitioningBy::new(Above(3), tens);
     let groups = GroupingBy::new(alloc, Modulo::new(2), parts);
-    let expected = "{1={false=[10], true=[50, 70]}, 0={false=[20], true=[]}}";
-    check(&rt, alloc, groups, &[(&[5, 2, 1, 7], expected)])
+    check(&rt, alloc, groups, &GROUPS_OF_PARTS)
 }
+
+const TEXTS: [(&[&str], &str); 1] = [(&["bb", "a", "cc", "bb"], "{2={bb=bb+bb, cc=cc}, 1={a=a}}")];
+
+const NUMBERS: [(&[i64], &str); 1] = [(&[1, 101, 2, 200], "{1={1=[], 5=[101]}, 0={2=[200]}}")];
 
 #[test]
 fn groups_of_groups(rt: HostRuntime) -> Result<(), Fail> {
     let alloc = rt.alloc();
     let joined = Joining::<&str>::new(alloc, "+", "", "");
     let by_length = GroupingBy::new(alloc, Length, GroupingBy::new(alloc, Itself, joined));
-    let expected = "{2={bb=bb+bb, cc=cc}, 1={a=a}}";
-    check(
-        &rt,
-        alloc,
-        by_length,
-        &[(&["bb", "a", "cc", "bb"], expected)],
-    )?;
+    check(&rt, alloc, by_length, &TEXTS)?;
     let large = FilteringTo::new(Above(100), ToList::<i64>::new(alloc));
     let by_six = GroupingBy::new(alloc, Modulo::new(6), large);
     let by_two = GroupingBy::new(alloc, Modulo::new(2), by_six);
-    let expected = "{1={1=[], 5=[101]}, 0={2=[200]}}";
-    check(&rt, alloc, by_two, &[(&[1, 101, 2, 200], expected)])
+    check(&rt, alloc, by_two, &NUMBERS)
 }
 
 // The number of items and their sum.
@@ -88,6 +96,8 @@ fn plus(a: i64, b: i64) -> i64
     a.wrapping_add(b)
 }
 
+const CLOSURES: [(&[i64], &str); 1] = [(&[5, -2, 9], "(3, 12)")];
+
 #[test]
 fn by_closures(rt: HostRuntime) -> Result<(), Fail> {
     let collector: CollectorOf<i64, _, _, _, _, _, _, CountAndSum> = CollectorOf::new(
@@ -102,5 +112,5 @@ fn by_closures(rt: HostRuntime) -> Result<(), Fail> {
         },
         |acc: (i64, i64)| -> Result<(i64, i64), NoMemory> { Ok(acc) },
     );
-    check(&rt, rt.alloc(), collector, &[(&[5, -2, 9], "(3, 12)")])
+    check(&rt, rt.alloc(), collector, &CLOSURES)
 }

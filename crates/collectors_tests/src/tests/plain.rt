@@ -9,118 +9,147 @@ use stages::{FirstOf, LastOf, Max, Min, WrapAdd, WrapMul};
 use std::hash::RandomState;
 use std::test::Fail;
 
+const COUNTS: [(&[i64], &str); 2] = [(&[], "0"), (&[7, 7, 7], "3")];
+
+/// Sums wrap, as a `long` does.
+const SUMS: [(&[i64], &str); 2] = [
+    (&[1, 2, 3, 4, 5], "15"),
+    (&[9223372036854775806, 9223372036854775807], "-3"),
+];
+
 #[test]
 fn counts_and_sums(rt: HostRuntime) -> Result<(), Fail> {
     let alloc = rt.alloc();
-    let counting = Counting::<i64>::new();
-    check(&rt, alloc, counting, &[(&[], "0"), (&[7, 7, 7], "3")])?;
-    // sums wrap, as a `long` does
-    let greatest = [9223372036854775806, 9223372036854775807];
-    let rows: [(&[i64], &str); 2] = [(&[1, 2, 3, 4, 5], "15"), (&greatest, "-3")];
-    check(&rt, alloc, SummingLong::new(Itself), &rows)
+    check(&rt, alloc, Counting::<i64>::new(), &COUNTS)?;
+    check(&rt, alloc, SummingLong::new(Itself), &SUMS)
 }
+
+const LISTS: [(&[i64], &str); 1] = [(&[3, 1, 2], "[3, 1, 2]")];
+
+const NONE: [(&[i64], &str); 1] = [(&[], "Optional.empty")];
+
+const FIRST_TENS: [(&[i64], &str); 1] = [(&[4, 5], "Optional[40]")];
 
 #[test]
 fn lists_and_first_items(rt: HostRuntime) -> Result<(), Fail> {
     let alloc = rt.alloc();
-    let list = ToList::<i64>::new(alloc);
-    check(&rt, alloc, list, &[(&[3, 1, 2], "[3, 1, 2]")])?;
-    check(&rt, alloc, First::<i64>::new(), &[(&[], "Optional.empty")])?;
+    check(&rt, alloc, ToList::<i64>::new(alloc), &LISTS)?;
+    check(&rt, alloc, First::<i64>::new(), &NONE)?;
     let tens = MappingTo::<i64, _, _>::new(Times(10), First::<i64>::new());
-    check(&rt, alloc, tens, &[(&[4, 5], "Optional[40]")])
+    check(&rt, alloc, tens, &FIRST_TENS)
 }
 
+const LEAST: [(&[i64], &str); 1] = [(&[2, 5, 3], "Optional[2]")];
+
+const GREATEST: [(&[i64], &str); 2] = [(&[], "Optional.empty"), (&[2, 5, 3], "Optional[5]")];
+
+/// A part without items adds nothing.
+const LAST_BELOW_TEN: [(&[i64], &str); 1] = [(&[4, 9, 50, 60], "Optional[9]")];
+
 #[test]
-fn least_and_greatest(rt: HostRuntime) -> Result<(), Fail> {
+fn least_greatest_and_last(rt: HostRuntime) -> Result<(), Fail> {
     let alloc = rt.alloc();
     let least = Reducing::<i64, _>::new(Min::<i64>::new());
-    check(&rt, alloc, least, &[(&[2, 5, 3], "Optional[2]")])?;
+    check(&rt, alloc, least, &LEAST)?;
     let greatest = Reducing::<i64, _>::new(Max::<i64>::new());
-    let rows: [(&[i64], &str); 2] = [(&[], "Optional.empty"), (&[2, 5, 3], "Optional[5]")];
-    check(&rt, alloc, greatest, &rows)
+    check(&rt, alloc, greatest, &GREATEST)?;
+    let last = Reducing::<i64, _>::new(LastOf::<i64>::new());
+    check(
+        &rt,
+        alloc,
+        FilteringTo::new(Below(10), last),
+        &LAST_BELOW_TEN,
+    )
 }
+
+const PRODUCTS: [(&[i64], &str); 2] = [(&[], "Optional.empty"), (&[2, 5, 3], "Optional[30]")];
+
+const WRAPPED_SUMS: [(&[i64], &str); 1] = [(
+    &[9223372036854775807, 1],
+    "Optional[-9223372036854775808]",
+)];
 
 #[test]
 fn products_and_sums(rt: HostRuntime) -> Result<(), Fail> {
     let alloc = rt.alloc();
     let product = Reducing::<i64, _>::new(WrapMul::new());
-    let rows: [(&[i64], &str); 2] = [(&[], "Optional.empty"), (&[2, 5, 3], "Optional[30]")];
-    check(&rt, alloc, product, &rows)?;
+    check(&rt, alloc, product, &PRODUCTS)?;
     let sum = Reducing::<i64, _>::new(WrapAdd::new());
-    let expected = "Optional[-9223372036854775808]";
-    check(&rt, alloc, sum, &[(&[9223372036854775807, 1], expected)])
+    check(&rt, alloc, sum, &WRAPPED_SUMS)?;
+    // of no items, none is a hit and none is a miss
+    for limit in [0, -1] {
+        let hit = FilteringTo::new(Above(limit), First::<i64>::new());
+        check(&rt, alloc, hit, &NONE)?;
+    }
+    Ok(())
 }
 
-#[test]
-fn a_part_without_items_adds_nothing(rt: HostRuntime) -> Result<(), Fail> {
-    let last = Reducing::<i64, _>::new(LastOf::<i64>::new());
-    let small = FilteringTo::new(Below(10), last);
-    check(&rt, rt.alloc(), small, &[(&[4, 9, 50, 60], "Optional[9]")])
-}
+const PARTS: [(&[i64], &str); 3] = [
+    (&[1, 3], "{false=[1, 3], true=[]}"),
+    (&[5, 2, 7, 4, 5], "{false=[2], true=[5, 7, 4, 5]}"),
+    (&[], "{false=[], true=[]}"),
+];
 
 #[test]
 fn partitions_have_both_sides(rt: HostRuntime) -> Result<(), Fail> {
     let alloc = rt.alloc();
     let parts = PartitioningBy::new(Above(3), ToList::<i64>::new(alloc));
-    let rows: [(&[i64], &str); 3] = [
-        (&[1, 3], "{false=[1, 3], true=[]}"),
-        (&[5, 2, 7, 4, 5], "{false=[2], true=[5, 7, 4, 5]}"),
-        (&[], "{false=[], true=[]}"),
-    ];
-    check(&rt, alloc, parts, &rows)
+    check(&rt, alloc, parts, &PARTS)
 }
+
+const GROUPS: [(&[i64], &str); 2] = [(&[5, 2, 7, 4, 5], "{1=3, 0=2}"), (&[], "{}")];
+
+/// A group whose items are all filtered away keeps its key.
+const FILTERED: [(&[i64], &str); 1] = [(&[1, 2], "{1=0, 0=0}")];
 
 #[test]
 fn groups_stand_by_their_first_item(rt: HostRuntime) -> Result<(), Fail> {
     let alloc = rt.alloc();
     let counts = GroupingBy::new(alloc, Modulo::new(2), Counting::<i64>::new());
-    let rows: [(&[i64], &str); 2] = [(&[5, 2, 7, 4, 5], "{1=3, 0=2}"), (&[], "{}")];
-    check(&rt, alloc, counts, &rows)?;
-    // a group whose items are all filtered away keeps its key
+    check(&rt, alloc, counts, &GROUPS)?;
     let large = FilteringTo::new(Above(100), Counting::<i64>::new());
     let groups = GroupingBy::new(alloc, Modulo::new(2), large);
-    check(&rt, alloc, groups, &[(&[1, 2], "{1=0, 0=0}")])
+    check(&rt, alloc, groups, &FILTERED)
 }
+
+/// Keys that repeat, sorted and shuffled.
+const BY_KEYS: [(&[i64], &str); 3] = [
+    (&[1, 2, 3, 4, 5, 6, 7], "{1=[1, 4, 7], 2=[2, 5], 0=[3, 6]}"),
+    (&[0, 3, 6, 1, 4, 2, 5], "{0=[0, 3, 6], 1=[1, 4], 2=[2, 5]}"),
+    (
+        &[2, 4, 3, 5, 8, 6, 1, 9, 7],
+        "{2=[2, 5, 8], 1=[4, 1, 7], 0=[3, 6, 9]}",
+    ),
+];
 
 #[test]
 fn groups_of_repeated_sorted_and_shuffled_keys(rt: HostRuntime) -> Result<(), Fail> {
     let alloc = rt.alloc();
     let lists = GroupingBy::new(alloc, Modulo::new(3), ToList::<i64>::new(alloc));
-    let rows: [(&[i64], &str); 3] = [
-        (&[1, 2, 3, 4, 5, 6, 7], "{1=[1, 4, 7], 2=[2, 5], 0=[3, 6]}"),
-        (&[0, 3, 6, 1, 4, 2, 5], "{0=[0, 3, 6], 1=[1, 4], 2=[2, 5]}"),
-        (
-            &[2, 4, 3, 5, 8, 6, 1, 9, 7],
-            "{2=[2, 5, 8], 1=[4, 1, 7], 0=[3, 6, 9]}",
-        ),
-    ];
-    check(&rt, alloc, lists, &rows)
+    check(&rt, alloc, lists, &BY_KEYS)
 }
+
+const COUNTS_BY_HASHES: [(&[i64], &str); 1] = [(&[5, 2, 7, 4, 5], "{1=3, 0=2}")];
+
+const LAST: [(&[i64], &str); 1] = [(&[1, 2, 3, 4], "{1=3, 0=4}")];
+
+const FIRST: [(&[i64], &str); 1] = [(&[1, 2, 3, 4], "{1=1, 0=2}")];
 
 #[test]
 fn groups_by_random_hashes(rt: HostRuntime) -> Result<(), Fail> {
     let alloc = rt.alloc();
     let hashes = RandomState::new(&rt)?;
     let counts = GroupingBy::with_hasher(alloc, Modulo::new(2), Counting::<i64>::new(), hashes);
-    check(&rt, alloc, counts, &[(&[5, 2, 7, 4, 5], "{1=3, 0=2}")])?;
+    check(&rt, alloc, counts, &COUNTS_BY_HASHES)?;
     let last = ToMap::with_hasher(alloc, Modulo::new(2), Itself, LastOf::<i64>::new(), hashes);
-    check(&rt, alloc, last, &[(&[1, 2, 3, 4], "{1=3, 0=4}")])
+    check(&rt, alloc, last, &LAST)
 }
 
 #[test]
 fn maps_merge_from_left_to_right(rt: HostRuntime) -> Result<(), Fail> {
     let alloc = rt.alloc();
     let last = ToMap::<i64, _, _, _, _>::new(alloc, Modulo::new(2), Itself, LastOf::<i64>::new());
-    check(&rt, alloc, last, &[(&[1, 2, 3, 4], "{1=3, 0=4}")])?;
+    check(&rt, alloc, last, &LAST)?;
     let first = ToMap::<i64, _, _, _, _>::new(alloc, Modulo::new(2), Itself, FirstOf::<i64>::new());
-    check(&rt, alloc, first, &[(&[1, 2, 3, 4], "{1=1, 0=2}")])
-}
-
-#[test]
-fn matches_by_a_first_hit(rt: HostRuntime) -> Result<(), Fail> {
-    // of no items, none is a hit and none is a miss
-    let hit = FilteringTo::new(Below(0), First::<i64>::new());
-    check(&rt, rt.alloc(), hit, &[(&[], "Optional.empty")])?;
-    let miss = FilteringTo::new(Above(-1), First::<i64>::new());
-    check(&rt, rt.alloc(), miss, &[(&[], "Optional.empty")])
+    check(&rt, alloc, first, &FIRST)
 }

@@ -22,23 +22,24 @@ fn joined<T: Value, O: Operator<T>>(operator: &O, a: &T, b: &T) -> Result<T, NoM
 }
 
 /// The function, a number, and what it becomes.
+const MAPPED: [(NumberFunction, i64, i64); 11] = [
+    (NumberFunction::Add(5), -7, -2),
+    (NumberFunction::Add(1), i64::MAX, i64::MIN),
+    (NumberFunction::Mul(-3), 5, -15),
+    (NumberFunction::Mul(-1), i64::MIN, i64::MIN),
+    (NumberFunction::Mul(4), 1 << 62, 0),
+    (NumberFunction::Negate, 5, -5),
+    (NumberFunction::Negate, i64::MIN, i64::MIN),
+    (NumberFunction::Itself, -4, -4),
+    (NumberFunction::Mod(3), -1, 2),
+    (NumberFunction::Mod(3), 7, 1),
+    // 2^63 is 2 more than 3 times 3074457345618258602
+    (NumberFunction::Mod(3), i64::MIN, 1),
+];
+
 #[test]
 fn numbers_are_mapped(rt: HostRuntime) -> Result<(), Fail> {
-    let rows: [(NumberFunction, i64, i64); 11] = [
-        (NumberFunction::Add(5), -7, -2),
-        (NumberFunction::Add(1), i64::MAX, i64::MIN),
-        (NumberFunction::Mul(-3), 5, -15),
-        (NumberFunction::Mul(-1), i64::MIN, i64::MIN),
-        (NumberFunction::Mul(4), 1 << 62, 0),
-        (NumberFunction::Negate, 5, -5),
-        (NumberFunction::Negate, i64::MIN, i64::MIN),
-        (NumberFunction::Itself, -4, -4),
-        (NumberFunction::Mod(3), -1, 2),
-        (NumberFunction::Mod(3), 7, 1),
-        // 2^63 is 2 more than 3 times 3074457345618258602
-        (NumberFunction::Mod(3), i64::MIN, 1),
-    ];
-    for (function, x, wanted) in rows {
+    for (function, x, wanted) in MAPPED {
         let found = image(&NumberMapping::of(function), &x)?;
         assert!(rt; found == wanted, "{x} becomes {found}");
     }
@@ -46,40 +47,41 @@ fn numbers_are_mapped(rt: HostRuntime) -> Result<(), Fail> {
 }
 
 /// The number, the divisor, and the least remainder that isn't negative. A divisor below 1 counts as 1.
+const DIVIDED: [(i64, i64, i64); 29] = [
+    (0, 7, 0),
+    (6, 7, 6),
+    (7, 7, 0),
+    (-7, 7, 0),
+    (-8, 7, 6),
+    (999, 1000, 999),
+    (-1000, 1000, 0),
+    (-1001, 1000, 999),
+    (1 << 32, (1 << 32) + 1, 1 << 32),
+    (i64::MAX, 1000, 807),
+    (i64::MAX, i64::MAX, 0),
+    (i64::MAX - 1, i64::MAX, i64::MAX - 1),
+    (i64::MIN, 1000, 192),
+    (i64::MIN, i64::MAX, i64::MAX - 1),
+    (i64::MIN + 1, i64::MAX, 0),
+    (i64::MAX, 1 << 62, 4611686018427387903),
+    (i64::MIN, 1 << 62, 0),
+    (i64::MIN + 1, 1 << 62, 1),
+    (i64::MIN, 0, 0),
+    (5, -3, 0),
+    (-3, 3, 0),
+    (-9, 1, 0),
+    (-9, 2, 1),
+    (i64::MIN, 2, 0),
+    (-1, 1 << 62, 4611686018427387903),
+    (-1, i64::MAX, i64::MAX - 1),
+    (36, 12, 0),
+    (18, 12, 6),
+    (-20, 12, 4),
+];
+
 #[test]
 fn prepared_divisors_divide(rt: HostRuntime) -> Result<(), Fail> {
-    let rows: [(i64, i64, i64); 29] = [
-        (0, 7, 0),
-        (6, 7, 6),
-        (7, 7, 0),
-        (-7, 7, 0),
-        (-8, 7, 6),
-        (999, 1000, 999),
-        (-1000, 1000, 0),
-        (-1001, 1000, 999),
-        (1 << 32, (1 << 32) + 1, 1 << 32),
-        (i64::MAX, 1000, 807),
-        (i64::MAX, i64::MAX, 0),
-        (i64::MAX - 1, i64::MAX, i64::MAX - 1),
-        (i64::MIN, 1000, 192),
-        (i64::MIN, i64::MAX, i64::MAX - 1),
-        (i64::MIN + 1, i64::MAX, 0),
-        (i64::MAX, 1 << 62, 4611686018427387903),
-        (i64::MIN, 1 << 62, 0),
-        (i64::MIN + 1, 1 << 62, 1),
-        (i64::MIN, 0, 0),
-        (5, -3, 0),
-        (-3, 3, 0),
-        (-9, 1, 0),
-        (-9, 2, 1),
-        (i64::MIN, 2, 0),
-        (-1, 1 << 62, 4611686018427387903),
-        (-1, i64::MAX, i64::MAX - 1),
-        (36, 12, 0),
-        (18, 12, 6),
-        (-20, 12, 4),
-    ];
-    for (x, number, rest) in rows {
+    for (x, number, rest) in DIVIDED {
         let divisor = Divisor::new(number);
         let is_divided = divisor.remainder(x) == rest && divisor.divides(x) == (rest == 0);
         assert!(rt; is_divided, "{x} by {number}");
@@ -88,22 +90,23 @@ fn prepared_divisors_divide(rt: HostRuntime) -> Result<(), Fail> {
 }
 
 /// The test, a number, and whether it passes.
+const TESTED: [(NumberTest, i64, bool); 11] = [
+    (NumberTest::Less(5), 4, true),
+    (NumberTest::Less(5), 5, false),
+    (NumberTest::Greater(5), 6, true),
+    (NumberTest::Greater(5), 5, false),
+    (NumberTest::Equals(5), 5, true),
+    (NumberTest::Equals(5), -5, false),
+    (NumberTest::Divisible(3), -9, true),
+    (NumberTest::Divisible(3), -8, false),
+    (NumberTest::Divisible(3), 0, true),
+    (NumberTest::Divisible(2), i64::MIN, true),
+    (NumberTest::Divisible(3), i64::MIN, false),
+];
+
 #[test]
 fn tests_of_numbers(rt: HostRuntime) -> Result<(), Fail> {
-    let rows: [(NumberTest, i64, bool); 11] = [
-        (NumberTest::Less(5), 4, true),
-        (NumberTest::Less(5), 5, false),
-        (NumberTest::Greater(5), 6, true),
-        (NumberTest::Greater(5), 5, false),
-        (NumberTest::Equals(5), 5, true),
-        (NumberTest::Equals(5), -5, false),
-        (NumberTest::Divisible(3), -9, true),
-        (NumberTest::Divisible(3), -8, false),
-        (NumberTest::Divisible(3), 0, true),
-        (NumberTest::Divisible(2), i64::MIN, true),
-        (NumberTest::Divisible(3), i64::MIN, false),
-    ];
-    for (test, x, wanted) in rows {
+    for (test, x, wanted) in TESTED {
         assert!(rt; NumberCheck::of(test).holds(&x) == wanted, "{x}");
     }
     Ok(())
@@ -119,21 +122,22 @@ fn check_texts(rt: &impl Abort, rows: &[TextRow<'_>]) -> Result<(), Fail> {
     Ok(())
 }
 
+/// One letter has the two bytes c3 a9.
+const TESTED_TEXTS: [TextRow<'_>; 9] = [
+    (TextTest::Empty, "", true),
+    (TextTest::Empty, " ", false),
+    (TextTest::Starts(""), "", true),
+    (TextTest::Starts(""), "ab", true),
+    (TextTest::Starts("ab"), "abc", true),
+    (TextTest::Starts("ab"), "a", false),
+    (TextTest::Starts("b"), "ab", false),
+    (TextTest::Longer(1), "é", true),
+    (TextTest::Longer(2), "é", false),
+];
+
 #[test]
 fn tests_of_texts(rt: HostRuntime) -> Result<(), Fail> {
-    // one letter of the two bytes c3 a9
-    let rows: [TextRow<'_>; 9] = [
-        (TextTest::Empty, "", true),
-        (TextTest::Empty, " ", false),
-        (TextTest::Starts(""), "", true),
-        (TextTest::Starts(""), "ab", true),
-        (TextTest::Starts("ab"), "abc", true),
-        (TextTest::Starts("ab"), "a", false),
-        (TextTest::Starts("b"), "ab", false),
-        (TextTest::Longer(1), "é", true),
-        (TextTest::Longer(2), "é", false),
-    ];
-    check_texts(&rt, &rows)
+    check_texts(&rt, &TESTED_TEXTS)
 }
 
 #[test]
@@ -155,25 +159,28 @@ fn an_item_becomes_itself(rt: HostRuntime) -> Result<(), Fail> {
     Ok(())
 }
 
+const JOINED: [(NumberMerge, i64, i64, i64); 5] = [
+    (NumberMerge::First, 3, 5, 3),
+    (NumberMerge::Last, 3, 5, 5),
+    (NumberMerge::Sum, i64::MAX, 1, i64::MIN),
+    (NumberMerge::Max, 3, 5, 5),
+    (NumberMerge::Min, 3, 5, 3),
+];
+
 #[test]
 fn numbers_of_one_key_are_joined(rt: HostRuntime) -> Result<(), Fail> {
-    let rows: [(NumberMerge, i64, i64, i64); 5] = [
-        (NumberMerge::First, 3, 5, 3),
-        (NumberMerge::Last, 3, 5, 5),
-        (NumberMerge::Sum, i64::MAX, 1, i64::MIN),
-        (NumberMerge::Max, 3, 5, 5),
-        (NumberMerge::Min, 3, 5, 3),
-    ];
-    for (merge, a, b, wanted) in rows {
+    for (merge, a, b, wanted) in JOINED {
         let found = joined(&NumberMerging::of(merge), &a, &b)?;
         assert!(rt; found == wanted, "{a} and {b} become {found}");
     }
     Ok(())
 }
 
+const JOINED_TEXTS: [(TextMerge, &str); 2] = [(TextMerge::First, "a"), (TextMerge::Last, "b")];
+
 #[test]
 fn texts_of_one_key_are_joined(rt: HostRuntime) -> Result<(), Fail> {
-    for (merge, wanted) in [(TextMerge::First, "a"), (TextMerge::Last, "b")] {
+    for (merge, wanted) in JOINED_TEXTS {
         assert!(rt; joined(&TextMerging::of(merge), &"a", &"b")? == wanted);
     }
     Ok(())

@@ -41,111 +41,127 @@ fn check(rt: &(impl Abort + Alloc<A = Global>), rows: &[NumberRow<'_>]) -> Resul
     Ok(())
 }
 
-#[test]
-fn each_step_follows_the_one_before(rt: HostRuntime) -> Result<(), Fail> {
-    let thrice = NumberStage::Map(NumberFunction::Mul(3));
-    let even = NumberStage::Filter(NumberTest::Divisible(2));
-    let more = NumberStage::Map(NumberFunction::Add(1));
-    let small = NumberStage::Filter(NumberTest::Less(10));
-    let rows: [NumberRow<'_>; 6] = [
-        (&[], &[4, i64::MIN], &[4, i64::MIN], 0),
-        (&[thrice], &[1, -2], &[3, -6], 1),
-        (&[thrice, even], &[1, 2, 3, 4], &[6, 12], 2),
-        (&[even, thrice], &[1, 2, 3, 4], &[6, 12], 2),
-        (&[thrice, more, even], &[1, 2, 3], &[4, 10], 3),
-        (&[thrice, more, even, small], &[1, 2, 3], &[4], 4),
-    ];
-    check(&rt, &rows)
-}
+const LEAST: i64 = i64::MIN;
+
+const MOST: i64 = i64::MAX;
+
+const THRICE: NumberStage = NumberStage::Map(NumberFunction::Mul(3));
+
+const MORE: NumberStage = NumberStage::Map(NumberFunction::Add(1));
+
+const FAR: NumberStage = NumberStage::Map(NumberFunction::Add(MOST));
+
+const NEGATED: NumberStage = NumberStage::Map(NumberFunction::Negate);
+
+const SAME: NumberStage = NumberStage::Map(NumberFunction::Itself);
+
+const REST: NumberStage = NumberStage::Map(NumberFunction::Mod(3));
+
+const EVEN: NumberStage = NumberStage::Filter(NumberTest::Divisible(2));
+
+const SEVENS: NumberStage = NumberStage::Filter(NumberTest::Divisible(7));
+
+const SMALL: NumberStage = NumberStage::Filter(NumberTest::Less(10));
+
+const LARGE: NumberStage = NumberStage::Filter(NumberTest::Greater(3));
+
+const TWICE: NumberStage = NumberStage::Repeat(2);
+
+/// Each step follows the one before.
+const IN_ORDER: [NumberRow<'_>; 6] = [
+    (&[], &[4, LEAST], &[4, LEAST], 0),
+    (&[THRICE], &[1, -2], &[3, -6], 1),
+    (&[THRICE, EVEN], &[1, 2, 3, 4], &[6, 12], 2),
+    (&[EVEN, THRICE], &[1, 2, 3, 4], &[6, 12], 2),
+    (&[THRICE, MORE, EVEN], &[1, 2, 3], &[4, 10], 3),
+    (&[THRICE, MORE, EVEN, SMALL], &[1, 2, 3], &[4], 4),
+];
+
+/// Functions wrap at the outermost numbers.
+const WRAPPED: [NumberRow<'_>; 5] = [
+    (&[SAME, SAME], &[-7, LEAST], &[-7, LEAST], 2),
+    (&[THRICE], &[MOST, LEAST, -1], &[MOST - 2, LEAST, -3], 1),
+    (&[MORE, THRICE], &[MOST, 0], &[LEAST, 3], 2),
+    (&[NEGATED], &[LEAST, MOST, 0], &[LEAST, -MOST, 0], 1),
+    (&[FAR, FAR, THRICE], &[1], &[-3], 3),
+];
+
+/// Bounds drop numbers.
+const BOUNDED: [NumberRow<'_>; 8] = [
+    (&[LARGE], &[3, 4, LEAST, MOST], &[4, MOST], 1),
+    (&[SMALL], &[9, 10, LEAST, MOST], &[9, LEAST], 1),
+    (&[SMALL, LARGE], &[3, 4, 9, 10], &[4, 9], 2),
+    (
+        &[THRICE, SMALL, MORE, LARGE],
+        &[0, 1, 2, 3, 4],
+        &[4, 7, 10],
+        4,
+    ),
+    (&[LARGE, NEGATED, SMALL], &[3, 4], &[-4], 3),
+    (
+        &[NumberStage::Filter(NumberTest::Less(LEAST))],
+        &[LEAST, 0],
+        &[],
+        1,
+    ),
+    (
+        &[NumberStage::Filter(NumberTest::Greater(MOST))],
+        &[MOST, 0],
+        &[],
+        1,
+    ),
+    (
+        &[NumberStage::Filter(NumberTest::Equals(LEAST))],
+        &[LEAST, 0],
+        &[LEAST],
+        1,
+    ),
+];
+
+/// Remainders are not negative.
+const REMAINDERS: [NumberRow<'_>; 5] = [
+    (&[REST], &[-1, -3, LEAST, 7], &[2, 0, 1, 1], 1),
+    (&[NEGATED, REST], &[-1, 1], &[1, 2], 2),
+    (&[REST, REST], &[-4, 5], &[2, 2], 2),
+    (&[SEVENS], &[-14, 13, 0, LEAST], &[-14, 0], 1),
+    (&[EVEN], &[LEAST, MOST], &[LEAST], 1),
+];
+
+/// A number is repeated.
+const REPEATED: [NumberRow<'_>; 5] = [
+    (&[TWICE], &[7, 8], &[7, 7, 8, 8], 1),
+    (&[NumberStage::Repeat(0), NEGATED], &[7, 8], &[], 2),
+    (&[NumberStage::Repeat(1)], &[7, 8], &[7, 8], 1),
+    (&[TWICE, NEGATED, TWICE], &[7], &[-7, -7, -7, -7], 3),
+    (
+        &[NEGATED, TWICE, NumberStage::Filter(NumberTest::Less(-7))],
+        &[7, 8],
+        &[-8, -8],
+        3,
+    ),
+];
 
 #[test]
-fn functions_wrap_at_the_outermost_numbers(rt: HostRuntime) -> Result<(), Fail> {
-    let (least, most) = (i64::MIN, i64::MAX);
-    let thrice = NumberStage::Map(NumberFunction::Mul(3));
-    let more = NumberStage::Map(NumberFunction::Add(1));
-    let same = NumberStage::Map(NumberFunction::Itself);
-    let negated = NumberStage::Map(NumberFunction::Negate);
-    let far = NumberStage::Map(NumberFunction::Add(most));
-    let rows: [NumberRow<'_>; 5] = [
-        (&[same, same], &[-7, least], &[-7, least], 2),
-        (&[thrice], &[most, least, -1], &[most - 2, least, -3], 1),
-        (&[more, thrice], &[most, 0], &[least, 3], 2),
-        (&[negated], &[least, most, 0], &[least, -most, 0], 1),
-        (&[far, far, thrice], &[1], &[-3], 3),
-    ];
-    check(&rt, &rows)
-}
-
-#[test]
-fn bounds_drop_numbers(rt: HostRuntime) -> Result<(), Fail> {
-    let (least, most) = (i64::MIN, i64::MAX);
-    let thrice = NumberStage::Map(NumberFunction::Mul(3));
-    let more = NumberStage::Map(NumberFunction::Add(1));
-    let negated = NumberStage::Map(NumberFunction::Negate);
-    let some = NumberStage::Filter(NumberTest::Greater(3));
-    let few = NumberStage::Filter(NumberTest::Less(10));
-    let below = NumberStage::Filter(NumberTest::Less(least));
-    let above = NumberStage::Filter(NumberTest::Greater(most));
-    let lowest = NumberStage::Filter(NumberTest::Equals(least));
-    let rows: [NumberRow<'_>; 8] = [
-        (&[some], &[3, 4, least, most], &[4, most], 1),
-        (&[few], &[9, 10, least, most], &[9, least], 1),
-        (&[few, some], &[3, 4, 9, 10], &[4, 9], 2),
-        (&[thrice, few, more, some], &[0, 1, 2, 3, 4], &[4, 7, 10], 4),
-        (&[some, negated, few], &[3, 4], &[-4], 3),
-        (&[below], &[least, 0], &[], 1),
-        (&[above], &[most, 0], &[], 1),
-        (&[lowest], &[least, 0], &[least], 1),
-    ];
-    check(&rt, &rows)
-}
-
-#[test]
-fn remainders_are_not_negative(rt: HostRuntime) -> Result<(), Fail> {
-    let (least, most) = (i64::MIN, i64::MAX);
-    let rest = NumberStage::Map(NumberFunction::Mod(3));
-    let negated = NumberStage::Map(NumberFunction::Negate);
-    let sevens = NumberStage::Filter(NumberTest::Divisible(7));
-    let even = NumberStage::Filter(NumberTest::Divisible(2));
-    let rows: [NumberRow<'_>; 5] = [
-        (&[rest], &[-1, -3, least, 7], &[2, 0, 1, 1], 1),
-        (&[negated, rest], &[-1, 1], &[1, 2], 2),
-        (&[rest, rest], &[-4, 5], &[2, 2], 2),
-        (&[sevens], &[-14, 13, 0, least], &[-14, 0], 1),
-        (&[even], &[least, most], &[least], 1),
-    ];
-    check(&rt, &rows)
-}
-
-#[test]
-fn a_number_is_repeated(rt: HostRuntime) -> Result<(), Fail> {
-    let never = NumberStage::Repeat(0);
-    let once = NumberStage::Repeat(1);
-    let twice = NumberStage::Repeat(2);
-    let negated = NumberStage::Map(NumberFunction::Negate);
-    let small = NumberStage::Filter(NumberTest::Less(-7));
-    let rows: [NumberRow<'_>; 5] = [
-        (&[twice], &[7, 8], &[7, 7, 8, 8], 1),
-        (&[never, negated], &[7, 8], &[], 2),
-        (&[once], &[7, 8], &[7, 8], 1),
-        (&[twice, negated, twice], &[7], &[-7, -7, -7, -7], 3),
-        (&[negated, twice, small], &[7, 8], &[-8, -8], 3),
-    ];
-    check(&rt, &rows)
+fn numbers_walk_through_their_steps(rt: HostRuntime) -> Result<(), Fail> {
+    let tables: [&[NumberRow<'_>]; 5] = [&IN_ORDER, &WRAPPED, &BOUNDED, &REMAINDERS, &REPEATED];
+    for rows in tables {
+        check(&rt, rows)?;
+    }
+    Ok(())
 }
 
 /// More copies than a sink is given at once.
+const OFTEN: [(&[NumberStage], usize); 5] = [
+    (&[NumberStage::Repeat(1_024)], 1_024),
+    (&[NumberStage::Repeat(1_025)], 1_025),
+    (&[NumberStage::Repeat(3_000)], 3_000),
+    (&[TWICE, NumberStage::Repeat(700)], 1_400),
+    (&[NumberStage::Repeat(1_100), TWICE], 2_200),
+];
+
 #[test]
 fn a_number_is_repeated_often(rt: HostRuntime) -> Result<(), Fail> {
-    let twice = NumberStage::Repeat(2);
-    let rows: [(&[NumberStage], usize); 5] = [
-        (&[NumberStage::Repeat(1_024)], 1_024),
-        (&[NumberStage::Repeat(1_025)], 1_025),
-        (&[NumberStage::Repeat(3_000)], 3_000),
-        (&[twice, NumberStage::Repeat(700)], 1_400),
-        (&[NumberStage::Repeat(1_100), twice], 2_200),
-    ];
-    for (stages, number) in rows {
+    for (stages, number) in OFTEN {
         let (steps, _) = NumberSteps::front_of(rt.alloc(), stages)?;
         let found = made_at_once(rt.alloc(), &steps, &[7, 8])?;
         assert!(rt;
@@ -156,53 +172,52 @@ fn a_number_is_repeated_often(rt: HostRuntime) -> Result<(), Fail> {
     Ok(())
 }
 
+const BARRIERS: [NumberStage; 5] = [
+    NumberStage::Distinct,
+    NumberStage::Limit(1),
+    NumberStage::Skip(1),
+    NumberStage::TakeWhile(NumberTest::Less(0)),
+    NumberStage::DropWhile(NumberTest::Less(9)),
+];
+
 #[test]
 fn a_front_of_numbers_ends_at_a_barrier(rt: HostRuntime) -> Result<(), Fail> {
-    let more = NumberStage::Map(NumberFunction::Add(1));
-    let barriers = [
-        NumberStage::Distinct,
-        NumberStage::Limit(1),
-        NumberStage::Skip(1),
-        NumberStage::TakeWhile(NumberTest::Less(0)),
-        NumberStage::DropWhile(NumberTest::Less(9)),
-    ];
-    for barrier in barriers {
+    for barrier in BARRIERS {
         let rows: [NumberRow<'_>; 2] = [
-            (&[more, barrier, more], &[4, 4, 5], &[5, 5, 6], 1),
-            (&[barrier, more], &[4, 4, 5], &[4, 4, 5], 0),
+            (&[MORE, barrier, MORE], &[4, 4, 5], &[5, 5, 6], 1),
+            (&[barrier, MORE], &[4, 4, 5], &[4, 4, 5], 0),
         ];
         check(&rt, &rows)?;
     }
     Ok(())
 }
 
+const KEPT: (Operation, Option<u64>) = (Operation::Map, Some(5));
+
+const LOST: (Operation, Option<u64>) = (Operation::FlatMap, None);
+
 /// Maps alone keep the number of items, and stand in the flags' table as a map.
+const NUMBER_SIZES: [(&[NumberStage], (Operation, Option<u64>)); 5] = [
+    (&[], KEPT),
+    (&[MORE, MORE], KEPT),
+    (&[MORE, NumberStage::Limit(3)], KEPT),
+    (&[MORE, NumberStage::Filter(NumberTest::Divisible(1))], LOST),
+    (&[NumberStage::Repeat(1)], LOST),
+];
+
+/// The texts themselves keep the size.
+const TEXT_SIZES: [(TextStage<'_>, (Operation, Option<u64>)); 2] = [
+    (TextStage::MapItself, KEPT),
+    (TextStage::Words, LOST),
+];
+
 #[test]
 fn maps_alone_keep_the_size(rt: HostRuntime) -> Result<(), Fail> {
-    let more = NumberStage::Map(NumberFunction::Add(1));
-    let all = NumberStage::Filter(NumberTest::Divisible(1));
-    let (few, once) = (NumberStage::Limit(3), NumberStage::Repeat(1));
-    let kept = (Operation::Map, Some(5));
-    let lost = (Operation::FlatMap, None);
-    let rows: [(&[NumberStage], (Operation, Option<u64>)); 5] = [
-        (&[], kept),
-        (&[more, more], kept),
-        (&[more, few], kept),
-        (&[more, all], lost),
-        (&[once], lost),
-    ];
-    for (stages, wanted) in rows {
+    for (stages, wanted) in NUMBER_SIZES {
         let (steps, _) = NumberSteps::front_of(rt.alloc(), stages)?;
         assert!(rt; (steps.operation(), steps.size_after(Some(5))) == wanted);
     }
-    Ok(())
-}
-
-#[test]
-fn the_texts_themselves_keep_the_size(rt: HostRuntime) -> Result<(), Fail> {
-    let kept = (Operation::Map, Some(5));
-    let lost = (Operation::FlatMap, None);
-    for (stage, wanted) in [(TextStage::MapItself, kept), (TextStage::Words, lost)] {
+    for (stage, wanted) in TEXT_SIZES {
         let (steps, _) = TextSteps::front_of(rt.alloc(), &[stage])?;
         assert!(rt; (steps.operation(), steps.size_after(Some(5))) == wanted);
     }
@@ -234,49 +249,71 @@ fn check_texts(rt: &(impl Abort + Alloc<A = Global>), rows: &[TextRow<'_>]) -> R
     Ok(())
 }
 
+const TEXT_BARRIERS: [TextStage<'_>; 5] = [
+    TextStage::Distinct,
+    TextStage::Limit(1),
+    TextStage::Skip(1),
+    TextStage::TakeWhile(TextTest::Empty),
+    TextStage::DropWhile(TextTest::Empty),
+];
+
 #[test]
 fn a_front_of_texts_ends_at_a_barrier(rt: HostRuntime) -> Result<(), Fail> {
-    let barriers = [
-        TextStage::Distinct,
-        TextStage::Limit(1),
-        TextStage::Skip(1),
-        TextStage::TakeWhile(TextTest::Empty),
-        TextStage::DropWhile(TextTest::Empty),
-    ];
-    for barrier in barriers {
+    for barrier in TEXT_BARRIERS {
         let stages = [TextStage::Words, barrier, TextStage::Words];
         check_texts(&rt, &[(&stages, &["a b"], &["a", "b"], 1)])?;
     }
     Ok(())
 }
 
-#[test]
-fn a_text_is_cut_at_its_spaces(rt: HostRuntime) -> Result<(), Fail> {
-    let words = [TextStage::Words];
-    let rows: [TextRow<'_>; 5] = [
-        (&words, &[""], &[""], 1),
-        (&words, &[" "], &["", ""], 1),
-        (&words, &["a b"], &["a", "b"], 1),
-        (&words, &["a  b"], &["a", "", "b"], 1),
-        (&words, &[" é\t", "c "], &["", "é\t", "c", ""], 1),
-    ];
-    check_texts(&rt, &rows)
-}
+const LONG: TextStage<'_> = TextStage::Filter(TextTest::Longer(1));
+
+/// A text is cut at its spaces.
+const CUT: [TextRow<'_>; 5] = [
+    (&[TextStage::Words], &[""], &[""], 1),
+    (&[TextStage::Words], &[" "], &["", ""], 1),
+    (&[TextStage::Words], &["a b"], &["a", "b"], 1),
+    (&[TextStage::Words], &["a  b"], &["a", "", "b"], 1),
+    (
+        &[TextStage::Words],
+        &[" é\t", "c "],
+        &["", "é\t", "c", ""],
+        1,
+    ),
+];
+
+/// A text walks through its steps.
+const WALKED: [TextRow<'_>; 6] = [
+    (&[], &["a", ""], &["a", ""], 0),
+    (
+        &[TextStage::MapItself, LONG],
+        &["a", "é", "bc"],
+        &["é", "bc"],
+        2,
+    ),
+    (
+        &[TextStage::Words, TextStage::Repeat(2)],
+        &["a b"],
+        &["a", "a", "b", "b"],
+        2,
+    ),
+    (
+        &[TextStage::Repeat(2), TextStage::Words],
+        &["a b"],
+        &["a", "b", "a", "b"],
+        2,
+    ),
+    (
+        &[TextStage::Words, LONG, TextStage::Words],
+        &["a bc d", "ef"],
+        &["bc", "ef"],
+        3,
+    ),
+    (&[TextStage::Repeat(0)], &["a"], &[], 1),
+];
 
 #[test]
-fn a_text_walks_through_its_steps(rt: HostRuntime) -> Result<(), Fail> {
-    let same = TextStage::MapItself;
-    let long = TextStage::Filter(TextTest::Longer(1));
-    let never = TextStage::Repeat(0);
-    let twice = TextStage::Repeat(2);
-    let words = TextStage::Words;
-    let rows: [TextRow<'_>; 6] = [
-        (&[], &["a", ""], &["a", ""], 0),
-        (&[same, long], &["a", "é", "bc"], &["é", "bc"], 2),
-        (&[words, twice], &["a b"], &["a", "a", "b", "b"], 2),
-        (&[twice, words], &["a b"], &["a", "b", "a", "b"], 2),
-        (&[words, long, words], &["a bc d", "ef"], &["bc", "ef"], 3),
-        (&[never], &["a"], &[], 1),
-    ];
-    check_texts(&rt, &rows)
+fn texts_walk_through_their_steps(rt: HostRuntime) -> Result<(), Fail> {
+    check_texts(&rt, &CUT)?;
+    check_texts(&rt, &WALKED)
 }

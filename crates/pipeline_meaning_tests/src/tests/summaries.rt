@@ -32,43 +32,52 @@ where
 }
 
 /// The summary, the items, and the text of what is made of these.
+const OF_NUMBERS: [(NumberBase, &[i64], &str); 8] = [
+    (NumberBase::Count, &[2, 5, 3], "3"),
+    (NumberBase::Sum, &[2, 5, 3], "10"),
+    (NumberBase::Max, &[2, 5, 3], "Optional[5]"),
+    (NumberBase::Min, &[2, 5, 3], "Optional[2]"),
+    (NumberBase::First, &[2, 5, 3], "Optional[2]"),
+    (NumberBase::ToList, &[2, 5, 3], "[2, 5, 3]"),
+    (NumberBase::Max, &[], "Optional.empty"),
+    (NumberBase::ToList, &[], "[]"),
+];
+
 #[test]
 fn summaries_of_numbers(rt: HostRuntime) -> Result<(), Fail> {
     let hashes = SeededHashes::of(Seed::draw(&rt));
-    let items: &[i64] = &[2, 5, 3];
-    let rows: [(NumberBase, &[i64], &str); 8] = [
-        (NumberBase::Count, items, "3"),
-        (NumberBase::Sum, items, "10"),
-        (NumberBase::Max, items, "Optional[5]"),
-        (NumberBase::Min, items, "Optional[2]"),
-        (NumberBase::First, items, "Optional[2]"),
-        (NumberBase::ToList, items, "[2, 5, 3]"),
-        (NumberBase::Max, &[], "Optional.empty"),
-        (NumberBase::ToList, &[], "[]"),
-    ];
-    for (base, items, wanted) in rows {
+    for (base, items, wanted) in OF_NUMBERS {
         let summary = number_summary(rt.alloc(), hashes, NumberSummary::Base(base));
         check(&rt, &summary, items, wanted)?;
     }
     Ok(())
 }
 
+const COUNT: NumberInner = NumberInner::Base(NumberBase::Count);
+
+/// What is made of the numbers of each parity, the items, and the text of the groups.
+const OF_GROUPS: [(NumberSummary, &[i64], &str); 3] = [
+    (
+        NumberSummary::GroupBy(NumberFunction::Mod(3), COUNT),
+        &[1, 2, 3, 4, 5, 6],
+        "{1={1=1, 0=1, 2=1}, 0={2=1, 1=1, 0=1}}",
+    ),
+    (
+        NumberSummary::GroupBy(NumberFunction::Mod(3), COUNT),
+        &[],
+        "{}",
+    ),
+    (
+        NumberSummary::Filtering(NumberTest::Greater(2), COUNT),
+        &[1, 2, 3],
+        "{1=1, 0=0}",
+    ),
+];
+
 #[test]
 fn nested_groups(rt: HostRuntime) -> Result<(), Fail> {
     let hashes = SeededHashes::of(Seed::draw(&rt));
-    let count = NumberInner::Base(NumberBase::Count);
-    let counts = NumberSummary::GroupBy(NumberFunction::Mod(3), count);
-    let above = NumberSummary::Filtering(NumberTest::Greater(2), count);
-    let rows: [(NumberSummary, &[i64], &str); 3] = [
-        (
-            counts,
-            &[1, 2, 3, 4, 5, 6],
-            "{1={1=1, 0=1, 2=1}, 0={2=1, 1=1, 0=1}}",
-        ),
-        (counts, &[], "{}"),
-        (above, &[1, 2, 3], "{1=1, 0=0}"),
-    ];
-    for (summary, items, wanted) in rows {
+    for (summary, items, wanted) in OF_GROUPS {
         let key = NumberMapping::of(NumberFunction::Mod(2));
         let inner = number_summary(rt.alloc(), hashes, summary);
         let groups = GroupingBy::with_hasher(rt.alloc(), key, inner, hashes);
@@ -110,24 +119,33 @@ fn a_map(rt: HostRuntime) -> Result<(), Fail> {
 /// The summary, the items, and the text of what is made of these.
 type TextRow<'a> = (TextSummary<'a>, &'a [&'a str], &'a str);
 
+const OF_TEXTS: [TextRow<'_>; 4] = [
+    (
+        TextSummary::Base(TextBase::Joining("+")),
+        &["a", "", "bb"],
+        "a++bb",
+    ),
+    (
+        TextSummary::MappingLength(NumberInner::Base(NumberBase::ToList)),
+        &["a", "", "bb"],
+        "[1, 0, 2]",
+    ),
+    (
+        TextSummary::GroupBy(TextFunction::Length, TextInner::Base(TextBase::First)),
+        &["bb", "a", "cc"],
+        "{2=Optional[bb], 1=Optional[a]}",
+    ),
+    (
+        TextSummary::GroupBy(TextFunction::Itself, TextInner::Base(TextBase::Count)),
+        &["b", "", "b"],
+        "{b=2, =1}",
+    ),
+];
+
 #[test]
 fn summaries_of_texts(rt: HostRuntime) -> Result<(), Fail> {
-    let joined = TextSummary::Base(TextBase::Joining("+"));
-    let lengths = TextSummary::MappingLength(NumberInner::Base(NumberBase::ToList));
-    let firsts = TextSummary::GroupBy(TextFunction::Length, TextInner::Base(TextBase::First));
-    let counts = TextSummary::GroupBy(TextFunction::Itself, TextInner::Base(TextBase::Count));
-    let rows: [TextRow<'_>; 4] = [
-        (joined, &["a", "", "bb"], "a++bb"),
-        (lengths, &["a", "", "bb"], "[1, 0, 2]"),
-        (
-            firsts,
-            &["bb", "a", "cc"],
-            "{2=Optional[bb], 1=Optional[a]}",
-        ),
-        (counts, &["b", "", "b"], "{b=2, =1}"),
-    ];
     let hashes = SeededHashes::of(Seed::draw(&rt));
-    for (summary, items, wanted) in rows {
+    for (summary, items, wanted) in OF_TEXTS {
         let collector = text_summary(rt.alloc(), hashes, summary);
         check(&rt, &collector, items, wanted)?;
     }

@@ -1,6 +1,6 @@
 use Rattle.std.proofs.Common.{◌≤◌, ◌+◌, length}
 use Rattle.std.specs.Prelude.{flat_map}
-use Rattle.stealing_pool.proofs.stretch.feed_uncounted.Given as goal
+use Rattle.stealing_pool.proofs.stretch.feed_some.Given as goal
 
 abbrev pub invariant-loop-read : goal.invariant-loop-read
 invariant-loop-read g l =
