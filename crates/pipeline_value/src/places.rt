@@ -20,6 +20,19 @@ const FIRST_PART: u64 = 1 << 12;
 /// One worker looks at a part of at most so many items, since threads take longer to start than they would save.
 const ALONE: u64 = 1 << 16;
 
+/// How a part of so many items is looked at: by one worker where these are few, and else by all.
+fn run_over<'a, H>(items: u64, run: &Run<'a, H>) -> Run<'a, H>
+    requires settings { IsLawfulRun run.now.workers run.now.target }
+    ensures settings { IsLawfulRun result.workers result.target }
+    ensures many { 65536 < items → result.workers ≡ run.now.workers }
+{
+    Run {
+        workers: if items <= ALONE { 1 } else { run.workers },
+        target: run.target,
+        gate: run.gate,
+    }
+}
+
 /// How many images the items of a part have.
 fn count_images<R, S, A, H>(
     rt: &R,

@@ -7,4 +7,5 @@ mod fronts;
 mod groups;
 mod known_sizes;
 mod numbers;
+mod settled;
 mod texts;

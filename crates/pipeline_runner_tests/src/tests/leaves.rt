@@ -189,11 +189,12 @@ fn other_runs_take_the_workers_that_are_wanted(rt: HostRuntime) -> Result<(), Fa
     Ok(())
 }
 
-// Each barrier keeps the ten items, so that each of the six runs has ten leaves. Leaf 0 is held until another worker has ended the other nine.
+// Each barrier keeps the ten items, and stands behind a repeat, so that its items come in a run: each of the six runs has ten leaves. Leaf 0 is held
+// until another worker has ended the other nine.
 #[test]
 fn two_workers_run_behind_each_barrier(rt: HostRuntime) -> Result<(), Fail> {
     let file =
-        b"pipeline 1\nrange 0 10\nfilter less 10\nskip 0\ntakewhile less 10\ndropwhile less 0\ndistinct\nlimit 11\nsum\n";
+        b"pipeline 1\nrange 0 10\nflatmap repeat 1\nskip 0\nflatmap repeat 1\ntakewhile less 10\nflatmap repeat 1\ndropwhile less 0\ndistinct\nflatmap repeat 1\nlimit 11\nsum\n";
     let settings = Settings {
         workers: 2,
         target: 1,
