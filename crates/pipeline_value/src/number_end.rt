@@ -10,7 +10,7 @@ use crate::told::{ValueError, ran, told};
 use collectors::ToList;
 use parallel_streams::{Run, Stream};
 use pipeline_language::NumberTerminal;
-use pipeline_meaning::{NumberCheck, SeededHashes};
+use pipeline_meaning::{NumberCheck as Check, SeededHashes};
 use std::alloc::Global;
 use std::thread::Threads;
 use stealing_pool::Gate;
@@ -47,24 +47,15 @@ where
         ),
         NumberTerminal::AllMatch(test) => told(
             alloc,
-            &ran(
-                run,
-                stream.all_match(rt, alloc, run, &NumberCheck::of(test)),
-            )?,
+            &ran(run, stream.all_match(rt, alloc, run, &Check::of(test)))?,
         ),
         NumberTerminal::AnyMatch(test) => told(
             alloc,
-            &ran(
-                run,
-                stream.any_match(rt, alloc, run, &NumberCheck::of(test)),
-            )?,
+            &ran(run, stream.any_match(rt, alloc, run, &Check::of(test)))?,
         ),
         NumberTerminal::NoneMatch(test) => told(
             alloc,
-            &ran(
-                run,
-                stream.none_match(rt, alloc, run, &NumberCheck::of(test)),
-            )?,
+            &ran(run, stream.none_match(rt, alloc, run, &Check::of(test)))?,
         ),
         NumberTerminal::GroupBy(function, summary) => {
             groups_value(rt, alloc, hashes, stream, function, summary, run)
