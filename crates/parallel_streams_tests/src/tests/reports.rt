@@ -4,10 +4,12 @@ use super::answers::{limited, reported};
 use super::at;
 use super::gates::{Watch, once};
 use super::rows::{front, second_and_one};
-use parallel_streams::{Run, Stream, of};
+use parallel_streams::{Run, Stream, StreamError, of};
 use sources::RangeSplit;
+use std::alloc::Global;
 use std::process::Abort;
 use std::test::Fail;
+use std::thread::Threads;
 use stealing_pool::{RunEntry, RunReport};
 
 /// How many leaves a run had, where it was cut, and the counts of leaves; all others were skipped.
@@ -57,32 +59,25 @@ pub fn check_report(
     assert!(rt; found.0.as_slice() == items && all_tell(&found.1, entries));
 }
 
+const OF_A_LIMIT: [Entry<'_>; 2] = [(4, Some(1), &[(0, 2), (1, 3)]), (1, None, &[(0, 0)])];
+
+const OF_A_FRONT: [Entry<'_>; 2] = [(16, Some(0), &[(0, 1)]), (1, None, &[(0, 0)])];
+
+/// One entry a barrier, and one for the terminal operation. A barrier whose items all count for nothing cuts nowhere.
+const OF_EACH_BARRIER: [Entry<'_>; 3] = [
+    (3, None, &[(0, 0), (1, 0), (2, 0)]),
+    (2, Some(0), &[(0, 1)]),
+    (1, None, &[(0, 0)]),
+];
+
 #[test]
-fn a_limit_cuts_where_it_has_enough(rt: HostRuntime) -> Result<(), Fail> {
+fn a_limit_and_a_take_while_cut_and_each_barrier_has_an_entry(rt: HostRuntime) -> Result<(), Fail> {
     let found = limited(&rt, &at((1, 4)), of(RangeSplit::range(0, 10)?), 3)?;
-    let entries: [Entry<'_>; 2] = [(4, Some(1), &[(0, 2), (1, 3)]), (1, None, &[(0, 0)])];
-    check_report(&rt, &found, &[0, 1, 2], &entries);
-    Ok(())
-}
-
-#[test]
-fn a_take_while_cuts_at_its_first_failure(rt: HostRuntime) -> Result<(), Fail> {
+    check_report(&rt, &found, &[0, 1, 2], &OF_A_LIMIT);
     let found = front(&rt, &at((1, 10)), of(RangeSplit::range(0, 100)?))?;
-    let entries: [Entry<'_>; 2] = [(16, Some(0), &[(0, 1)]), (1, None, &[(0, 0)])];
-    check_report(&rt, &found, &[0, 1, 2], &entries);
-    Ok(())
-}
-
-// One entry a barrier, and one for the terminal operation. A barrier whose items all count for nothing cuts nowhere.
-#[test]
-fn each_barrier_has_an_entry(rt: HostRuntime) -> Result<(), Fail> {
+    check_report(&rt, &found, &[0, 1, 2], &OF_A_FRONT);
     let found = second_and_one(&rt, &at((1, 1)), of(RangeSplit::range(4, 7)?))?;
-    let entries: [Entry<'_>; 3] = [
-        (3, None, &[(0, 0), (1, 0), (2, 0)]),
-        (2, Some(0), &[(0, 1)]),
-        (1, None, &[(0, 0)]),
-    ];
-    check_report(&rt, &found, &[6], &entries);
+    check_report(&rt, &found, &[6], &OF_EACH_BARRIER);
     Ok(())
 }
 
@@ -99,23 +94,35 @@ fn by_number(report: &RunReport) -> u64 {
     sum
 }
 
-// Run by run, the leaves with a count are those that the gate was told of: 10 leaves and then 3 where nothing is cut, 2 of 4 and then 1 where
-// one worker is cut.
+// What is told of ten items behind a skip, or, where a leaf has more than one item, before a limit.
+fn report_of<R: Threads + Alloc<A = Global> + Sync>(
+    rt: &R,
+    run: &Run<'_, Watch>,
+    numbers: RangeSplit,
+) -> Result<RunReport, StreamError> {
+    let ten = of(numbers);
+    let found = if run.target == 1 {
+        reported(rt, run, &ten.skip(7))?
+    } else {
+        limited(rt, run, ten, 3)?
+    };
+    Ok(found.1)
+}
+
+/// Workers, the target, and how many leaves are entered: 10 leaves and then 3 where nothing is cut, 2 of 4 and then 1 where one worker is cut.
+const ENTERED: [(u32, u64, u64); 3] = [(1, 1, 13), (7, 1, 13), (1, 4, 3)];
+
+// Run by run, the leaves with a count are those that the gate was told of.
 #[test]
 fn a_report_is_that_of_the_runs_that_the_gate_saw(rt: HostRuntime) -> Result<(), Fail> {
-    for (workers, target, wanted) in [(1u32, 1u64, 13), (7, 1, 13), (1, 4, 3)] {
+    for (workers, target, wanted) in ENTERED {
         let gate = Watch::until(0, 0);
         let run = Run {
             workers,
             target,
             gate: &gate,
         };
-        let ten = of(RangeSplit::range(0, 10)?);
-        let report = if target == 1 {
-            reported(&rt, &run, &ten.skip(7))?.1
-        } else {
-            limited(&rt, &run, ten, 3)?.1
-        };
+        let report = report_of(&rt, &run, RangeSplit::range(0, 10)?)?;
         let is_of_the_runs = by_number(&report) == gate.by_number();
         assert!(rt;
             is_of_the_runs && gate.entered() == wanted,
