@@ -30,11 +30,6 @@ fn a_held_leaf_keeps_its_place(rt: HostRuntime) -> Result<(), Fail> {
     Ok(())
 }
 
-const OF_A_MILLION: [Entry<'_>; 2] = [
-    (1024, Some(0), &[(0, 1), (1, 1), (512, 1)]),
-    (1, None, &[(0, 0)]),
-];
-
 // Leaf 0 is held until the other worker has run leaf 512, where its share begins, and leaf 1. It stops at the first item of each.
 #[test]
 fn a_held_first_leaf_of_a_million_items(rt: HostRuntime) -> Result<(), Fail> {
@@ -44,7 +39,11 @@ fn a_held_first_leaf_of_a_million_items(rt: HostRuntime) -> Result<(), Fail> {
         .filter(Above(100));
     let found = limited(&rt, &by_two(1000, &gate), above, 1)?;
     gate.all_came()?;
-    check_report(&rt, &found, &[102], &OF_A_MILLION);
+    let entries: [Entry<'_>; 2] = [
+        (1024, Some(0), &[(0, 1), (1, 1), (512, 1)]),
+        (1, None, &[(0, 0)]),
+    ];
+    check_report(&rt, &found, &[102], &entries);
     Ok(())
 }
 
@@ -68,8 +67,6 @@ impl Test<i64> for Watched<'_> {
     }
 }
 
-const OF_TWO_LEAVES: [Entry<'_>; 2] = [(2, Some(0), &[(0, 1)]), (1, None, &[(0, 0)])];
-
 // Leaf 0 is held until the other leaf was entered.
 #[test]
 fn a_leaf_asks_each_1024_items_whether_it_was_cut(rt: HostRuntime) -> Result<(), Fail> {
@@ -77,7 +74,8 @@ fn a_leaf_asks_each_1024_items_whether_it_was_cut(rt: HostRuntime) -> Result<(),
     let below = of(RangeSplit::range(0, 8192)?).filter(Watched { gate: &gate });
     let found = limited(&rt, &by_two(4096, &gate), below, 1)?;
     gate.all_came()?;
-    check_report(&rt, &found, &[0], &OF_TWO_LEAVES);
+    let entries: [Entry<'_>; 2] = [(2, Some(0), &[(0, 1)]), (1, None, &[(0, 0)])];
+    check_report(&rt, &found, &[0], &entries);
     assert!(rt; gate.asked.load(Ordering::SeqCst) == 1024);
     Ok(())
 }

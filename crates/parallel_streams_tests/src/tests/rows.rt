@@ -88,22 +88,18 @@ where
     Ok((limited(rt, run, copies, most)?.0, count))
 }
 
-const BEFORE_AND_AFTER: &[i64] = &[1, 2, 5, 1];
-
-const FOUR_EIGHT: &[i64] = &[4, 8, 15];
-
 // What stands before a number above 2, what follows, the second and one, and the first none.
 fn fronts<R: Threads + Abort + Alloc<A = Global> + Sync>(
     rt: &R,
     run: &Run<'_, NoGate>,
 ) -> Result<(), StreamError> {
-    let found = front(rt, run, of(SliceSplit::new(BEFORE_AND_AFTER)))?;
+    let found = front(rt, run, of(SliceSplit::new(&[1, 2, 5, 1])))?;
     check_list(rt, &found.0, &[1, 2]);
-    let found = rest(rt, run, of(SliceSplit::new(BEFORE_AND_AFTER)))?;
+    let found = rest(rt, run, of(SliceSplit::new(&[1, 2, 5, 1])))?;
     check_list(rt, &found, &[5, 1]);
-    let found = second_and_one(rt, run, of(SliceSplit::new(FOUR_EIGHT)))?;
+    let found = second_and_one(rt, run, of(SliceSplit::new(&[4, 8, 15])))?;
     check_list(rt, &found.0, &[9]);
-    let found = limited(rt, run, of(SliceSplit::new(FOUR_EIGHT)), 0)?;
+    let found = limited(rt, run, of(SliceSplit::new(&[4, 8, 15])), 0)?;
     check_list(rt, &found.0, &[]);
     Ok(())
 }

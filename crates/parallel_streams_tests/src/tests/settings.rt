@@ -6,18 +6,16 @@ use parallel_streams::{Run, StreamError, of};
 use sources::RangeSplit;
 use std::test::Fail;
 
-const UNLAWFUL: [(u32, u64, StreamError); 4] = [
-    (0, 0, StreamError::BadWorkers),
-    (65, 0, StreamError::BadWorkers),
-    (1, 4_611_686_018_427_387_905, StreamError::BadTarget),
-    (0, 4_611_686_018_427_387_905, StreamError::BadWorkers),
-];
-
 #[test]
 fn unlawful_settings_are_refused(rt: HostRuntime) -> Result<(), Fail> {
     let gate = Watch::until(0, 0);
     let ten = of(RangeSplit::range(0, 10)?);
-    for (workers, target, error) in UNLAWFUL {
+    for (workers, target, error) in [
+        (0, 0, StreamError::BadWorkers),
+        (65, 0, StreamError::BadWorkers),
+        (1, 4_611_686_018_427_387_905, StreamError::BadTarget),
+        (0, 4_611_686_018_427_387_905, StreamError::BadWorkers),
+    ] {
         let run = Run {
             workers,
             target,
