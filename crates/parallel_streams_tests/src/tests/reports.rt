@@ -4,12 +4,10 @@ use super::answers::{limited, reported};
 use super::at;
 use super::gates::{Watch, once};
 use super::rows::{front, second_and_one};
-use parallel_streams::{Run, Stream, StreamError, of};
+use parallel_streams::{Run, Stream, of};
 use sources::RangeSplit;
-use std::alloc::Global;
 use std::process::Abort;
 use std::test::Fail;
-use std::thread::Threads;
 use stealing_pool::{RunEntry, RunReport};
 
 /// How many leaves a run had, where it was cut, and the counts of leaves; all others were skipped.
@@ -94,35 +92,23 @@ fn by_number(report: &RunReport) -> u64 {
     sum
 }
 
-// What is told of ten items behind a skip, or, where a leaf has more than one item, before a limit.
-fn report_of<R: Threads + Alloc<A = Global> + Sync>(
-    rt: &R,
-    run: &Run<'_, Watch>,
-    numbers: RangeSplit,
-) -> Result<RunReport, StreamError> {
-    let ten = of(numbers);
-    let found = if run.target == 1 {
-        reported(rt, run, &ten.skip(7))?
-    } else {
-        limited(rt, run, ten, 3)?
-    };
-    Ok(found.1)
-}
-
-/// Workers, the target, and how many leaves are entered: 10 leaves and then 3 where nothing is cut, 2 of 4 and then 1 where one worker is cut.
-const ENTERED: [(u32, u64, u64); 3] = [(1, 1, 13), (7, 1, 13), (1, 4, 3)];
-
-// Run by run, the leaves with a count are those that the gate was told of.
+// Run by run, the leaves with a count are those that the gate was told of: 10 leaves and then 3 where nothing is cut, 2 of 4 and then 1 where
+// one worker is cut.
 #[test]
 fn a_report_is_that_of_the_runs_that_the_gate_saw(rt: HostRuntime) -> Result<(), Fail> {
-    for (workers, target, wanted) in ENTERED {
+    for (workers, target, wanted) in [(1u32, 1u64, 13), (7, 1, 13), (1, 4, 3)] {
         let gate = Watch::until(0, 0);
         let run = Run {
             workers,
             target,
             gate: &gate,
         };
-        let report = report_of(&rt, &run, RangeSplit::range(0, 10)?)?;
+        let ten = of(RangeSplit::range(0, 10)?);
+        let report = if target == 1 {
+            reported(&rt, &run, &ten.skip(7))?.1
+        } else {
+            limited(&rt, &run, ten, 3)?.1
+        };
         let is_of_the_runs = by_number(&report) == gate.by_number();
         assert!(rt;
             is_of_the_runs && gate.entered() == wanted,
