@@ -61,13 +61,9 @@ enum Act {
     PublishEnough,
 }
 
-// One turn of one seat. Where it is told, the leaf in its hand and the board's cut after the turn.
+// One turn of one seat: which seat, what it does, and where it is told, the leaf in its hand and the board's cut after the turn.
 #[derive(Clone, Copy)]
-struct Step {
-    seat: usize,
-    act: Act,
-    told: Option<(Option<usize>, Option<usize>)>,
-}
+struct Step(usize, Act, Option<(Option<usize>, Option<usize>)>);
 
 // A lawful count of the leaf: the full one, or one that is enough.
 fn lawful_count<R: Abort>(rt: &R, setting: &Setting, leaf: usize, act: Act) -> u64
@@ -213,7 +209,7 @@ fn give_up_all<C: Case>(
 
 // Whether the hand and the cut are what was told.
 fn agrees(step: &Step, hand: &Option<LeafPass>, plain: &Plain) -> bool {
-    match step.told {
+    match step.2 {
         None => true,
         Some((leaf, cut)) => hand.as_ref().map(|pass| pass.leaf()) == leaf && plain.cut() == cut,
     }
@@ -252,7 +248,7 @@ fn simulate<C: Case, R: Abort>(
     let mut plain = Plain::new(alloc, setting.leaves)?;
     let mut hands = empty_hands(alloc, setting.seats)?;
     for step in steps {
-        let at = within(step.seat, setting.seats);
+        let at = within(step.0, setting.seats);
         turn(
             rt,
             &board,
@@ -260,7 +256,7 @@ fn simulate<C: Case, R: Abort>(
             &mut plain,
             &mut seats[at],
             &mut hands[at],
-            step.act,
+            step.1,
         );
         assert!(rt; agrees(step, &hands[at], &plain));
     }
@@ -302,11 +298,7 @@ fn any_step(dice: &mut Dice, setting: &Setting) -> Step {
         14..=16 => Act::Publish,
         _ => Act::PublishEnough,
     };
-    Step {
-        seat,
-        act,
-        told: None,
-    }
+    Step(seat, act, None)
 }
 
 #[test]
@@ -352,15 +344,6 @@ fn needing<R: Abort>(
     })
 }
 
-// The seat acts, has this leaf in hand then, and the cut is here.
-fn then(seat: usize, act: Act, hand: Option<usize>, cut: Option<usize>) -> Step {
-    Step {
-        seat,
-        act,
-        told: Some((hand, cut)),
-    }
-}
-
 // The counts at the end are these.
 fn play<R: Abort>(
     rt: &R,
@@ -378,110 +361,117 @@ fn play<R: Abort>(
     Ok(())
 }
 
-#[test]
-fn leaves_right_of_the_cut_are_skipped(rt: HostRuntime) -> Result<(), Fail> {
-    let setting = needing(&rt, rt.alloc(), &[2, 1, 5, 0], 3, 1)?;
-    let steps = [
-        then(0, Act::Draw, Some(0), None),
-        then(0, Act::Publish, None, None),
-        then(0, Act::Settle(0), None, None),
-        then(0, Act::Draw, Some(1), None),
-        then(0, Act::Publish, None, None),
-        then(0, Act::Settle(1), None, Some(1)),
-        then(0, Act::Draw, Some(2), Some(1)),
-        then(0, Act::Skip, None, Some(1)),
-        then(0, Act::Draw, Some(3), Some(1)),
-        then(0, Act::Skip, None, Some(1)),
-        then(0, Act::Draw, None, Some(1)),
-        then(0, Act::Draw, None, Some(1)),
-    ];
-    play(
-        &rt,
-        rt.alloc(),
-        &setting,
-        &steps,
-        &[Some(2), Some(1), None, None],
-    )
-}
+// The counts of the leaves, how many items are needed, the seats, their steps, and the counts at the end.
+type Play<'a> = (&'a [u64], u8, usize, &'a [Step], &'a [Option<u64>]);
 
-// A cut is sought though leaves left of it are not finished.
-#[test]
-fn a_gap_is_no_bar_to_a_cut(rt: HostRuntime) -> Result<(), Fail> {
-    let setting = needing(&rt, rt.alloc(), &[2, 1, 5, 0], 3, 4)?;
-    let steps = [
-        then(0, Act::Draw, Some(0), None),
-        then(1, Act::Draw, Some(1), None),
-        then(2, Act::Draw, Some(2), None),
-        then(2, Act::PublishEnough, None, None),
-        then(2, Act::Settle(2), None, Some(2)),
-        then(0, Act::Skip, Some(0), Some(2)),
-        then(0, Act::Publish, None, Some(2)),
-        then(1, Act::Publish, None, Some(2)),
-        then(1, Act::Settle(1), None, Some(1)),
-        then(0, Act::Draw, Some(3), Some(1)),
-        then(0, Act::Skip, None, Some(1)),
-        then(0, Act::Draw, None, Some(1)),
-    ];
-    play(
-        &rt,
-        rt.alloc(),
-        &setting,
-        &steps,
-        &[Some(2), Some(1), Some(3), None],
-    )
-}
+// Leaves right of the cut are skipped.
+const SKIPPED: Play<'_> = (
+    &[2, 1, 5, 0],
+    3,
+    1,
+    &[
+        Step(0, Act::Draw, Some((Some(0), None))),
+        Step(0, Act::Publish, Some((None, None))),
+        Step(0, Act::Settle(0), Some((None, None))),
+        Step(0, Act::Draw, Some((Some(1), None))),
+        Step(0, Act::Publish, Some((None, None))),
+        Step(0, Act::Settle(1), Some((None, Some(1)))),
+        Step(0, Act::Draw, Some((Some(2), Some(1)))),
+        Step(0, Act::Skip, Some((None, Some(1)))),
+        Step(0, Act::Draw, Some((Some(3), Some(1)))),
+        Step(0, Act::Skip, Some((None, Some(1)))),
+        Step(0, Act::Draw, Some((None, Some(1)))),
+        Step(0, Act::Draw, Some((None, Some(1)))),
+    ],
+    &[Some(2), Some(1), None, None],
+);
+
+// A gap is no bar to a cut: one is sought though leaves left of it are not finished.
+const PAST_A_GAP: Play<'_> = (
+    &[2, 1, 5, 0],
+    3,
+    4,
+    &[
+        Step(0, Act::Draw, Some((Some(0), None))),
+        Step(1, Act::Draw, Some((Some(1), None))),
+        Step(2, Act::Draw, Some((Some(2), None))),
+        Step(2, Act::PublishEnough, Some((None, None))),
+        Step(2, Act::Settle(2), Some((None, Some(2)))),
+        Step(0, Act::Skip, Some((Some(0), Some(2)))),
+        Step(0, Act::Publish, Some((None, Some(2)))),
+        Step(1, Act::Publish, Some((None, Some(2)))),
+        Step(1, Act::Settle(1), Some((None, Some(1)))),
+        Step(0, Act::Draw, Some((Some(3), Some(1)))),
+        Step(0, Act::Skip, Some((None, Some(1)))),
+        Step(0, Act::Draw, Some((None, Some(1)))),
+    ],
+    &[Some(2), Some(1), Some(3), None],
+);
 
 // What was published right of the leaf adds nothing to a settle up to that leaf, whichever seat settles.
-#[test]
-fn a_settle_looks_at_no_leaf_right_of_its_own(rt: HostRuntime) -> Result<(), Fail> {
-    let setting = needing(&rt, rt.alloc(), &[2, 1, 5, 0], 3, 4)?;
-    let steps = [
-        then(0, Act::Draw, Some(0), None),
-        then(2, Act::Draw, Some(2), None),
-        then(2, Act::PublishEnough, None, None),
-        then(0, Act::Publish, None, None),
-        then(0, Act::Settle(0), None, None),
-        then(2, Act::Settle(0), None, None),
-        then(3, Act::Settle(1), None, None),
-    ];
-    play(
-        &rt,
-        rt.alloc(),
-        &setting,
-        &steps,
-        &[Some(2), None, Some(3), None],
-    )
-}
+const UP_TO_ITS_OWN: Play<'_> = (
+    &[2, 1, 5, 0],
+    3,
+    4,
+    &[
+        Step(0, Act::Draw, Some((Some(0), None))),
+        Step(2, Act::Draw, Some((Some(2), None))),
+        Step(2, Act::PublishEnough, Some((None, None))),
+        Step(0, Act::Publish, Some((None, None))),
+        Step(0, Act::Settle(0), Some((None, None))),
+        Step(2, Act::Settle(0), Some((None, None))),
+        Step(3, Act::Settle(1), Some((None, None))),
+    ],
+    &[Some(2), None, Some(3), None],
+);
 
-#[test]
-fn no_items_are_enough_where_none_are_needed(rt: HostRuntime) -> Result<(), Fail> {
-    let setting = needing(&rt, rt.alloc(), &[5, 5], 0, 1)?;
-    let steps = [
-        then(0, Act::Draw, Some(0), None),
-        then(0, Act::PublishEnough, None, None),
-        then(0, Act::Settle(0), None, Some(0)),
-        then(0, Act::Draw, Some(1), Some(0)),
-        then(0, Act::Skip, None, Some(0)),
-        then(0, Act::Draw, None, Some(0)),
-    ];
-    play(&rt, rt.alloc(), &setting, &steps, &[Some(0), None])
-}
+// No items are enough where none are needed.
+const NONE_NEEDED: Play<'_> = (
+    &[5, 5],
+    0,
+    1,
+    &[
+        Step(0, Act::Draw, Some((Some(0), None))),
+        Step(0, Act::PublishEnough, Some((None, None))),
+        Step(0, Act::Settle(0), Some((None, Some(0)))),
+        Step(0, Act::Draw, Some((Some(1), Some(0)))),
+        Step(0, Act::Skip, Some((None, Some(0)))),
+        Step(0, Act::Draw, Some((None, Some(0)))),
+    ],
+    &[Some(0), None],
+);
 
 // The second seat's settle sees what the first published.
-#[test]
-fn a_settle_sees_other_seats(rt: HostRuntime) -> Result<(), Fail> {
-    let setting = needing(&rt, rt.alloc(), &[1, 1, 1], 2, 2)?;
-    let steps = [
-        then(0, Act::Draw, Some(0), None),
-        then(1, Act::Draw, Some(1), None),
-        then(0, Act::Publish, None, None),
-        then(0, Act::Settle(0), None, None),
-        then(1, Act::Publish, None, None),
-        then(1, Act::Settle(1), None, Some(1)),
+const OF_OTHER_SEATS: Play<'_> = (
+    &[1, 1, 1],
+    2,
+    2,
+    &[
+        Step(0, Act::Draw, Some((Some(0), None))),
+        Step(1, Act::Draw, Some((Some(1), None))),
+        Step(0, Act::Publish, Some((None, None))),
+        Step(0, Act::Settle(0), Some((None, None))),
+        Step(1, Act::Publish, Some((None, None))),
+        Step(1, Act::Settle(1), Some((None, Some(1)))),
         // finds no cut of its own, and tells of the other seat's
-        then(0, Act::Settle(0), None, Some(1)),
-        then(0, Act::Draw, Some(2), Some(1)),
-        then(0, Act::Skip, None, Some(1)),
-    ];
-    play(&rt, rt.alloc(), &setting, &steps, &[Some(1), Some(1), None])
+        Step(0, Act::Settle(0), Some((None, Some(1)))),
+        Step(0, Act::Draw, Some((Some(2), Some(1)))),
+        Step(0, Act::Skip, Some((None, Some(1)))),
+    ],
+    &[Some(1), Some(1), None],
+);
+
+#[test]
+fn told_orders_answer_as_told(rt: HostRuntime) -> Result<(), Fail> {
+    for (full, need, seats, steps, counts) in [
+        SKIPPED,
+        PAST_A_GAP,
+        UP_TO_ITS_OWN,
+        NONE_NEEDED,
+        OF_OTHER_SEATS,
+    ] {
+        let setting = needing(&rt, rt.alloc(), full, need, seats)?;
+        play(&rt, rt.alloc(), &setting, steps, counts)?;
+    }
+    Ok(())
 }

@@ -89,16 +89,27 @@ fn parts<R: Threads + Alloc<A = Global> + Sync>(
     collected(rt, run, numbers, &above)
 }
 
-// Both parts are always there.
+/// Numbers, and the lists of each parity of those that are not above 3 and of those that are. Both parts are always there.
+const PARTS: [(&[i64], &[(i64, &[i64])], &[(i64, &[i64])]); 2] = [
+    (
+        &[5, 2, 7, 4, 5],
+        &[(0, &[2])],
+        &[(1, &[5, 7, 5]), (0, &[4])],
+    ),
+    (&[1, 3], &[(1, &[1, 3])], &[]),
+];
+
 fn check_parts<R: Threads + Abort + Alloc<A = Global> + Sync>(
     rt: &R,
     run: &Run<'_, NoGate>,
 ) -> Result<(), StreamError> {
-    let five = parts(rt, run, &[5, 2, 7, 4, 5])?;
-    let large: [(i64, &[i64]); 2] = [(1, &[5, 7, 5]), (0, &[4])];
-    assert!(rt; has_lists(&five.no, &[(0, &[2])]) && has_lists(&five.yes, &large));
-    let small = parts(rt, run, &[1, 3])?;
-    assert!(rt; has_lists(&small.no, &[(1, &[1, 3])]) && small.yes.is_empty());
+    for (numbers, no, yes) in PARTS {
+        let found = parts(rt, run, numbers)?;
+        assert!(rt;
+            has_lists(&found.no, no) && has_lists(&found.yes, yes),
+            "{numbers:?}"
+        );
+    }
     Ok(())
 }
 

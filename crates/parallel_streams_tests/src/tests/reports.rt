@@ -57,32 +57,25 @@ pub fn check_report(
     assert!(rt; found.0.as_slice() == items && all_tell(&found.1, entries));
 }
 
+const OF_A_LIMIT: [Entry<'_>; 2] = [(4, Some(1), &[(0, 2), (1, 3)]), (1, None, &[(0, 0)])];
+
+const OF_A_FRONT: [Entry<'_>; 2] = [(16, Some(0), &[(0, 1)]), (1, None, &[(0, 0)])];
+
+/// One entry a barrier, and one for the terminal operation. A barrier whose items all count for nothing cuts nowhere.
+const OF_EACH_BARRIER: [Entry<'_>; 3] = [
+    (3, None, &[(0, 0), (1, 0), (2, 0)]),
+    (2, Some(0), &[(0, 1)]),
+    (1, None, &[(0, 0)]),
+];
+
 #[test]
-fn a_limit_cuts_where_it_has_enough(rt: HostRuntime) -> Result<(), Fail> {
+fn a_limit_and_a_take_while_cut_and_each_barrier_has_an_entry(rt: HostRuntime) -> Result<(), Fail> {
     let found = limited(&rt, &at((1, 4)), of(RangeSplit::range(0, 10)?), 3)?;
-    let entries: [Entry<'_>; 2] = [(4, Some(1), &[(0, 2), (1, 3)]), (1, None, &[(0, 0)])];
-    check_report(&rt, &found, &[0, 1, 2], &entries);
-    Ok(())
-}
-
-#[test]
-fn a_take_while_cuts_at_its_first_failure(rt: HostRuntime) -> Result<(), Fail> {
+    check_report(&rt, &found, &[0, 1, 2], &OF_A_LIMIT);
     let found = front(&rt, &at((1, 10)), of(RangeSplit::range(0, 100)?))?;
-    let entries: [Entry<'_>; 2] = [(16, Some(0), &[(0, 1)]), (1, None, &[(0, 0)])];
-    check_report(&rt, &found, &[0, 1, 2], &entries);
-    Ok(())
-}
-
-// One entry a barrier, and one for the terminal operation. A barrier whose items all count for nothing cuts nowhere.
-#[test]
-fn each_barrier_has_an_entry(rt: HostRuntime) -> Result<(), Fail> {
+    check_report(&rt, &found, &[0, 1, 2], &OF_A_FRONT);
     let found = second_and_one(&rt, &at((1, 1)), of(RangeSplit::range(4, 7)?))?;
-    let entries: [Entry<'_>; 3] = [
-        (3, None, &[(0, 0), (1, 0), (2, 0)]),
-        (2, Some(0), &[(0, 1)]),
-        (1, None, &[(0, 0)]),
-    ];
-    check_report(&rt, &found, &[6], &entries);
+    check_report(&rt, &found, &[6], &OF_EACH_BARRIER);
     Ok(())
 }
 
