@@ -1,6 +1,8 @@
 use super::{read, wrapped};
 use either::{Either, Left, Right};
-use sources::{Concat, DequeSplit, LinesSplit, MAX_RANGE, RangeSplit, RangeTooLong, SliceSplit};
+use sources::{
+    Concat, DequeSplit, LinesSplit, MAX_RANGE, RangeSplit, RangeTooLong, SliceSplit, Windowed,
+};
 use spliterator::{MAX_ESTIMATE, NoMemory, Spliterator};
 use std::alloc::Global;
 use std::process::Abort;
@@ -12,6 +14,19 @@ fn tells<S: Spliterator>(split: &S, told: u32, estimate: u64) -> bool {
     split.characteristics() == told
         && split.estimate_size() == estimate
         && split.exact_size() == if is_sized { Some(estimate) } else { None }
+}
+
+/// Whether a source of three items has this front and this rest at a number of items.
+fn is_cut<S: Windowed + Copy>(
+    alloc: Global,
+    source: S,
+    number: u64,
+    front: &[S::Item],
+    rest: &[S::Item],
+) -> Result<bool, NoMemory> {
+    let found = read(alloc, source.first(number))?;
+    let left = read(alloc, source.after_first(number))?;
+    Ok(source.count() == 3 && found.as_slice() == front && left.as_slice() == rest)
 }
 
 /// Whether a source splits into this part and this rest, where `None` stands for no part.
@@ -82,9 +97,9 @@ fn ranges_split_in_half(rt: HostRuntime) -> Result<(), Fail> {
 }
 
 #[test]
-fn ranges_lose_their_first_and_their_last(rt: HostRuntime) -> Result<(), Fail> {
-    let range = RangeSplit::closed(i64::MAX - 2, i64::MAX)?;
+fn ranges_and_slices_are_cut(rt: HostRuntime) -> Result<(), Fail> {
     let (first, second, third) = (i64::MAX - 2, i64::MAX - 1, i64::MAX);
+    let items = [first, second, third];
     let rows: [(u64, &[i64], &[i64]); 4] = [
         (0, &[], &[first, second, third]),
         (1, &[first], &[second, third]),
@@ -92,11 +107,15 @@ fn ranges_lose_their_first_and_their_last(rt: HostRuntime) -> Result<(), Fail> {
         (u64::MAX, &[first, second, third], &[]),
     ];
     for (number, front, rest) in rows {
-        let found = read(rt.alloc(), range.first(number))?;
-        let left = read(rt.alloc(), range.after_first(number))?;
+        let range = RangeSplit::closed(first, third)?;
+        let slice = SliceSplit::new(&items);
         assert!(rt;
-            found.as_slice() == front && left.as_slice() == rest,
-            "{number}"
+            is_cut(rt.alloc(), range, number, front, rest)?,
+            "range {number}"
+        );
+        assert!(rt;
+            is_cut(rt.alloc(), slice, number, front, rest)?,
+            "slice {number}"
         );
     }
     Ok(())
