@@ -1,7 +1,6 @@
-use Rattle.std.proofs.Common.{◌≡◌, ◌<◌, ℤ, List, flat_map, length, take, arith, ◌∙◌}
+use Rattle.std.proofs.Common.{◌≡◌, ◌<◌, ℤ, List, length, take, arith, ◌∙◌}
 use Rattle.std.proofs.lemmas.List.{map-id}
 use Rattle.pipeline_meaning.specs.NumberSteps.{number_images}
-use Rattle.pipeline_meaning.specs.Stages.{number_stages}
 use Rattle.pipeline_value.proofs.Telling.{behind-none, cut-told, whole-told}
 use Rattle.pipeline_value.proofs.numbers.+list_value.Goals as goal
 

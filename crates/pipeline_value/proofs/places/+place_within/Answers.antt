@@ -1,6 +1,6 @@
 -- A half without the image is left behind.
-use Rattle.std.proofs.Common.{◌≡◌, ◌≤◌, ◌+◌, ◌-◌, ◌/◌, ℕ, arith, sym, ap, subst, ◌∙◌}
-use Rattle.std.specs.Prelude.{List, flat_map, length}
+use Rattle.std.proofs.Common.{◌≡◌, ◌+◌, ◌-◌, ◌/◌, arith, sym, ap, subst, ◌∙◌}
+use Rattle.std.specs.Prelude.{flat_map, length}
 use Rattle.pipeline_value.specs.Places.{IsPlace, enough-behind, place-alone, place-behind}
 use Rattle.pipeline_value.proofs.places.+place_within.Goals as goal
 

@@ -1,5 +1,5 @@
 -- The first image that fails the test comes at the place.
-use Rattle.std.proofs.Common.{Bool, ℤ, List, [], ◌∷◌, ap, subst, ◌∙◌}
+use Rattle.std.proofs.Common.{ℤ, List, [], ◌∷◌, ap, subst, ◌∙◌}
 use Rattle.std.specs.Prelude.{Some, None, cond, flat_map, not}
 use Rattle.pipeline_meaning.specs.AtMostOne.{kept-few, then-few}
 use Rattle.pipeline_meaning.specs.Functions.{number_holds}

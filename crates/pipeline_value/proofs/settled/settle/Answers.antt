@@ -1,6 +1,6 @@
 -- A stage more, among the steps or by a part of the source.
-use Rattle.std.proofs.Common.{◌≡◌, ◌<◌, ap, sym, subst, arith, ◌∙◌}
-use Rattle.std.specs.Prelude.{IsTrue, MatchBool, flat_map, length}
+use Rattle.std.proofs.Common.{◌<◌, ap, sym, ◌∙◌}
+use Rattle.std.specs.Prelude.{flat_map, length}
 use Rattle.stages.specs.Passing.{flat_map-flat_map}
 use Rattle.pipeline_meaning.proofs.NumberFronts.{where-put}
 use Rattle.pipeline_meaning.specs.NumberSteps.{number_images}

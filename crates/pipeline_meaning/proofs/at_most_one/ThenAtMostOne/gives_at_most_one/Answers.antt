@@ -1,5 +1,5 @@
 -- Where both give at most one, so do they one after the other.
-use Rattle.std.proofs.Common.{Bool, subst}
+use Rattle.std.proofs.Common.{subst}
 use Rattle.std.proofs.lemmas.Bool.{OnTrue_from}
 use Rattle.std.specs.Bool.{OnTrue}
 use Rattle.pipeline_meaning.specs.AtMostOne.{GivesAtMostOne, then-few}
