@@ -1,4 +1,4 @@
-use Rattle.std.proofs.Common.{◌≡◌, sym, subst, map, take, length}
+use Rattle.std.proofs.Common.{sym, subst, map, take, length}
 use Rattle.barriers.specs.Needs.{need_of, CountsNone}
 use Rattle.barriers.specs.declared.demand.Need.{Need}
 use Rattle.stealing_pool.proofs.Fronts.{count_none}

@@ -1,5 +1,5 @@
-use Rattle.std.proofs.Common.{◌≡◌, ◌+◌, ℕ, List, Option, refl, subst, sym, ap, ◌∙◌, map, take, drop, true, arith, [], ◌++◌, ⊎_elim, inl, inr}
-use Rattle.std.specs.Prelude.{count_by, ◌⊎◌}
+use Rattle.std.proofs.Common.{◌≡◌, ◌+◌, ℕ, Option, refl, subst, sym, ap, ◌∙◌, map, take, drop, true, arith, [], ◌++◌, ⊎_elim, inl, inr}
+use Rattle.std.specs.Prelude.{◌⊎◌}
 use Rattle.std.proofs.lemmas.List.{take-append-drop, map-append, drop_all}
 use Rattle.barriers.specs.Needs.{Reaches}
 use Rattle.stealing_pool.specs.Jobs.{IsWithin}
