@@ -38,6 +38,12 @@ kept-few {A} p x = choice (p x)
 pub then-few : {A B C : Type 0} (first : A → List B) (second : B → List C) → GivesAtMostOne first → GivesAtMostOne second → GivesAtMostOne (λ x. flat_map second (first x))
 then-few first second few_first few_second x = let e = images-few second few_second (first x) in omega (arith, e, few_first x)
 
+-- where both are known to
+pub both-few : {A B C : Type 0} (first : A → List B) (second : B → List C) (is_first is_second : Bool) → (is_first ≡ true → GivesAtMostOne first) → (is_second ≡ true → GivesAtMostOne second)
+    → (is_first && is_second) ≡ true → GivesAtMostOne (λ x. flat_map second (first x))
+both-few first second true is_second few_first few_second both = then-few first second (few_first refl) (few_second both)
+both-few first second false is_second few_first few_second both = absurd (true≢false (sym both))
+
 -- steps of which each gives at most one
 pub after-few : {S A : Type 0} (images : S → A → List A) (is_few : S → Bool) → ((step : S) → is_few step ≡ true → GivesAtMostOne (images step))
     → (steps : List S) → list_all is_few steps ≡ true → GivesAtMostOne (images_after images steps)

@@ -10,6 +10,7 @@ ghost use Rattle.pipeline_meaning.specs.PreparedLaws.{remainder-value};
 use crate::Divisor;
 use crate::functions::{NumberChange, NumberCheck, NumberComparison, NumberMapping};
 use crate::number_blocks::{keep_all, map_all};
+use crate::small_divisor::{SmallDivisor, all_near};
 use spliterator::NoMemory;
 use stages::{Mapping, Test};
 
@@ -148,13 +149,26 @@ impl<P: Test<i64>> Test<i64> for Fails<P> {
     }
 }
 
+/// Puts each number's remainder in its place. Where the divisor is small and the numbers are near, several are taken at a time.
+fn remainders(divisor: Divisor, items: &mut Vec<i64>) -> Result<(), NoMemory>
+    ensures { OnOk result (items.new.items ≡ flat_map (λ x. int_rem_euclid x (pos divisor.number) ∷ []) items.old.items) }
+{
+    match SmallDivisor::of(divisor) {
+        Some(small) if all_near(items.as_slice()) => {
+            small.put_remainders(items.as_mut_slice());
+            Ok(())
+        }
+        _ => map_all(Remainder { divisor }, items),
+    }
+}
+
 /// Puts each number's image in its place.
 pub(crate) fn map_block(mapping: NumberMapping, items: &mut Vec<i64>) -> Result<(), NoMemory>
     ensures { OnOk result (items.new.items ≡ flat_map (λ x. mapping_image mapping x ∷ []) items.old.items) }
 {
     match mapping {
         NumberMapping::Itself => Ok(()),
-        NumberMapping::Mod(divisor) => map_all(Remainder { divisor }, items),
+        NumberMapping::Mod(divisor) => remainders(divisor, items),
         NumberMapping::Change(change) => match change {
             NumberChange::Add(summand) => map_all(Plus { summand }, items),
             NumberChange::Mul(factor) => map_all(Times { factor }, items),

@@ -9,7 +9,7 @@ ghost use Rattle.pipeline_meaning.specs.Functions.{divisor};
 #[derive(Clone, Copy, Debug)]
 pub struct Divisor {
     pub number: u64,
-    reciprocal: u64,
+    pub(crate) reciprocal: u64,
     twos: u32,
     inverse: u64,
     ghost least: { 1 ≤ number },

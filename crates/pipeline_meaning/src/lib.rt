@@ -7,12 +7,14 @@ mod block_functions;
 mod divisor;
 mod failing;
 mod functions;
+mod list_text;
 mod number_bases;
 mod number_blocks;
 mod number_copies;
 mod number_steps;
 mod number_summaries;
 mod seeded_hashes;
+mod small_divisor;
 mod spelled;
 mod summarizes;
 mod text_bases;
@@ -29,6 +31,7 @@ pub use functions::{
     Itself, NumberChange, NumberCheck, NumberComparison, NumberMapping, NumberMerging, TextCheck,
     TextLength, TextMerging,
 };
+pub use list_text::ListText;
 pub use number_bases::{NumberBaseCollector, NumberBaseContainer, NumberBaseResult, number_base};
 pub use number_steps::NumberSteps;
 pub use number_summaries::{

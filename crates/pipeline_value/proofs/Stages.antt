@@ -1,25 +1,19 @@
 -- Stages, cut at a barrier.
 use Rattle.std.proofs.Common.{◌≡◌, ◌<◌, ◌+◌, ◌-◌, ℕ, ℤ, zero, suc, List, [], ◌∷◌, length, take, drop, ap, refl, sym, ◌∙◌, arith, add-one}
-use Rattle.std.proofs.lemmas.List.{take_all, take_more}
+use Rattle.std.proofs.lemmas.List.{take_all}
 use Rattle.std.proofs.lemmas.Slice.{between_to_end}
 use Rattle.std.specs.List.{slice_index_or}
 use Rattle.pipeline_language.specs.declared.pipeline.NumberStage.{NumberStage}
 use Rattle.pipeline_language.specs.declared.pipeline.TextStage.{TextStage}
 use Rattle.pipeline_meaning.specs.Stages.{number_stage, number_stages, text_stage, text_stages}
-use Rattle.pipeline_value.specs.Narrowing.{stages-append}
-
-numbers-parted : (stages : List NumberStage) (at : ℕ) (d : NumberStage) (items : List ℤ) → at < length stages
-    → number_stages stages items ≡ number_stages (drop (suc at) stages) (number_stage (slice_index_or stages at d) (number_stages (take at stages) items))
-numbers-parted [] at d items within = absurd (omega arith)
-numbers-parted (s ∷ ss) zero d items within = refl
-numbers-parted (s ∷ ss) (suc at) d items within = numbers-parted ss at d (number_stage s items) (omega arith)
+use Rattle.pipeline_value.specs.Narrowing.{stages-parted}
 
 -- the stages up to a barrier, the barrier, and those behind it
 pub numbers-cut : (stages : List NumberStage) (at : ℕ) (d : NumberStage) (items : List ℤ) → at < length stages
     → number_stages stages items ≡ number_stages (take (length stages - (at + 1)) (drop (at + 1) stages)) (number_stage (slice_index_or stages at d) (number_stages (take at stages) items))
 numbers-cut stages at d items within =
     let kept = number_stage (slice_index_or stages at d) (number_stages (take at stages) items) in
-    numbers-parted stages at d items within ∙ ap (λ n. number_stages (drop n stages) kept) (sym (add-one at))
+    stages-parted stages at d items within ∙ ap (λ n. number_stages (drop n stages) kept) (sym (add-one at))
     ∙ ap (λ l. number_stages l kept) (sym (between_to_end stages (at + 1) (length stages) (omega arith)))
 
 -- with no barrier
@@ -41,10 +35,3 @@ texts-cut stages at d items within =
 
 pub texts-whole : (stages : List TextStage) (at : ℕ) (items : List (List ℕ)) → at ≡ length stages → text_stages (take at stages) items ≡ text_stages stages items
 texts-whole stages at items all = ap (λ l. text_stages l items) (take_all at stages (omega arith))
-
--- a stage more
-pub stage-more : (stages : List NumberStage) (at : ℕ) (d : NumberStage) (kept items : List ℤ) → at < length stages → kept ≡ number_stages (take at stages) items
-    → number_stage (slice_index_or stages at d) kept ≡ number_stages (take (at + 1) stages) items
-stage-more stages at d kept items within is =
-    let s = slice_index_or stages at d in
-    ap (number_stage s) is ∙ sym (stages-append (take at stages) (s ∷ []) items) ∙ ap (λ l. number_stages l items) (sym (take_more stages at d within))

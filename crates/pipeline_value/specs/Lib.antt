@@ -1,5 +1,6 @@
 pub mod Arrangements
 pub mod ContentLaws
+pub mod Differing
 pub mod DistinctLaws
 pub mod FitLaws
 pub mod Folds

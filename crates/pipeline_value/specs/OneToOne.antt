@@ -1,8 +1,8 @@
 -- Maps that give different numbers for different ones.
-use Rattle.std.specs.Prelude.{◌≡◌, ◌≢◌, ◌<◌, ◌+◌, ◌*◌, ◌%◌, ◌^◌, ◌-◌, All, ℕ, zero, suc, ℤ, pos, negsuc, neg_ℤ, ◌+ℤ◌, ◌*ℤ◌, List, [], ◌∷◌, length, map, unsigned_abs, int_rem, false, nat_eq, ◌≤◌}
+use Rattle.std.specs.Prelude.{◌≡◌, ◌≢◌, ◌<◌, ◌+◌, ◌*◌, ◌%◌, ◌^◌, ◌-◌, All, ℕ, zero, suc, ℤ, pos, negsuc, neg_ℤ, ◌+ℤ◌, ◌*ℤ◌, List, length, map, unsigned_abs, int_rem, false, nat_eq, ◌≤◌, refl}
 use Rattle.std.specs.List.{AllPairs, slice_index_or}
 use Rattle.std.proofs.Common.{w64, FitsSigned, of_z, ap, sym, subst, ⊎_elim, true≢false, ◌∙◌, arith}
-use Rattle.std.specs.Int.{cast_signed, int_wrap}
+use Rattle.std.specs.Int.{cast_signed, int_rem_euclid, int_wrap}
 use Rattle.std.proofs.Math.IntN.{one, *ℤ-one}
 use Rattle.std.proofs.Math.Nat.{mod-eq_of_lt, pow-suc}
 use Rattle.std.proofs.Math.Pow.{pow_mono}
@@ -13,22 +13,18 @@ use Rattle.std.proofs.lemmas.List.{get_or-map, length-map}
 use Rattle.stages.specs.Products.{wrapped_product, wrapped_product_assoc}
 use Rattle.stages.specs.Wrapping.{wrapped, wrapped-value, wrapped_sum}
 use Rattle.spliterator.specs.Values.{IsI64}
-use Rattle.pipeline_language.specs.declared.pipeline.NumberFunction.TheVariants.{Add, Mul, Negate, Itself}
-use Rattle.pipeline_language.specs.declared.pipeline.NumberStage.{NumberStage}
-use Rattle.pipeline_language.specs.declared.pipeline.NumberStage.TheVariants.{Map, Filter, Repeat, Distinct, Limit, Skip, TakeWhile, DropWhile}
+use Rattle.pipeline_language.specs.declared.pipeline.NumberFunction.TheVariants.{Add, Mul, Negate, Mod, Itself}
 use Rattle.pipeline_meaning.proofs.Inverses.{inverse_step, squared}
-use Rattle.pipeline_meaning.specs.Stages.{number_stages}
-use Rattle.pipeline_meaning.specs.Functions.{number_image}
+use Rattle.pipeline_meaning.specs.PreparedLaws.{remainder-value}
+use Rattle.pipeline_meaning.specs.Functions.{divisor, number_image}
 
--- Numbers of an i64 have images of an i64, and those that differ have images that differ.
+-- numbers of an i64 have images of an i64
+abbrev pub GivesI64 : (ℤ → ℤ) → Type 0
+GivesI64 f = (x : ℤ) → IsI64 x → IsI64 (f x)
+
+-- numbers of an i64 that differ have images that differ
 abbrev pub IsOneToOne : (ℤ → ℤ) → Type 0
-IsOneToOne f = ((x : ℤ) → IsI64 x → IsI64 (f x)) × ((x y : ℤ) → IsI64 x → IsI64 y → f x ≡ f y → x ≡ y)
-
-abbrev pub IsOneToOneMap : NumberStage → Type 0
-IsOneToOneMap (Map f) = IsOneToOne (number_image f)
-IsOneToOneMap _ = ⊥
-
--- ---- lists
+IsOneToOne f = (x y : ℤ) → IsI64 x → IsI64 y → f x ≡ f y → x ≡ y
 
 -- the images of numbers that differ differ
 pub map-apart : (f : ℤ → ℤ) (l : List ℤ) → IsOneToOne f → All IsI64 l → AllPairs (λ c d. c ≢ d) l → AllPairs (λ c d. c ≢ d) (map f l)
@@ -37,29 +33,29 @@ map-apart f l one values apart i j d before within same =
     let earlier : i < length l = omega arith in
     let first = get_or-map f l i d d earlier in
     let second = get_or-map f l j d d later in
-    apart i j d before later (one.1 (slice_index_or l i d) (slice_index_or l j d) (values i d earlier) (values j d later) (sym first ∙ same ∙ second))
+    apart i j d before later (one (slice_index_or l i d) (slice_index_or l j d) (values i d earlier) (values j d later) (sym first ∙ same ∙ second))
 
-map-values : (f : ℤ → ℤ) (l : List ℤ) → IsOneToOne f → All IsI64 l → All IsI64 (map f l)
-map-values f l one values k d within =
-    let there : k < length l = omega (arith, within, length-map l f) in
-    subst IsI64 (sym (get_or-map f l k d d there)) (one.0 (slice_index_or l k d) (values k d there))
+-- ---- which functions give an i64
 
-rest-one : (m : NumberStage) (maps : List NumberStage) → All IsOneToOneMap (m ∷ maps) → All IsOneToOneMap maps
-rest-one m maps all k d within = all (suc k) d (omega arith)
+pub add-value : (n : ℤ) → GivesI64 (number_image (Add n))
+add-value n x value = wrapped-value (x +ℤ n)
 
--- numbers that differ, through maps that are one to one
-pub maps-apart : (maps : List NumberStage) (l : List ℤ) → All IsOneToOneMap maps → All IsI64 l → AllPairs (λ c d. c ≢ d) l → AllPairs (λ c d. c ≢ d) (number_stages maps l)
-maps-apart [] l all values apart = apart
-maps-apart (Map f ∷ maps) l all values apart =
-    let one : IsOneToOne (number_image f) = all 0 Distinct (omega arith) in
-    maps-apart maps (map (number_image f) l) (rest-one (Map f) maps all) (map-values (number_image f) l one values) (map-apart (number_image f) l one values apart)
-maps-apart (Filter p ∷ maps) l all values apart = absurd (all 0 Distinct (omega arith))
-maps-apart (Repeat n ∷ maps) l all values apart = absurd (all 0 Distinct (omega arith))
-maps-apart (Distinct ∷ maps) l all values apart = absurd (all 0 Distinct (omega arith))
-maps-apart (Limit n ∷ maps) l all values apart = absurd (all 0 Distinct (omega arith))
-maps-apart (Skip n ∷ maps) l all values apart = absurd (all 0 Distinct (omega arith))
-maps-apart (TakeWhile p ∷ maps) l all values apart = absurd (all 0 Distinct (omega arith))
-maps-apart (DropWhile p ∷ maps) l all values apart = absurd (all 0 Distinct (omega arith))
+pub mul-value : (n : ℤ) → GivesI64 (number_image (Mul n))
+mul-value n x value = wrapped-value (x *ℤ n)
+
+pub negate-value : GivesI64 (number_image Negate)
+negate-value x value = wrapped-value (neg_ℤ x)
+
+-- a remainder by a divisor of an i64
+pub mod-value : (n : ℤ) → FitsSigned w64 n → GivesI64 (number_image (Mod n))
+mod-value n fits x value =
+    let k = divided n fits in
+    subst (λ d. IsI64 (int_rem_euclid x d)) (sym k.1) (remainder-value x k.0 k.2 k.3)
+  where
+    divided : (n : ℤ) → FitsSigned w64 n → (k : ℕ) × (divisor n ≡ pos k) × (1 ≤ k) × (k < 2 ^ 63)
+    divided (pos zero) fits = (1, refl, omega arith, omega arith)
+    divided (pos (suc n)) fits = (suc n, grind (arith, ints), omega arith, omega (arith, ints, fits.sfits))
+    divided (negsuc n) fits = (1, refl, omega arith, omega arith)
 
 -- ---- which functions are one to one
 
@@ -71,11 +67,11 @@ wrapped-fits x value = int_wrap_fits w64 x (fits x value)
     fits (negsuc n) value = record { sfits = omega (arith, ints) }
 
 pub itself-one_to_one : IsOneToOne (number_image Itself)
-itself-one_to_one = (λ x value. value, λ x y value_x value_y same. same)
+itself-one_to_one x y value_x value_y same = same
 
 -- the summand is taken away again
 pub add-one_to_one : (n : ℤ) → IsOneToOne (number_image (Add n))
-add-one_to_one n = (λ x value. wrapped-value (x +ℤ n), λ x y value_x value_y same. sym (back x value_x) ∙ ap (λ z. wrapped_sum z (neg_ℤ n)) same ∙ back y value_y)
+add-one_to_one n x y value_x value_y same = sym (back x value_x) ∙ ap (λ z. wrapped_sum z (neg_ℤ n)) same ∙ back y value_y
   where
     back : (x : ℤ) → IsI64 x → wrapped_sum (wrapped_sum x n) (neg_ℤ n) ≡ x
     back x value =
@@ -84,10 +80,7 @@ add-one_to_one n = (λ x value. wrapped-value (x +ℤ n), λ x y value_x value_y
 
 -- the negatives, each with the sum of both numbers
 pub negate-one_to_one : IsOneToOne (number_image Negate)
-negate-one_to_one = (
-  λ x value. wrapped-value (neg_ℤ x),
-  λ x y value_x value_y same. sym (other y x value_x) ∙ ap (λ z. wrapped_sum z (y +ℤ x)) (sym same) ∙ turned x y value_y,
-)
+negate-one_to_one x y value_x value_y same = sym (other y x value_x) ∙ ap (λ z. wrapped_sum z (y +ℤ x)) (sym same) ∙ turned x y value_y
   where
     other : (x y : ℤ) → IsI64 y → wrapped_sum (wrapped (neg_ℤ x)) (x +ℤ y) ≡ y
     other x y value =
@@ -144,11 +137,9 @@ times-one x = *ℤ-one x
 
 -- a product by an odd number is multiplied by the inverse
 pub mul-one_to_one : (n : ℤ) → unsigned_abs n % 2 ≡ 1 → IsOneToOne (number_image (Mul n))
-mul-one_to_one n odd =
-    let j = undoing n odd in (
-      λ x value. wrapped-value (x *ℤ n),
-      λ x y value_x value_y same. sym (back j.0 j.1 x value_x) ∙ ap (λ z. wrapped_product z j.0) same ∙ back j.0 j.1 y value_y,
-    )
+mul-one_to_one n odd x y value_x value_y same =
+    let j = undoing n odd in
+    sym (back j.0 j.1 x value_x) ∙ ap (λ z. wrapped_product z j.0) same ∙ back j.0 j.1 y value_y
   where
     back : (j : ℤ) → wrapped_product n j ≡ pos 1 → (x : ℤ) → IsI64 x → wrapped_product (wrapped_product x n) j ≡ x
     back j one x value =

@@ -3,6 +3,7 @@
 
 mod arranged;
 mod collected;
+mod differing;
 mod distinct_items;
 mod folds;
 mod fronts;

@@ -7,10 +7,9 @@ use crate::folds::{Fold, fold_value};
 use crate::number_maps::{map_value, strict_map_value};
 use crate::number_parts::{groups_value, pair_value, parts_value};
 use crate::told::{ValueError, ran, told};
-use collectors::ToList;
 use parallel_streams::{Run, Stream};
 use pipeline_language::NumberTerminal;
-use pipeline_meaning::{NumberCheck as Check, SeededHashes};
+use pipeline_meaning::{ListText, NumberCheck as Check, SeededHashes};
 use std::alloc::Global;
 use std::thread::Threads;
 use stealing_pool::Gate;
@@ -41,10 +40,10 @@ where
         NumberTerminal::Min => fold_value(rt, alloc, stream, Fold::Min, run),
         NumberTerminal::Count => fold_value(rt, alloc, stream, Fold::Count, run),
         NumberTerminal::FindFirst => told(alloc, &ran(run, stream.find_first(rt, alloc, run))?),
-        NumberTerminal::ToList => told(
-            alloc,
-            &ran(run, stream.collect(rt, alloc, run, &ToList::new(alloc)))?,
-        ),
+        NumberTerminal::ToList => Ok(ran(
+            run,
+            stream.collect(rt, alloc, run, &ListText::new(alloc)),
+        )?),
         NumberTerminal::AllMatch(test) => told(
             alloc,
             &ran(run, stream.all_match(rt, alloc, run, &Check::of(test)))?,

@@ -9,15 +9,14 @@ ghost use Rattle.pipeline_value.specs.Arrangements.{arranges_texts};
 ghost use Rattle.pipeline_value.specs.Value.{Tells, text_told};
 ghost use Rattle.spliterator.specs.Clones.{ClonesAlike};
 
-use crate::collected::collected;
 use crate::text_groups::text_arrangement;
 use crate::text_maps::{map_value, strict_map_value};
 use crate::text_parts::arranged_value;
 use crate::told::{ValueError, ran, told};
-use collectors::{Joining, ToList};
+use collectors::Joining;
 use parallel_streams::{Run, Source, Staged, Stream};
 use pipeline_language::TextTerminal;
-use pipeline_meaning::{SeededHashes, Spelled, TextCheck, TextSteps};
+use pipeline_meaning::{ListText, SeededHashes, Spelled, TextCheck, TextSteps};
 use sources::SliceSplit;
 use spliterator::{OrderedValue, Text};
 use std::alloc::Global;
@@ -74,7 +73,10 @@ where
     match *terminal {
         TextTerminal::Count => told(alloc, &ran(run, stream.count(rt, alloc, run))?),
         TextTerminal::FindFirst => told_first(alloc, &ran(run, stream.find_first(rt, alloc, run))?),
-        TextTerminal::ToList => collected(rt, alloc, stream, &ToList::new(alloc), run),
+        TextTerminal::ToList => Ok(ran(
+            run,
+            stream.collect(rt, alloc, run, &ListText::new(alloc)),
+        )?),
         TextTerminal::AllMatch(test) => told(
             alloc,
             &ran(run, stream.all_match(rt, alloc, run, &TextCheck::of(test)))?,

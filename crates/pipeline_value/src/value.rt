@@ -6,6 +6,7 @@ ghost use Rattle.sources.specs.Integers.{count_between, integers_between};
 ghost use Rattle.pipeline_value.specs.Ranges.{NumberBodyFits, NumberSourceFits, PipelineFits};
 ghost use Rattle.pipeline_value.specs.Value.{Tells, number_body_told, pipeline_told, source_numbers};
 
+use crate::differing::drop_distincts;
 use crate::fronts::{FRONTS, front_value};
 use crate::known_size::known_count;
 use crate::narrowed::narrowed;
@@ -16,7 +17,7 @@ use parallel_streams::Run;
 use pipeline_language::{NumberBody, NumberSource, Pipeline};
 use pipeline_meaning::SeededHashes;
 use sources::RangeSplit;
-use spliterator::Spliterator;
+use spliterator::{Spliterator, Value};
 use stages::Nothing;
 use std::alloc::Global;
 use std::thread::Threads;
@@ -73,22 +74,39 @@ fn source_value<R: Threads + Sync, H: Gate + Sync>(
         NumberSource::Closed(start, last) => closed_value(
             rt, alloc, hashes, start, last, body, run,
         ),
-        NumberSource::Numbers(numbers) => {
-            list_value(
-                rt,
-                alloc,
-                hashes,
-                numbers,
-                body.stages.as_slice(),
-                &body.terminal,
-                run,
-            )
-        }
+        NumberSource::Numbers(numbers) => { listed_value(rt, alloc, hashes, numbers, body, run) }
     }
 }
 
-/// The text of the value of a body, over a range, which is narrowed by the limits and skips that look at no item, and of which a short front
-/// may be enough.
+/// The text of the value of a body, over numbers as they stand. A `distinct` behind another is dropped.
+fn listed_value<R: Threads + Sync, H: Gate + Sync>(
+    rt: &R,
+    alloc: Global,
+    hashes: SeededHashes,
+    numbers: Vec<i64>,
+    mut body: NumberBody,
+    run: &Run<'_, H>,
+) -> Result<String, ValueError>
+    requires settings { IsLawfulRun run.now.workers run.now.target }
+    requires body { NumberBodyFits body }
+    ensures { Tells (number_body_told body numbers.items) result }
+{
+    // the call promises that the numbers are of an i64
+    numbers.is_value();
+    drop_distincts(&mut body.stages, false);
+    list_value(
+        rt,
+        alloc,
+        hashes,
+        numbers,
+        body.stages.as_slice(),
+        &body.terminal,
+        run,
+    )
+}
+
+/// The text of the value of a body, over a range. A `distinct` that its numbers come to without repeats is dropped, limits and skips that look
+/// at no item narrow the range, and a short front of it may be enough.
 fn narrowed_value<R: Threads + Sync, H: Gate + Sync>(
     rt: &R,
     alloc: Global,
@@ -101,6 +119,7 @@ fn narrowed_value<R: Threads + Sync, H: Gate + Sync>(
     requires body { NumberBodyFits body }
     ensures { Tells (number_body_told body (⟦<RangeSplit as Spliterator>⟧.items range)) result }
 {
+    drop_distincts(&mut body.stages, true);
     let range = narrowed(range, &mut body.stages);
     for size in FRONTS {
         if let Some(told) = front_value(rt, alloc, hashes, range, size, &body, run) {

@@ -35,6 +35,55 @@ const RANGES: [(&str, &str); 10] = [
     ),
 ];
 
+// What comes to a `distinct` differs anyway, or not quite.
+const DIFFERING: [(&str, &str); 12] = [
+    (
+        "range 0 30\nfilter divisible 7\ndistinct\nskip 2\ntolist",
+        "[14, 21, 28]",
+    ),
+    (
+        "range 0 30\nmap mod 7\nfilter greater 3\ndistinct\ntolist",
+        "[4, 5, 6]",
+    ),
+    (
+        "range 0 6\nflatmap repeat 2\ndistinct\ntolist",
+        "[0, 1, 2, 3, 4, 5]",
+    ),
+    (
+        "range 0 12\nmap mod 5\nlimit 8\ndistinct\ntolist",
+        "[0, 1, 2, 3, 4]",
+    ),
+    (
+        "range -3 3\ntakewhile less 2\ndistinct\nmap negate\ndistinct\ntolist",
+        "[3, 2, 1, 0, -1]",
+    ),
+    (
+        "range 0 10\ndropwhile less 4\nmap mod 3\ndistinct\ntolist",
+        "[1, 2, 0]",
+    ),
+    (
+        "range 0 10\ndistinct\ndistinct\nflatmap repeat 3\ndistinct\ncount",
+        "10",
+    ),
+    (
+        "range 0 9\nmap mul 4611686018427387904\nfilter less 1\ndistinct\ncount",
+        "3",
+    ),
+    (
+        "numbers 3 1 3 2 1\nfilter greater 1\ndistinct\ntolist",
+        "[3, 2]",
+    ),
+    (
+        "numbers 3 1 3 2 1\ndistinct\nfilter greater 1\ndistinct\ntolist",
+        "[3, 2]",
+    ),
+    (
+        "numbers 3 1 3 2 1\ndistinct\nmap mod 2\ndistinct\ntolist",
+        "[1, 0]",
+    ),
+    ("numbers 1 2 1 3 1\nskip 1\ndistinct\ntolist", "[2, 1, 3]"),
+];
+
 const LISTS: [(&str, &str); 4] = [
     (
         "numbers 3 1 3 2 1 -9223372036854775808 2 9223372036854775807 -9223372036854775808 3\n\
@@ -65,7 +114,12 @@ const TEXTS: [(&str, &str); 5] = [
 
 #[test]
 fn distinct_items_are_the_first_of_their_equals(rt: HostRuntime) -> Result<(), Fail> {
-    for rows in [RANGES.as_slice(), LISTS.as_slice(), TEXTS.as_slice()] {
+    for rows in [
+        RANGES.as_slice(),
+        DIFFERING.as_slice(),
+        LISTS.as_slice(),
+        TEXTS.as_slice(),
+    ] {
         all_told(&rt, rt.alloc(), rows)?;
     }
     Ok(())

@@ -5,7 +5,7 @@ use Rattle.stages.specs.Passing.{flat_map-flat_map}
 use Rattle.pipeline_meaning.proofs.NumberFronts.{where-put}
 use Rattle.pipeline_meaning.specs.NumberSteps.{number_images}
 use Rattle.pipeline_meaning.specs.Stages.{number_stage}
-use Rattle.pipeline_value.proofs.Stages.{stage-more}
+use Rattle.pipeline_value.specs.Narrowing.{stage-more}
 use Rattle.pipeline_value.proofs.settled.settle.Goals as goal
 
 pub loop-taken-preserved-then-branch : goal.loop-taken-preserved-then-branch

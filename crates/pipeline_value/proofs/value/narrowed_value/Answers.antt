@@ -1,10 +1,25 @@
+use Rattle.std.proofs.Common.{rules, w64, ℤ, List, subst, ◌∙◌}
+use Rattle.std.specs.Prelude.{FitsSigned}
 use Rattle.sources.specs.Integers.{integers}
+use Rattle.pipeline_value.specs.Differing.{range-told}
+use Rattle.pipeline_value.specs.Value.{Tells, number_told}
 use Rattle.pipeline_value.proofs.Telling.{narrowed-told}
 use Rattle.pipeline_value.proofs.value.narrowed_value.Goals as goal
+
+pub returns-in-Some : goal.returns-in-Some
+returns-in-Some g c =
+    let body = c.args.body in
+    let whole = c.args.range in
+    let first : FitsSigned w64 whole.next = search rules in
+    let Q : List ℤ → Type 0 = λ l. Tells (number_told body.terminal l) c.in-Some.told in
+    subst Q (c.narrowed-range.ensures.value ∙ c.drop_distincts.ensures.value (integers whole.next whole.left) (range-told whole.next whole.left first whole.within_type)) c.in-Some.ensures
 
 pub returns : goal.returns
 returns g c =
     let body = c.args.body in
+    let whole = c.args.range in
     let range = c.narrowed-range.result in
-    narrowed-told body.terminal body.stages.items c.narrowed-range.new.stages.items (integers c.args.range.next c.args.range.left) (integers range.next range.left)
-    c.number_value.result c.narrowed-range.ensures.value c.number_value.ensures
+    let items = integers whole.next whole.left in
+    let first : FitsSigned w64 whole.next = search rules in
+    narrowed-told body.terminal body.stages.items c.narrowed-range.new.stages.items items (integers range.next range.left) c.number_value.result
+    (c.narrowed-range.ensures.value ∙ c.drop_distincts.ensures.value items (range-told whole.next whole.left first whole.within_type)) c.number_value.ensures
