@@ -6,7 +6,7 @@ ghost use Rattle.collectors.specs.Texts.{join_with, joining_laws};
 ghost use Rattle.pipeline_meaning.specs.Texts.{list_text};
 
 use crate::{Spelled, Written};
-use collectors::Collector;
+use collectors::{Collector, Joining};
 use spliterator::NoMemory;
 use std::alloc::Global;
 use std::marker::PhantomData;
@@ -79,16 +79,7 @@ impl<T: Spelled> Collector for ListText<T> {
     }
 
     fn combine(&self, left: &mut Option<String>, right: Option<String>) -> Result<(), NoMemory> {
-        match right {
-            Some(later) => match left {
-                Some(texts) => push_item(texts, &later),
-                None => {
-                    *left = Some(later);
-                    Ok(())
-                }
-            },
-            None => Ok(()),
-        }
+        Joining::<String>::new(self.alloc, ", ", "", "").combine(left, right)
     }
 
     fn finish(&self, acc: Option<String>) -> Result<String, NoMemory> {
