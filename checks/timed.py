@@ -90,10 +90,13 @@ class Checks:
                         self.keep(found)
 
     def keep(self, check):
-        """Links what a crate's must-fail edits begin with, every few seconds while they run, and nothing of what an edit changed."""
+        """Links what a crate's must-fail edits begin with, every few seconds while they run. A kit that proves the crate beside its edits keeps that
+        in a folder of its own; with any other the work of the edits is linked, the last of which is the crate as it stands."""
         to, now = os.environ.get("KEPT_WORK"), time.monotonic()
         if to and check.kind == "must-fail" and check.kept and now >= self.linked.get(check.crate, 0) + LINK_EACH:
-            link_all(pathlib.Path(check.kept).with_name("seed"), pathlib.Path(to, check.crate))
+            kept = pathlib.Path(check.kept)
+            seed = kept.with_name("seed")
+            link_all(seed if seed.is_dir() else kept, pathlib.Path(to, check.crate))
             self.linked[check.crate] = time.monotonic()
 
     def table(self):
