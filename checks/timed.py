@@ -25,6 +25,8 @@ import sys
 import threading
 import time
 
+from kept_work import link_all
+
 CLOSING = re.compile(r"(\d+) passed, (\d+) failed")
 KINDS = ("proof", "tests", "must-fail", "wrong bodies")
 TICKS = os.sysconf("SC_CLK_TCK")
@@ -59,17 +61,6 @@ def check_of(process):
     kept = words[words.index("--incremental") + 1] if "--incremental" in words else ""
     kind = "wrong bodies" if "/wrong-bodies-" in kept else "must-fail" if folder.startswith("rt-edit-") else "tests" if "--test" in words else "proof"
     return Check(words[words.index("--crate-name") + 1], kind, kept, sum(map(int, stat[11:15])) / TICKS)
-
-
-def link_all(kept, to):
-    """Links each file of kept work into a folder of the same form."""
-    for file in kept.glob("*/*"):
-        linked = to / file.parent.name / file.name
-        if linked.exists() and linked.samefile(file):
-            continue
-        linked.parent.mkdir(parents=True, exist_ok=True)
-        linked.unlink(missing_ok=True)
-        linked.hardlink_to(file)
 
 
 class Checks:

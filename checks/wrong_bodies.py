@@ -25,6 +25,8 @@ import subprocess
 import sys
 import tempfile
 
+from kept_work import link_all
+
 FOLDER = "wrong-bodies"
 FUNCTION = re.compile(r"^( *)(?:pub(?:\([a-z]+\))? )?(?:(?:final|const|unsafe) )*fn (\w+)")
 OWNER = re.compile(r"^(?:pub )?(?:unsafe )?(impl\b.*|trait \w+)")
@@ -291,7 +293,7 @@ class Trial:
         if self.begun:
             # (what an earlier check kept of its edits is no use to this one)
             shutil.rmtree(self.kept)
-            RT.linked(self.begun, self.kept)
+            link_all(self.begun, pathlib.Path(self.kept))
         ran = RT.checked(self.crate, texts, ["--jobs", "1", *only], self.kept)
         said = ran.stdout.rstrip("\n").split("\n")
         # (a name that the check has not, or has twice, is left to a check of the whole)
