@@ -7,8 +7,9 @@ Run it at the top of the repository, once the libraries are built (`rt ci`, or `
 a line `file: src/..`, then pairs of lines `old: TEXT` and `new: TEXT`. One check tries as many edits of a crate as touch different
 functions, and reads no others than these and those that they call, over the work that earlier checks of the crate kept. An edit passes where
 the check says of the edited function itself that a goal isn't proved. That the function calls one that was refused, that a proof file names what
-the edit took away, or that the text can't be read is no refusal. What a pack doesn't show so is tried alone. An edit outside functions, of a constant say, is tried alone too, and passes where
-any function is refused so.
+the edit took away, or that the text can't be read is no refusal. What a pack doesn't show so is tried alone. An edit outside functions, of a constant say, has a line
+`function: NAME` with the check's name of the function that has to be refused; without one it is tried alone, on the whole crate, and passes
+where any function is refused so.
 
 Prints a line an edit, and last `N passed, M failed`.
 """
@@ -71,6 +72,12 @@ def functions_of(file, text):
         folders = (head[2], *(f"+{it}" for it in [head[2], *cycles]))
         found.append(Function(file, module, owner if head[1] else "", head[2], folders, number, last_line(lines, number, head[1])))
     return found
+
+
+def functions_in(crate):
+    """All functions of a crate."""
+    files = sorted(pathlib.Path(crate.folder, "src").rglob("*.rt"))
+    return [it for file in files for it in functions_of(str(file.relative_to(crate.folder)), file.read_text(encoding="utf-8"))]
 
 
 def head_at(lines, first):
@@ -147,16 +154,22 @@ class Edit:
         self.name, self.pairs, self.functions, self.fault = path.stem, [], [], None
         text = path.read_text(encoding="utf-8")
         self.fault = RT.edited(text, crate.folder)[1]
-        file = old = None
+        file = old = named = None
         for line in text.split("\n"):
             if line.startswith("file: "):
                 file = line[len("file: ") :].strip()
+            elif line.startswith("function: "):
+                named = line[len("function: ") :].strip()
             elif line.startswith("old: "):
                 old = line[len("old: ") :]
             elif line.startswith("new:"):
                 self.pairs.append((file, old, line[len("new:") :].removeprefix(" ")))
         if not self.fault:
             self.is_inside = all([self.find(crate, file, old) for file, old, _ in self.pairs])
+        if not self.fault and named:
+            self.functions = [it for it in functions_in(crate) if path_of(it) == named]
+            self.is_inside = len(self.functions) == 1
+            self.fault = None if self.is_inside else f"it names a function that isn't one of the crate: {named}"
 
     def find(self, crate, file, old):
         """Notes the function that a pair changes, and answers whether there is one."""
