@@ -1,6 +1,5 @@
 pub mod FirstOnes
 pub mod StageFronts
-pub mod FoldsTold
 pub mod KnownSizes
 pub mod Parts
 pub mod Stages

@@ -4,7 +4,7 @@ ghost use Rattle.parallel_streams.specs.Runs.{IsLawfulRun};
 ghost use Rattle.pipeline_value.specs.Folds.{fold_terminal};
 ghost use Rattle.pipeline_value.specs.Value.{Tells, number_told};
 
-use crate::told::{ValueError, ran, told};
+use crate::told::{ValueError, ran_optional, ran_told};
 use collectors::SummingLong;
 use parallel_streams::{Run, Stream};
 use pipeline_meaning::Itself;
@@ -43,25 +43,22 @@ where
 {
     match fold {
         // a sum needs no question whether a number came before
-        Fold::Sum => told(
-            alloc,
-            &ran(
-                run,
-                stream.collect(rt, alloc, run, &SummingLong::new(Itself)),
-            )?,
-        ),
-        Fold::Product => told(
-            alloc,
-            &ran(run, stream.reduce(rt, alloc, run, 1, &WrapMul::new()))?,
-        ),
-        Fold::Max => told(
-            alloc,
-            &ran(run, stream.reduce_optional(rt, alloc, run, &Max::new()))?,
-        ),
-        Fold::Min => told(
-            alloc,
-            &ran(run, stream.reduce_optional(rt, alloc, run, &Min::new()))?,
-        ),
-        Fold::Count => told(alloc, &ran(run, stream.count(rt, alloc, run))?),
+        Fold::Sum => {
+            let sum = SummingLong::new(Itself);
+            ran_told(alloc, run, stream.collect(rt, alloc, run, &sum))
+        }
+        Fold::Product => {
+            let product = WrapMul::new();
+            ran_told(alloc, run, stream.reduce(rt, alloc, run, 1, &product))
+        }
+        Fold::Max => {
+            let larger = Max::new();
+            ran_optional(alloc, run, stream.reduce_optional(rt, alloc, run, &larger))
+        }
+        Fold::Min => {
+            let smaller = Min::new();
+            ran_optional(alloc, run, stream.reduce_optional(rt, alloc, run, &smaller))
+        }
+        Fold::Count => ran_told(alloc, run, stream.count(rt, alloc, run)),
     }
 }

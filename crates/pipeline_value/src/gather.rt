@@ -7,10 +7,11 @@ ghost use Rattle.stages.specs.Distinct.{distinct};
 ghost use Rattle.parallel_streams.specs.Leaves.{ArePlanned};
 ghost use Rattle.parallel_streams.specs.Runs.{IsLawfulRun};
 ghost use Rattle.split_tree.specs.Plan.{leaves_of, tree_of};
+ghost use Rattle.stealing_pool.specs.Fronts.{IsFront, folding};
 
 use crate::distinct_items::DistinctItems;
-use barriers::{Barrier, Whole};
-use collectors::{ToList, finish_container};
+use barriers::{Barrier, Demand, Whole};
+use collectors::{Collector, ToList, finish_container};
 use parallel_streams::Run;
 use pipeline_meaning::SeededHashes;
 use split_tree::{Plan, PlanError};
@@ -44,19 +45,50 @@ where
     requires clones { ClonesAlike A.Out.is_clone A.Out.content }
     ensures { IfOk result (λ kept. map A.Out.content kept.items ≡ B.value barrier.now (flat_map (A.expand stage.now) (S.items source))) }
 {
-    let plan = plan_of(alloc, source, run)?;
     let list = ToList::new(alloc);
+    let front = gather_into(rt, alloc, source, stage, barrier, &list, run)?;
+    apply_to_front(barrier, front)
+}
+
+/// The container in which a collector gathers a source's items behind a stage. The leaves run once, as far as the demand asks.
+fn gather_into<R, S, A, D, C, H>(
+    rt: &R,
+    alloc: Global,
+    source: S,
+    stage: &A,
+    demand: &D,
+    collector: &C,
+    run: &Run<'_, H>,
+) -> Result<C::Acc, NoMemory>
+where
+    R: Threads + Sync,
+    S: Spliterator + Drop + Send + Sync,
+    S::Item: Send,
+    A: Stage<In = S::Item> + Sync,
+    A::Out: Send,
+    D: Demand<A::Out> + Sync,
+    C: Collector<Item = A::Out> + Sync,
+    C::Acc: Send,
+    C::Out: Send,
+    H: Gate + Sync,
+    requires settings { IsLawfulRun run.now.workers run.now.target }
+    requires stage { A.ready stage.now }
+    requires demand { D.ready demand.now }
+    requires collector { C.ready collector.now }
+    ensures { IfOk result (λ acc. IsFront (folding (D.needed demand.now) (D.counted demand.now) A.Out.is_value (C.empty collector.now) (C.add collector.now)) (flat_map (A.expand stage.now) (S.items source)) (C.content collector.now acc)) }
+{
+    let plan = plan_of(alloc, source, run)?;
     let gathered = run_leaves(
         rt,
         alloc,
         &plan,
         stage,
-        barrier,
-        &list,
+        demand,
+        collector,
         run.workers,
         run.gate,
     )?;
-    apply_to_front(barrier, gathered.acc)
+    Ok(gathered.acc)
 }
 
 /// The leaves of a source under lawful settings: only want of memory can refuse them.
@@ -111,17 +143,7 @@ where
     requires stage { A.ready stage.now }
     ensures { IfOk result (λ kept. map A.Out.content kept.items ≡ distinct A.Out.same (flat_map (A.expand stage.now) (S.items source))) }
 {
-    let plan = plan_of(alloc, source, run)?;
     let first_ones = DistinctItems::new(alloc, hashes);
-    let gathered = run_leaves(
-        rt,
-        alloc,
-        &plan,
-        stage,
-        &Whole,
-        &first_ones,
-        run.workers,
-        run.gate,
-    )?;
-    finish_container(&first_ones, gathered.acc)
+    let kept = gather_into(rt, alloc, source, stage, &Whole, &first_ones, run)?;
+    finish_container(&first_ones, kept)
 }

@@ -6,7 +6,7 @@ ghost use Rattle.pipeline_value.specs.Value.{Tells, number_told};
 use crate::folds::{Fold, fold_value};
 use crate::number_maps::{map_value, strict_map_value};
 use crate::number_parts::{groups_value, pair_value, parts_value};
-use crate::told::{ValueError, ran, told};
+use crate::told::{ValueError, ran_optional, ran_text, ran_told};
 use parallel_streams::{Run, Stream};
 use pipeline_language::NumberTerminal;
 use pipeline_meaning::{ListText, NumberCheck as Check, SeededHashes};
@@ -39,23 +39,23 @@ where
         NumberTerminal::Max => fold_value(rt, alloc, stream, Fold::Max, run),
         NumberTerminal::Min => fold_value(rt, alloc, stream, Fold::Min, run),
         NumberTerminal::Count => fold_value(rt, alloc, stream, Fold::Count, run),
-        NumberTerminal::FindFirst => told(alloc, &ran(run, stream.find_first(rt, alloc, run))?),
-        NumberTerminal::ToList => Ok(ran(
-            run,
-            stream.collect(rt, alloc, run, &ListText::new(alloc)),
-        )?),
-        NumberTerminal::AllMatch(test) => told(
-            alloc,
-            &ran(run, stream.all_match(rt, alloc, run, &Check::of(test)))?,
-        ),
-        NumberTerminal::AnyMatch(test) => told(
-            alloc,
-            &ran(run, stream.any_match(rt, alloc, run, &Check::of(test)))?,
-        ),
-        NumberTerminal::NoneMatch(test) => told(
-            alloc,
-            &ran(run, stream.none_match(rt, alloc, run, &Check::of(test)))?,
-        ),
+        NumberTerminal::FindFirst => ran_optional(alloc, run, stream.find_first(rt, alloc, run)),
+        NumberTerminal::ToList => {
+            let list = ListText::new(alloc);
+            ran_text(run, stream.collect(rt, alloc, run, &list))
+        }
+        NumberTerminal::AllMatch(test) => {
+            let check = Check::of(test);
+            ran_told(alloc, run, stream.all_match(rt, alloc, run, &check))
+        }
+        NumberTerminal::AnyMatch(test) => {
+            let check = Check::of(test);
+            ran_told(alloc, run, stream.any_match(rt, alloc, run, &check))
+        }
+        NumberTerminal::NoneMatch(test) => {
+            let check = Check::of(test);
+            ran_told(alloc, run, stream.none_match(rt, alloc, run, &check))
+        }
         NumberTerminal::GroupBy(function, summary) => {
             groups_value(rt, alloc, hashes, stream, function, summary, run)
         }

@@ -54,15 +54,7 @@ where
     requires few { GivesAtMostOne (A.expand stage.now) }
     ensures { IfOk result (λ count. count ≡ length (flat_map (A.expand stage.now) (S.items part))) }
 {
-    let run = Run {
-        workers: if part.count() <= ALONE {
-            1
-        } else {
-            run.workers
-        },
-        target: run.target,
-        gate: run.gate,
-    };
+    let run = run_over(part.count(), run);
     let count = ran(&run, of(part).then(stage).count(rt, alloc, &run))?;
     Ok(count.cast_unsigned())
 }

@@ -19,47 +19,15 @@ use std::alloc::Global;
 use std::thread::Threads;
 use stealing_pool::Gate;
 
-/// A front of a source's items whose images are the first `most` images, or all where there are fewer.
-fn limited<R, S, A, H>(
-    rt: &R,
-    alloc: Global,
-    source: S,
-    stage: &A,
-    most: u64,
-    run: &Run<'_, H>,
-) -> Result<S, NoMemory>
-where
-    R: Threads + Sync,
-    S: Windowed + Copy + Drop + Send + Sync,
-    S::Item: Clone + Send + Sync,
-    A: Stage<In = S::Item, Out = i64> + Sync,
-    H: Gate + Sync,
-    requires settings { IsLawfulRun run.now.workers run.now.target }
-    requires stage { A.ready stage.now }
-    requires few { GivesAtMostOne (A.expand stage.now) }
-    ensures { IfOk result (λ part. flat_map (A.expand stage.now) (S.items part) ≡ take most (flat_map (A.expand stage.now) (S.items source))) }
-{
-    if source.count() <= most {
-        return Ok(source);
-    }
-    if most == 0 {
-        return Ok(source.first(0));
-    }
-    match place_of(rt, alloc, source, stage, most, run)? {
-        Some(place) => Ok(source.first(place + 1)),
-        None => Ok(source),
-    }
-}
-
-/// What of a source's items has the images after the first `number`.
-fn skipped<R, S, A, H>(
+/// How many of a source's items have the first `number` images, or all of them where there are fewer.
+fn items_of<R, S, A, H>(
     rt: &R,
     alloc: Global,
     source: S,
     stage: &A,
     number: u64,
     run: &Run<'_, H>,
-) -> Result<S, NoMemory>
+) -> Result<u64, NoMemory>
 where
     R: Threads + Sync,
     S: Windowed + Copy + Drop + Send + Sync,
@@ -69,29 +37,31 @@ where
     requires settings { IsLawfulRun run.now.workers run.now.target }
     requires stage { A.ready stage.now }
     requires few { GivesAtMostOne (A.expand stage.now) }
-    ensures { IfOk result (λ part. flat_map (A.expand stage.now) (S.items part) ≡ drop number (flat_map (A.expand stage.now) (S.items source))) }
+    ensures front { IfOk result (λ end. flat_map (A.expand stage.now) (take end (S.items source)) ≡ take number (flat_map (A.expand stage.now) (S.items source))) }
+    ensures rest { IfOk result (λ end. flat_map (A.expand stage.now) (drop end (S.items source)) ≡ drop number (flat_map (A.expand stage.now) (S.items source))) }
 {
-    if source.count() <= number {
-        return Ok(source.first(0));
+    let all = source.count();
+    if all <= number {
+        return Ok(all);
     }
     if number == 0 {
-        return Ok(source);
+        return Ok(0);
     }
     match place_of(rt, alloc, source, stage, number, run)? {
-        Some(place) => Ok(source.after_first(place + 1)),
-        None => Ok(source.first(0)),
+        Some(place) => Ok(place + 1),
+        None => Ok(all),
     }
 }
 
-/// A source's items in front of the first whose image fails a test, and those from there on.
-fn parted<R, S, A, H>(
+/// How many of a source's items stand in front of the first whose image fails a test.
+fn items_before_failing<R, S, A, H>(
     rt: &R,
     alloc: Global,
     source: S,
     stage: &A,
     test: NumberTest,
     run: &Run<'_, H>,
-) -> Result<(S, S), NoMemory>
+) -> Result<u64, NoMemory>
 where
     R: Threads + Sync,
     S: Windowed + Copy + Drop + Send + Sync,
@@ -101,13 +71,13 @@ where
     requires settings { IsLawfulRun run.now.workers run.now.target }
     requires stage { A.ready stage.now }
     requires few { GivesAtMostOne (A.expand stage.now) }
-    ensures taken { IfOk result (λ parts. flat_map (A.expand stage.now) (S.items parts.0) ≡ take_while (number_holds test) (flat_map (A.expand stage.now) (S.items source))) }
-    ensures dropped { IfOk result (λ parts. flat_map (A.expand stage.now) (S.items parts.1) ≡ drop_while (number_holds test) (flat_map (A.expand stage.now) (S.items source))) }
+    ensures taken { IfOk result (λ end. flat_map (A.expand stage.now) (take end (S.items source)) ≡ take_while (number_holds test) (flat_map (A.expand stage.now) (S.items source))) }
+    ensures dropped { IfOk result (λ end. flat_map (A.expand stage.now) (drop end (S.items source)) ≡ drop_while (number_holds test) (flat_map (A.expand stage.now) (S.items source))) }
 {
     let failing = Then::new(stage, Failing::of(test));
     match place_of(rt, alloc, source, &failing, 1, run)? {
-        Some(place) => Ok((source.first(place), source.after_first(place))),
-        None => Ok((source, source.first(0))),
+        Some(place) => Ok(place),
+        None => Ok(source.count()),
     }
 }
 
@@ -135,15 +105,21 @@ where
         return Ok(None);
     }
     match *barrier {
-        NumberStage::Limit(most) => Ok(Some(limited(rt, alloc, source, stage, most, run)?)),
-        NumberStage::Skip(number) => Ok(Some(skipped(rt, alloc, source, stage, number, run)?)),
+        NumberStage::Limit(most) => {
+            let end = items_of(rt, alloc, source, stage, most, run)?;
+            Ok(Some(source.first(end)))
+        }
+        NumberStage::Skip(number) => {
+            let end = items_of(rt, alloc, source, stage, number, run)?;
+            Ok(Some(source.after_first(end)))
+        }
         NumberStage::TakeWhile(test) => {
-            let (taken, _) = parted(rt, alloc, source, stage, test, run)?;
-            Ok(Some(taken))
+            let end = items_before_failing(rt, alloc, source, stage, test, run)?;
+            Ok(Some(source.first(end)))
         }
         NumberStage::DropWhile(test) => {
-            let (_, dropped) = parted(rt, alloc, source, stage, test, run)?;
-            Ok(Some(dropped))
+            let end = items_before_failing(rt, alloc, source, stage, test, run)?;
+            Ok(Some(source.after_first(end)))
         }
         _ => Ok(None),
     }

@@ -1,10 +1,8 @@
 //! What the terminals make of texts.
 
-ghost use Rattle.std.specs.Prelude.{◌≡◌, List, Ok, bytes_eq, false, option_map};
-ghost use Rattle.collectors.specs.Reductions.{first};
+ghost use Rattle.std.specs.Prelude.{◌≡◌, bytes_eq, false};
 ghost use Rattle.parallel_streams.specs.Runs.{IsLawfulRun};
 ghost use Rattle.pipeline_meaning.specs.Summaries.{itself};
-ghost use Rattle.pipeline_meaning.specs.Texts.{optional_text};
 ghost use Rattle.pipeline_value.specs.Arrangements.{arranges_texts};
 ghost use Rattle.pipeline_value.specs.Value.{Tells, text_told};
 ghost use Rattle.spliterator.specs.Clones.{ClonesAlike};
@@ -12,7 +10,7 @@ ghost use Rattle.spliterator.specs.Clones.{ClonesAlike};
 use crate::text_groups::text_arrangement;
 use crate::text_maps::{map_value, strict_map_value};
 use crate::text_parts::arranged_value;
-use crate::told::{ValueError, ran, told};
+use crate::told::{ValueError, ran_optional, ran_text, ran_told};
 use collectors::Joining;
 use parallel_streams::{Run, Source, Staged, Stream};
 use pipeline_language::TextTerminal;
@@ -71,31 +69,31 @@ where
     ensures { Tells (text_told terminal.now (X.value stream.now)) result }
 {
     match *terminal {
-        TextTerminal::Count => told(alloc, &ran(run, stream.count(rt, alloc, run))?),
-        TextTerminal::FindFirst => told_first(alloc, &ran(run, stream.find_first(rt, alloc, run))?),
-        TextTerminal::ToList => Ok(ran(
-            run,
-            stream.collect(rt, alloc, run, &ListText::new(alloc)),
-        )?),
-        TextTerminal::AllMatch(test) => told(
-            alloc,
-            &ran(run, stream.all_match(rt, alloc, run, &TextCheck::of(test)))?,
-        ),
-        TextTerminal::AnyMatch(test) => told(
-            alloc,
-            &ran(run, stream.any_match(rt, alloc, run, &TextCheck::of(test)))?,
-        ),
-        TextTerminal::NoneMatch(test) => told(
-            alloc,
-            &ran(run, stream.none_match(rt, alloc, run, &TextCheck::of(test)))?,
-        ),
+        TextTerminal::Count => ran_told(alloc, run, stream.count(rt, alloc, run)),
+        TextTerminal::FindFirst => ran_optional(alloc, run, stream.find_first(rt, alloc, run)),
+        TextTerminal::ToList => {
+            let list = ListText::new(alloc);
+            ran_text(run, stream.collect(rt, alloc, run, &list))
+        }
+        TextTerminal::AllMatch(test) => {
+            let check = TextCheck::of(test);
+            ran_told(alloc, run, stream.all_match(rt, alloc, run, &check))
+        }
+        TextTerminal::AnyMatch(test) => {
+            let check = TextCheck::of(test);
+            ran_told(alloc, run, stream.any_match(rt, alloc, run, &check))
+        }
+        TextTerminal::NoneMatch(test) => {
+            let check = TextCheck::of(test);
+            ran_told(alloc, run, stream.none_match(rt, alloc, run, &check))
+        }
         TextTerminal::Joining(between) => {
             let joining = Joining::new(alloc, between, "", "");
-            Ok(ran(run, stream.collect(rt, alloc, run, &joining))?)
+            ran_text(run, stream.collect(rt, alloc, run, &joining))
         }
         TextTerminal::JoiningWithin(between, front, back) => {
             let joining = Joining::new(alloc, between, front, back);
-            Ok(ran(run, stream.collect(rt, alloc, run, &joining))?)
+            ran_text(run, stream.collect(rt, alloc, run, &joining))
         }
         TextTerminal::ToMap(key, value) => map_value(rt, alloc, hashes, stream, key, value, run),
         TextTerminal::ToMapStrict(key, value) => {
@@ -104,11 +102,4 @@ where
         TextTerminal::GroupBy(_, _) | TextTerminal::Partition(_, _) | TextTerminal::Teeing(_, _) =>
             unreachable!(),
     }
-}
-
-/// The text of a list's first item.
-fn told_first<T: Spelled>(alloc: Global, found: &Option<T>) -> Result<String, ValueError>
-    ensures { (l : List T.Content) → option_map T.content found.now ≡ first l → Tells (Ok (optional_text T.spelling (first l))) result }
-{
-    told(alloc, found)
 }

@@ -1,12 +1,13 @@
 //! What a pipeline tells: the text of its value, or of a repeated key.
 
-ghost use Rattle.std.specs.Prelude.{◌≡◌, Ok, Err, IfOk, IsErr, string_bytes};
+ghost use Rattle.std.specs.Prelude.{◌≡◌, ℕ, List, Option, Ok, Err, IfOk, IsErr, option_map, string_bytes};
 ghost use Rattle.parallel_streams.specs.Runs.{AnswersUnder, IsLawfulRun};
+ghost use Rattle.pipeline_meaning.specs.Texts.{optional_text};
 ghost use Rattle.pipeline_value.specs.Value.{Tells};
 ghost use Rattle.pipeline_value.specs.declared.told.ValueError.TheVariants as variants;
 
 use parallel_streams::{Run, StreamError};
-use pipeline_meaning::Written;
+use pipeline_meaning::{Spelled, Written};
 use spliterator::NoMemory;
 use std::alloc::{AllocError, Global};
 
@@ -62,4 +63,44 @@ pub(crate) fn told<V: Written>(alloc: Global, value: &V) -> Result<String, Value
     ensures { Tells (Ok (V.text value.now)) result }
 {
     Ok(text_of(alloc, value)?)
+}
+
+/// What a stream made under lawful settings, told by its text.
+pub(crate) fn ran_told<V: Written + Drop, H>(
+    alloc: Global,
+    run: &Run<'_, H>,
+    made: Result<V, StreamError>,
+) -> Result<String, ValueError>
+    requires settings { IsLawfulRun run.now.workers run.now.target }
+    requires answers { AnswersUnder run.now.workers run.now.target made }
+    ensures { (value : V) → IfOk made (λ v. v ≡ value) → Tells (Ok (V.text value)) result }
+{
+    let value = ran(run, made)?;
+    told(alloc, &value)
+}
+
+/// An item that a stream made under lawful settings, or that it made none, told by its text.
+pub(crate) fn ran_optional<T: Spelled + Drop, H>(
+    alloc: Global,
+    run: &Run<'_, H>,
+    made: Result<Option<T>, StreamError>,
+) -> Result<String, ValueError>
+    requires settings { IsLawfulRun run.now.workers run.now.target }
+    requires answers { AnswersUnder run.now.workers run.now.target made }
+    ensures { (item : Option T.Content) → IfOk made (λ found. option_map T.content found ≡ item) → Tells (Ok (optional_text T.spelling item)) result }
+{
+    let found = ran(run, made)?;
+    told(alloc, &found)
+}
+
+/// A text that a stream made under lawful settings.
+pub(crate) fn ran_text<H>(
+    run: &Run<'_, H>,
+    made: Result<String, StreamError>,
+) -> Result<String, ValueError>
+    requires settings { IsLawfulRun run.now.workers run.now.target }
+    requires answers { AnswersUnder run.now.workers run.now.target made }
+    ensures { (bytes : List ℕ) → IfOk made (λ text. string_bytes text ≡ bytes) → Tells (Ok bytes) result }
+{
+    Ok(ran(run, made)?)
 }

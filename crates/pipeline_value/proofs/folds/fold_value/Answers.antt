@@ -1,6 +1,21 @@
-use Rattle.pipeline_value.proofs.FoldsTold.{sum-told}
+-- A sum that wraps once is one that wraps at each step.
+use Rattle.std.proofs.Common.{sym, ◌∙◌}
+use Rattle.std.proofs.lemmas.Result.{IfOk-weaker}
+use Rattle.collectors.specs.Sums.{total}
 use Rattle.pipeline_value.proofs.folds.fold_value.Goals as goal
 
-pub returns-in_ok-ran-in-Sum : goal.returns-in_ok-ran-in-Sum
-returns-in_ok-ran-in-Sum g c =
-    sum-told c.args.fold (g.X.Stream.value c.args.stream.now) c.in_ok-ran-in-Sum.field-0 c.told.result c.in-Sum.is (rw c.in_ok-ran-in-Sum.ensures.value at c.collect.ensures.value) c.told.ensures
+pub returns-in-Sum : goal.returns-in-Sum
+returns-in-Sum g c =
+    rw c.in-Sum.is (c.ran_told.ensures _ (IfOk-weaker c.collect.result _ _ (λ n is. is ∙ sym (total (λ x. x) (g.X.Stream.value c.args.stream.now))) c.collect.ensures.value))
+
+pub returns-in-Product : goal.returns-in-Product
+returns-in-Product g c = rw c.in-Product.is (c.ran_told-in-Product.ensures _ c.reduce.ensures.value)
+
+pub returns-in-Max : goal.returns-in-Max
+returns-in-Max g c = rw c.in-Max.is (c.ran_optional.ensures _ c.reduce_optional.ensures.value)
+
+pub returns-in-Min : goal.returns-in-Min
+returns-in-Min g c = rw c.in-Min.is (c.ran_optional-in-Min.ensures _ c.reduce_optional-in-Min.ensures.value)
+
+pub returns-in-Count : goal.returns-in-Count
+returns-in-Count g c = rw c.in-Count.is (c.ran_told-in-Count.ensures _ c.count.ensures.value)

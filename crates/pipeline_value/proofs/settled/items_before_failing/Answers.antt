@@ -1,10 +1,11 @@
 -- The first image that fails the test comes at the place.
-use Rattle.std.proofs.Common.{ℤ, List, [], ◌∷◌, ap, subst, ◌∙◌}
+use Rattle.std.proofs.Common.{ℤ, List, [], ◌∷◌, ap, arith, subst, ◌∙◌}
+use Rattle.std.proofs.lemmas.List.{drop_all, take_all}
 use Rattle.std.specs.Prelude.{Some, None, cond, flat_map, not}
 use Rattle.pipeline_meaning.specs.AtMostOne.{kept-few, then-few}
 use Rattle.pipeline_meaning.specs.Functions.{number_holds}
 use Rattle.pipeline_value.specs.Places.{PlaceOrFewer, all-dropped, all-taken, dropped-place, taken-place}
-use Rattle.pipeline_value.proofs.settled.parted.Goals as goal
+use Rattle.pipeline_value.proofs.settled.items_before_failing.Goals as goal
 
 pub place_of-requires-clause-few : goal.place_of-requires-clause-few
 place_of-requires-clause-few g c κs within =
@@ -18,7 +19,7 @@ returns-in-Some-clause-taken g c =
     let items = g.S.Spliterator.items c.args.source in
     let P : (ℤ → List ℤ) → Type 0 = λ fails. PlaceOrFewer (λ x. flat_map fails (images x)) items 1 (Some c.in-Some.place) in
     let told = subst P c.of.ensures (rw (c.new-failing.ensures.first, c.new-failing.ensures.second, c.in-Some.is) at c.in_ok-place.ensures) in
-    ap (flat_map images) c.first.ensures ∙ taken-place (number_holds c.args.test) images c.requires.few items c.in-Some.place told
+    taken-place (number_holds c.args.test) images c.requires.few items c.in-Some.place told
 
 pub returns-in-Some-clause-dropped : goal.returns-in-Some-clause-dropped
 returns-in-Some-clause-dropped g c =
@@ -26,7 +27,7 @@ returns-in-Some-clause-dropped g c =
     let items = g.S.Spliterator.items c.args.source in
     let P : (ℤ → List ℤ) → Type 0 = λ fails. PlaceOrFewer (λ x. flat_map fails (images x)) items 1 (Some c.in-Some.place) in
     let told = subst P c.of.ensures (rw (c.new-failing.ensures.first, c.new-failing.ensures.second, c.in-Some.is) at c.in_ok-place.ensures) in
-    ap (flat_map images) c.after_first.ensures ∙ dropped-place (number_holds c.args.test) images c.requires.few items c.in-Some.place told
+    dropped-place (number_holds c.args.test) images c.requires.few items c.in-Some.place told
 
 pub returns-in-None-clause-taken : goal.returns-in-None-clause-taken
 returns-in-None-clause-taken g c =
@@ -34,7 +35,7 @@ returns-in-None-clause-taken g c =
     let items = g.S.Spliterator.items c.args.source in
     let P : (ℤ → List ℤ) → Type 0 = λ fails. PlaceOrFewer (λ x. flat_map fails (images x)) items 1 None in
     let told = subst P c.of.ensures (rw (c.new-failing.ensures.first, c.new-failing.ensures.second, c.in-None.is) at c.in_ok-place.ensures) in
-    all-taken (number_holds c.args.test) images c.requires.few items told
+    ap (flat_map images) (take_all c.count.result items (omega (arith, c.count.ensures))) ∙ all-taken (number_holds c.args.test) images c.requires.few items told
 
 pub returns-in-None-clause-dropped : goal.returns-in-None-clause-dropped
 returns-in-None-clause-dropped g c =
@@ -42,4 +43,4 @@ returns-in-None-clause-dropped g c =
     let items = g.S.Spliterator.items c.args.source in
     let P : (ℤ → List ℤ) → Type 0 = λ fails. PlaceOrFewer (λ x. flat_map fails (images x)) items 1 None in
     let told = subst P c.of.ensures (rw (c.new-failing.ensures.first, c.new-failing.ensures.second, c.in-None.is) at c.in_ok-place.ensures) in
-    ap (flat_map images) c.first-in-None.ensures ∙ all-dropped (number_holds c.args.test) images c.requires.few items told
+    ap (flat_map images) (drop_all c.count.result items (omega (arith, c.count.ensures))) ∙ all-dropped (number_holds c.args.test) images c.requires.few items told

@@ -1,0 +1,29 @@
+use Rattle.std.proofs.Common.{append-nil, ◌∙◌}
+use Rattle.std.proofs.lemmas.Result.{IfOk-weaker}
+use Rattle.pipeline_value.proofs.text_end.plain_end.Goals as goal
+
+pub returns-in-Count : goal.returns-in-Count
+returns-in-Count g c = rw c.in-Count.is (c.ran_told.ensures _ c.count.ensures.value)
+
+pub returns-in-FindFirst : goal.returns-in-FindFirst
+returns-in-FindFirst g c = rw c.in-FindFirst.is (rw c.requires.spelling at (c.ran_optional.ensures _ c.find_first.ensures.value))
+
+pub returns-in-ToList : goal.returns-in-ToList
+returns-in-ToList g c = rw c.in-ToList.is (c.ran_text.ensures _ (rw c.requires.spelling at c.collect.ensures.value))
+
+pub returns-in-AllMatch : goal.returns-in-AllMatch
+returns-in-AllMatch g c = rw c.in-AllMatch.is (c.ran_told-in-AllMatch.ensures _ (rw c.of-check.ensures at c.all_match.ensures.value))
+
+pub returns-in-AnyMatch : goal.returns-in-AnyMatch
+returns-in-AnyMatch g c = rw c.in-AnyMatch.is (c.ran_told-in-AnyMatch.ensures _ (rw c.of-check-in-AnyMatch.ensures at c.any_match.ensures.value))
+
+pub returns-in-NoneMatch : goal.returns-in-NoneMatch
+returns-in-NoneMatch g c = rw c.in-NoneMatch.is (c.ran_told-in-NoneMatch.ensures _ (rw c.of-check-in-NoneMatch.ensures at c.none_match.ensures.value))
+
+pub returns-in-Joining : goal.returns-in-Joining
+returns-in-Joining g c =
+    rw c.in-Joining.is (c.ran_text-in-Joining.ensures _ (IfOk-weaker c.collect-in-Joining.result _ _ (λ text is. (rw (c.new-joining.ensures.prefix, c.new-joining.ensures.delimiter, c.new-joining.ensures.suffix) at is) ∙ append-nil _) c.collect-in-Joining.ensures.value))
+
+pub returns-in-JoiningWithin : goal.returns-in-JoiningWithin
+returns-in-JoiningWithin g c =
+    rw c.in-JoiningWithin.is (c.ran_text-in-JoiningWithin.ensures _ (rw (c.new-joining-in-JoiningWithin.ensures.prefix, c.new-joining-in-JoiningWithin.ensures.delimiter, c.new-joining-in-JoiningWithin.ensures.suffix) at c.collect-in-JoiningWithin.ensures.value))
