@@ -14,7 +14,7 @@ use crate::small_divisor::{SmallDivisor, all_near};
 use spliterator::NoMemory;
 use stages::{Mapping, Test};
 
-#[derive(Clone, Copy, Debug)]
+#[derive(Clone, Copy)]
 struct Plus {
     summand: i64,
 }
@@ -31,7 +31,7 @@ impl Mapping<i64> for Plus {
     }
 }
 
-#[derive(Clone, Copy, Debug)]
+#[derive(Clone, Copy)]
 struct Times {
     factor: i64,
 }
@@ -48,7 +48,7 @@ impl Mapping<i64> for Times {
     }
 }
 
-#[derive(Clone, Copy, Debug)]
+#[derive(Clone, Copy)]
 struct Negative;
 
 impl Mapping<i64> for Negative {
@@ -64,7 +64,7 @@ impl Mapping<i64> for Negative {
 }
 
 /// The least remainder that isn't negative.
-#[derive(Clone, Copy, Debug)]
+#[derive(Clone, Copy)]
 struct Remainder {
     divisor: Divisor,
 }
@@ -81,7 +81,7 @@ impl Mapping<i64> for Remainder {
     }
 }
 
-#[derive(Clone, Copy, Debug)]
+#[derive(Clone, Copy)]
 struct Below {
     bound: i64,
 }
@@ -94,7 +94,7 @@ impl Test<i64> for Below {
     }
 }
 
-#[derive(Clone, Copy, Debug)]
+#[derive(Clone, Copy)]
 struct Above {
     bound: i64,
 }
@@ -107,7 +107,7 @@ impl Test<i64> for Above {
     }
 }
 
-#[derive(Clone, Copy, Debug)]
+#[derive(Clone, Copy)]
 struct Equal {
     number: i64,
 }
@@ -120,7 +120,7 @@ impl Test<i64> for Equal {
     }
 }
 
-#[derive(Clone, Copy, Debug)]
+#[derive(Clone, Copy)]
 struct Multiple {
     divisor: Divisor,
 }
@@ -134,7 +134,7 @@ impl Test<i64> for Multiple {
 }
 
 /// The contrary of a test.
-#[derive(Clone, Copy, Debug)]
+#[derive(Clone, Copy)]
 struct Fails<P> {
     test: P,
 }

@@ -6,7 +6,7 @@ ghost use Rattle.pipeline_meaning.specs.Functions.{divisor};
 
 /// A divisor from 1 to 2^63 - 1, with what spares each remainder and each test a division: how often it goes into 2^64 - 1, how many twos
 /// it has, and the inverse of the odd number that is left without them.
-#[derive(Clone, Copy, Debug)]
+#[derive(Clone, Copy)]
 pub struct Divisor {
     pub number: u64,
     pub(crate) reciprocal: u64,

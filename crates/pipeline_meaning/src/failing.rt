@@ -13,7 +13,7 @@ use spliterator::NoMemory;
 use stages::{Operation, Sink, Stage, Test};
 
 /// The numbers that fail a test, as a stage.
-#[derive(Clone, Copy, Debug, Drop)]
+#[derive(Clone, Copy, Drop)]
 pub struct Failing {
     check: NumberCheck,
 }

@@ -13,7 +13,7 @@ use spliterator::{NoMemory, Text, Value};
 use stages::{Mapping, Operator, Test};
 
 /// A sum, a product or the number's negative, each wrapped.
-#[derive(Clone, Copy, Debug)]
+#[derive(Clone, Copy)]
 pub enum NumberChange {
     Add(i64),
     Mul(i64),
@@ -34,7 +34,7 @@ impl NumberChange {
 
 /// What a number is mapped to. No choice has more than three ways: four or more become a jump through a table, which costs some processors
 /// as much as the rest of an item.
-#[derive(Clone, Copy, Debug)]
+#[derive(Clone, Copy)]
 pub enum NumberMapping {
     Itself,
     Mod(Divisor),
@@ -78,7 +78,7 @@ impl Mapping<i64> for NumberMapping {
 }
 
 /// A text's length in bytes.
-#[derive(Clone, Copy, Debug)]
+#[derive(Clone, Copy)]
 pub struct TextLength;
 
 impl<T: Text> Mapping<T> for TextLength {
@@ -94,7 +94,7 @@ impl<T: Text> Mapping<T> for TextLength {
 }
 
 /// The item itself: a number, or a text that is lent.
-#[derive(Clone, Copy, Debug)]
+#[derive(Clone, Copy)]
 pub struct Itself;
 
 impl<T: Value + Copy> Mapping<T> for Itself {
@@ -110,7 +110,7 @@ impl<T: Value + Copy> Mapping<T> for Itself {
 }
 
 /// A comparison with a number.
-#[derive(Clone, Copy, Debug)]
+#[derive(Clone, Copy)]
 pub enum NumberComparison {
     Less(i64),
     Greater(i64),
@@ -130,7 +130,7 @@ impl NumberComparison {
 }
 
 /// What is asked of a number.
-#[derive(Clone, Copy, Debug)]
+#[derive(Clone, Copy)]
 pub enum NumberCheck {
     Divisible(Divisor),
     Comparison(NumberComparison),

@@ -1,10 +1,11 @@
 //! The text of a list, written by the workers that have its items.
-ghost use Rattle.std.specs.Prelude.{◌≡◌, ℕ, List, None, OnOk, Option, codes, option_map, string_bytes, ⊤};
+ghost use Rattle.std.specs.Prelude.{◌≡◌, ℕ, List, None, Option, codes, option_map, string_bytes, ⊤};
 ghost use Rattle.collectors.specs.NestedLaws.{add_image, mapping_laws};
 ghost use Rattle.collectors.specs.Reductions.{reduce_add, reduce_merge};
 ghost use Rattle.collectors.specs.Texts.{join_with, joining_laws};
 ghost use Rattle.pipeline_meaning.specs.Texts.{list_text};
 
+use crate::written::write_behind;
 use crate::{Spelled, Written};
 use collectors::{Collector, Joining};
 use spliterator::NoMemory;
@@ -29,15 +30,6 @@ impl<T> ListText<T> {
             items: PhantomData,
         }
     }
-}
-
-// Writes an item behind those that were written before.
-fn push_item<T: Written>(texts: &mut String, item: &T) -> Result<(), NoMemory>
-    ensures { let both = join_with (codes ", ") (string_bytes texts.old) (T.text item.now) in
-        OnOk result (string_bytes texts.new ≡ both) }
-{
-    texts.push_str(", ")?;
-    item.write_to(texts)
 }
 
 impl<T: Spelled> Collector for ListText<T> {
@@ -68,7 +60,7 @@ impl<T: Spelled> Collector for ListText<T> {
 
     fn accumulate(&self, acc: &mut Option<String>, x: &T) -> Result<(), NoMemory> {
         match acc {
-            Some(texts) => push_item(texts, x),
+            Some(texts) => write_behind(", ", x, texts),
             None => {
                 let mut text = String::new(self.alloc);
                 x.write_to(&mut text)?;

@@ -26,17 +26,21 @@ pub(crate) fn feed_repeated<K: Sink<i64>>(
 {
     match repeats.split_first() {
         None => sink.take_all(items),
-        Some((number, later)) => feed_each(alloc, *number, later, items.as_slice(), sink),
+        Some((number, later)) => {
+            let mut room = Vec::new(alloc);
+            feed_each(alloc, *number, later, items.as_slice(), &mut room, sink)
+        }
     }
 }
 
-// Feeds so many copies of each number, and the copies of these.
+// Feeds so many copies of each number, and the copies of these, by way of a room.
 #[cycle(repeating)]
 fn feed_each<K: Sink<i64>>(
     alloc: Global,
     number: u64,
     later: &[u64],
     items: &[i64],
+    room: &mut Vec<i64>,
     sink: &mut K,
 ) -> Result<(), NoMemory>
     requires { K.ready sink.old }
@@ -44,10 +48,10 @@ fn feed_each<K: Sink<i64>>(
     ensures spoilt { OnErr result (K.spoils sink.old sink.new) }
 {
     if number <= ROOM as u64 {
-        return feed_few(alloc, number as usize, later, items, sink);
+        return feed_few(alloc, number as usize, later, items, room, sink);
     }
     for x in items {
-        feed_many(alloc, number, later, *x, sink)?;
+        feed_many(alloc, number, later, *x, room, sink)?;
     }
     Ok(())
 }
@@ -59,6 +63,7 @@ fn feed_few<K: Sink<i64>>(
     number: usize,
     later: &[u64],
     items: &[i64],
+    room: &mut Vec<i64>,
     sink: &mut K,
 ) -> Result<(), NoMemory>
     requires { K.ready sink.old }
@@ -66,15 +71,14 @@ fn feed_few<K: Sink<i64>>(
     ensures spoilt { OnErr result (K.spoils sink.old sink.new) }
 {
     let most = (ROOM / number.max(1)).max(1);
-    let mut room = Vec::new(alloc);
     let mut left = items;
     'copying: while !left.is_empty() {
         if sink.is_full() {
             return Ok(());
         }
         let (part, rest) = left.split_at(left.len().min(most));
-        copy_each(number, part, &mut room)?;
-        feed_repeated(alloc, later, &mut room, sink)?;
+        copy_each(number, part, room)?;
+        feed_repeated(alloc, later, room, sink)?;
         left = rest;
     }
     Ok(())
@@ -87,21 +91,21 @@ fn feed_many<K: Sink<i64>>(
     number: u64,
     later: &[u64],
     x: i64,
+    room: &mut Vec<i64>,
     sink: &mut K,
 ) -> Result<(), NoMemory>
     requires { K.ready sink.old }
     ensures taken { OnOk result (K.takes sink.old (flat_map (copies later.now) (replicate number x)) sink.new) }
     ensures spoilt { OnErr result (K.spoils sink.old sink.new) }
 {
-    let mut room = Vec::new(alloc);
     let mut left = number;
     'copying: while left > 0 {
         if sink.is_full() {
             return Ok(());
         }
         let part = left.min(ROOM as u64);
-        copy_each(part as usize, &[x], &mut room)?;
-        feed_repeated(alloc, later, &mut room, sink)?;
+        copy_each(part as usize, &[x], room)?;
+        feed_repeated(alloc, later, room, sink)?;
         left -= part;
     }
     Ok(())

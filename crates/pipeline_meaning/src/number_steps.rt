@@ -15,7 +15,7 @@ use stages::{Operation, Sink, Stage};
 use std::alloc::Global;
 
 /// A stage that makes one number or none of each, prepared.
-#[derive(Clone, Copy, Debug)]
+#[derive(Clone, Copy)]
 enum NumberStep {
     Map(NumberMapping),
     Filter(NumberCheck),
@@ -55,7 +55,7 @@ fn run_all(steps: &[NumberStep], items: &mut Vec<i64>) -> Result<(), NoMemory>
 /// Stages over numbers up to the first that looks at more than one item, as one stage over blocks.
 ///
 /// The copies that repeats ask for are made last: what maps and filters make of copies are copies of what they make of the number.
-#[derive(Debug, Drop)]
+#[derive(Drop)]
 pub struct NumberSteps {
     alloc: Global,
     steps: Vec<NumberStep>,
@@ -115,7 +115,7 @@ impl NumberSteps {
     fn has_no_filters(&self) -> bool
         ensures { result ≡ list_all is_map_step self.now.steps.items }
     {
-        self.steps.iter().all(|step| step.is_map())
+        self.steps.iter().all(NumberStep::is_map)
     }
 
     // Whether each number has one image.
@@ -141,8 +141,7 @@ impl Stage for NumberSteps {
 
     // A number alone is a block of one.
     fn feed<K: Sink<i64>>(&self, x: i64, sink: &mut K) -> Result<(), NoMemory> {
-        let mut items = Vec::new(self.alloc);
-        items.push(x)?;
+        let mut items = Vec::from_array(self.alloc, [x])?;
         self.feed_all(&mut items, sink)
     }
 

@@ -127,17 +127,14 @@ pub fn number_inner(alloc: Global, inner: NumberInner) -> NumberInnerCollector
     ensures ready { ⟦<NumberInnerCollector as Collector>⟧.ready result }
     ensures summary { (l : List ℤ) → ⟦<NumberInnerCollector as Summarizes>⟧.summary result l ≡ number_inner_text inner l }
 {
-    match inner {
-        NumberInner::Base(base) => Adapted::new(Adapting::Nothing, number_base(alloc, base)),
-        NumberInner::Mapping(function, base) => Adapted::new(
-            Adapting::Mapping(NumberMapping::of(function)),
-            number_base(alloc, base),
-        ),
-        NumberInner::Filtering(test, base) => Adapted::new(
-            Adapting::Filtering(NumberCheck::of(test)),
-            number_base(alloc, base),
-        ),
-    }
+    let (step, base) = match inner {
+        NumberInner::Base(base) => (Adapting::Nothing, base),
+        NumberInner::Mapping(function, base) => {
+            (Adapting::Mapping(NumberMapping::of(function)), base)
+        }
+        NumberInner::Filtering(test, base) => (Adapting::Filtering(NumberCheck::of(test)), base),
+    };
+    Adapted::new(step, number_base(alloc, base))
 }
 
 /// The collector of numbers. Groups are hashed by `hashes`, since whoever writes a file picks the keys.
@@ -149,25 +146,20 @@ pub fn number_summary(
     ensures ready { ⟦<NumberSummaryCollector as Collector>⟧.ready result }
     ensures summary { (l : List ℤ) → ⟦<NumberSummaryCollector as Summarizes>⟧.summary result l ≡ number_summary_text summary l }
 {
-    let chosen = match summary {
-        NumberSummary::Base(base) => Left(Adapted::new(
-            Adapting::Nothing,
-            number_inner(alloc, NumberInner::Base(base)),
-        )),
-        NumberSummary::Mapping(function, inner) => Left(Adapted::new(
-            Adapting::Mapping(NumberMapping::of(function)),
-            number_inner(alloc, inner),
-        )),
-        NumberSummary::Filtering(test, inner) => Left(Adapted::new(
-            Adapting::Filtering(NumberCheck::of(test)),
-            number_inner(alloc, inner),
-        )),
-        NumberSummary::GroupBy(function, inner) => Right(grouped(
-            alloc,
-            NumberMapping::of(function),
-            number_inner(alloc, inner),
-            hashes,
-        )),
+    let (step, inner) = match summary {
+        NumberSummary::Base(base) => (Adapting::Nothing, NumberInner::Base(base)),
+        NumberSummary::Mapping(function, inner) => {
+            (Adapting::Mapping(NumberMapping::of(function)), inner)
+        }
+        NumberSummary::Filtering(test, inner) => {
+            (Adapting::Filtering(NumberCheck::of(test)), inner)
+        }
+        NumberSummary::GroupBy(function, inner) => {
+            let key = NumberMapping::of(function);
+            let chosen = Right(grouped(alloc, key, number_inner(alloc, inner), hashes));
+            return NumberSummaryCollector { chosen };
+        }
     };
+    let chosen = Left(Adapted::new(step, number_inner(alloc, inner)));
     NumberSummaryCollector { chosen }
 }

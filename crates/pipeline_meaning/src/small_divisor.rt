@@ -7,7 +7,7 @@ use crate::Divisor;
 
 /// A divisor from 1 to 2^31 - 1, with how often it goes into 2^32 - 1: both are factors of 32 bits, of which a processor multiplies several at
 /// a time.
-#[derive(Clone, Copy, Debug)]
+#[derive(Clone, Copy)]
 pub(crate) struct SmallDivisor {
     number: u32,
     reciprocal: u32,

@@ -64,7 +64,7 @@ where
 }
 
 /// The two results of a `Teeing`, side by side.
-#[derive(Clone, Copy, Debug)]
+#[derive(Clone, Copy)]
 pub struct Both;
 
 impl<A: Drop, B: Drop> Pairing<A, B> for Both {

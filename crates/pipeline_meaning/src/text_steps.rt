@@ -88,14 +88,14 @@ impl<'a> TextSteps<'a> {
     pub(crate) fn is_single(&self) -> bool
         ensures { result ≡ list_all is_single_step self.now.steps.items }
     {
-        self.steps.iter().all(|step| step.is_single())
+        self.steps.iter().all(TextStep::is_single)
     }
 
     // Whether each text has one image.
     fn keeps_size(&self) -> bool
         ensures { result ≡ only_maps self.now.steps.items }
     {
-        self.steps.iter().all(|step| step.is_map())
+        self.steps.iter().all(TextStep::is_map)
     }
 }
 

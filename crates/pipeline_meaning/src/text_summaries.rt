@@ -5,7 +5,6 @@ ghost use Rattle.std.specs.Ordering.{int_eq};
 ghost use Rattle.spliterator.specs.Values.{int_eq-decides, bytes_eq-decides};
 ghost use Rattle.collectors.specs.Either.{either_laws};
 ghost use Rattle.collectors.specs.GroupingLaws.{grouping_laws};
-ghost use Rattle.pipeline_language.specs.declared.pipeline.TextFunction.TheVariants as keys;
 ghost use Rattle.pipeline_meaning.specs.Adapting.{adapted_items, adapted_laws};
 ghost use Rattle.pipeline_meaning.specs.Functions.{text_holds, text_length};
 ghost use Rattle.pipeline_meaning.specs.Summaries.{itself, text_inner_text, text_summary_text, text_groups_text};
@@ -128,30 +127,6 @@ impl<'a> Summarizes for TextSummaryCollector<'a> {
     ghost tells = { λ c l result. either_tells _ _ _ _ _ _ (λ a l. told.tells-law a.downstream (adapted_items (λ _ x. x) (λ check. text_holds check.test) a.step l)) (either_tells _ _ _ _ _ _ (λ g l made. groups_tell signed_decimal (λ n. n) signed_decimal (λ _. refl) int_eq text_length _ _ _ (told.tells-law g.downstream) l made.entries) (λ g l made. groups_tell (λ text. text.now) (λ text. text.now) itself (λ _. refl) bytes_eq itself _ _ _ (told.tells-law g.downstream) l made.entries)) c.chosen l result.made };
 }
 
-// The collector of groups of texts by their lengths.
-fn texts_by_length<'a>(
-    alloc: Global,
-    hashes: SeededHashes,
-    inner: TextInner<'a>,
-) -> TextsByLength<'a>
-    ensures ready { ⟦<TextsByLength<'a> as Collector>⟧.ready result }
-    ensures summary { (l : List (List ℕ)) → ⟦<TextsByLength<'a> as Summarizes>⟧.summary result l ≡ text_groups_text keys.Length (text_inner_text inner.entry) l }
-{
-    grouped(alloc, TextLength, text_inner(alloc, inner), hashes)
-}
-
-// The collector of groups of equal texts.
-fn texts_by_themselves<'a>(
-    alloc: Global,
-    hashes: SeededHashes,
-    inner: TextInner<'a>,
-) -> TextsByThemselves<'a>
-    ensures ready { ⟦<TextsByThemselves<'a> as Collector>⟧.ready result }
-    ensures summary { (l : List (List ℕ)) → ⟦<TextsByThemselves<'a> as Summarizes>⟧.summary result l ≡ text_groups_text keys.Itself (text_inner_text inner.entry) l }
-{
-    grouped(alloc, Itself, text_inner(alloc, inner), hashes)
-}
-
 // The collector of groups of texts.
 fn text_groups<'a>(
     alloc: Global,
@@ -162,9 +137,10 @@ fn text_groups<'a>(
     ensures ready { ⟦<TextGroups<'a> as Collector>⟧.ready result }
     ensures summary { (l : List (List ℕ)) → ⟦<TextGroups<'a> as Summarizes>⟧.summary result l ≡ text_groups_text key (text_inner_text inner.entry) l }
 {
+    let inner = text_inner(alloc, inner);
     match key {
-        TextFunction::Length => Left(texts_by_length(alloc, hashes, inner)),
-        TextFunction::Itself => Right(texts_by_themselves(alloc, hashes, inner)),
+        TextFunction::Length => Left(grouped(alloc, TextLength, inner, hashes)),
+        TextFunction::Itself => Right(grouped(alloc, Itself, inner, hashes)),
     }
 }
 
@@ -177,22 +153,19 @@ pub fn text_summary<'a>(
     ensures ready { ⟦<TextSummaryCollector<'a> as Collector>⟧.ready result }
     ensures summary { (l : List (List ℕ)) → ⟦<TextSummaryCollector<'a> as Summarizes>⟧.summary result l ≡ text_summary_text summary.entry l }
 {
-    let chosen = match summary {
-        TextSummary::Base(base) => Left(Adapted::new(
-            Adapting::Nothing,
-            text_inner(alloc, TextInner::Base(base)),
-        )),
-        TextSummary::MappingItself(inner) => {
-            Left(Adapted::new(Adapting::Nothing, text_inner(alloc, inner)))
+    let (step, inner) = match summary {
+        TextSummary::Base(base) => (Adapting::Nothing, text_inner(alloc, TextInner::Base(base))),
+        TextSummary::MappingItself(inner) => (Adapting::Nothing, text_inner(alloc, inner)),
+        TextSummary::MappingLength(inner) => (Adapting::Nothing, text_lengths(alloc, inner)),
+        TextSummary::Filtering(test, inner) => {
+            let step = Adapting::Filtering(TextCheck::of(test));
+            (step, text_inner(alloc, inner))
         }
-        TextSummary::MappingLength(inner) => {
-            Left(Adapted::new(Adapting::Nothing, text_lengths(alloc, inner)))
+        TextSummary::GroupBy(key, inner) => {
+            let chosen = Right(text_groups(alloc, hashes, key, inner));
+            return TextSummaryCollector { chosen };
         }
-        TextSummary::Filtering(test, inner) => Left(Adapted::new(
-            Adapting::Filtering(TextCheck::of(test)),
-            text_inner(alloc, inner),
-        )),
-        TextSummary::GroupBy(key, inner) => Right(text_groups(alloc, hashes, key, inner)),
     };
+    let chosen = Left(Adapted::new(step, inner));
     TextSummaryCollector { chosen }
 }

@@ -29,8 +29,7 @@ impl Written for i64 {
 
     fn write_to(&self, out: &mut String) -> Result<(), NoMemory> {
         let mut digits = Buffer::new();
-        out.push_str(digits.format(*self))?;
-        Ok(())
+        digits.format(*self).write_to(out)
     }
 }
 
@@ -39,8 +38,8 @@ impl Written for bool {
     ghost text = { truth_text };
 
     fn write_to(&self, out: &mut String) -> Result<(), NoMemory> {
-        out.push_str(if *self { "true" } else { "false" })?;
-        Ok(())
+        let text = if *self { "true" } else { "false" };
+        text.write_to(out)
     }
 }
 
@@ -59,9 +58,20 @@ impl Written for String {
     ghost text = { string_bytes };
 
     fn write_to(&self, out: &mut String) -> Result<(), NoMemory> {
-        out.push_str(self.as_str())?;
-        Ok(())
+        self.as_str().write_to(out)
     }
+}
+
+/// Writes a value behind a text that stands before it.
+pub(crate) fn write_behind<T: Written>(
+    front: &str,
+    value: &T,
+    out: &mut String,
+) -> Result<(), NoMemory>
+    ensures { OnOk result (string_bytes out.new ≡ string_bytes out.old ++ front.now ++ T.text value.now) }
+{
+    out.push_str(front)?;
+    value.write_to(out)
 }
 
 /// `Optional[x]` or `Optional.empty`.
@@ -71,13 +81,11 @@ impl<T: Written> Written for Option<T> {
     fn write_to(&self, out: &mut String) -> Result<(), NoMemory> {
         match self {
             Some(value) => {
-                out.push_str("Optional[")?;
-                value.write_to(out)?;
-                out.push_str("]")?;
+                write_behind("Optional[", value, out)?;
+                "]".write_to(out)
             }
-            None => out.push_str("Optional.empty")?,
+            None => "Optional.empty".write_to(out),
         }
-        Ok(())
     }
 }
 
@@ -86,15 +94,13 @@ impl<T: Written> Written for Vec<T> {
     ghost text = { λ v. list_text T.text v.items };
 
     fn write_to(&self, out: &mut String) -> Result<(), NoMemory> {
-        out.push_str("[")?;
+        "[".write_to(out)?;
         let mut between = "";
         for item in self {
-            out.push_str(between)?;
-            item.write_to(out)?;
+            write_behind(between, item, out)?;
             between = ", ";
         }
-        out.push_str("]")?;
-        Ok(())
+        "]".write_to(out)
     }
 }
 
@@ -108,10 +114,8 @@ fn write_entry<K: Written, V: Written>(
     ensures { OnOk result (string_bytes out.new ≡ string_bytes out.old
         ++ separator.now ++ entry_text K.text V.text (key.now, value.now)) }
 {
-    out.push_str(separator)?;
-    key.write_to(out)?;
-    out.push_str("=")?;
-    value.write_to(out)
+    write_behind(separator, key, out)?;
+    write_behind("=", value, out)
 }
 
 /// `{k=v, k=v}`, in the order of the entries.
@@ -119,14 +123,13 @@ impl<K: Written + Eq + Hash, V: Written, S: BuildHasher> Written for IndexMap<K,
     ghost text = { λ m. map_text K.text V.text m.entries };
 
     fn write_to(&self, out: &mut String) -> Result<(), NoMemory> {
-        out.push_str("{")?;
+        "{".write_to(out)?;
         let mut separator = "";
         for (key, value) in self.iter() {
             write_entry(separator, key, value, out)?;
             separator = ", ";
         }
-        out.push_str("}")?;
-        Ok(())
+        "}".write_to(out)
     }
 }
 
@@ -142,12 +145,9 @@ fn write_two<A: Written, B: Written>(
     ensures { OnOk result (string_bytes out.new ≡ string_bytes out.old
         ++ front.now ++ A.text first.now ++ between.now ++ B.text second.now ++ end.now) }
 {
-    out.push_str(front)?;
-    first.write_to(out)?;
-    out.push_str(between)?;
-    second.write_to(out)?;
-    out.push_str(end)?;
-    Ok(())
+    write_behind(front, first, out)?;
+    write_behind(between, second, out)?;
+    end.write_to(out)
 }
 
 /// `{false=x, true=y}`.

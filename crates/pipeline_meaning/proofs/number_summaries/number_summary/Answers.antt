@@ -9,5 +9,5 @@ use Rattle.pipeline_meaning.proofs.number_summaries.number_summary.Goals as goal
 pub returns-in-GroupBy-clause-summary : goal.returns-in-GroupBy-clause-summary
 returns-in-GroupBy-clause-summary c = λ l.
     c.grouped.ensures.summary l
-    ∙ groups-same signed_decimal int_eq _ _ _ _ c.of-in-GroupBy.ensures c.number_inner-in-GroupBy.ensures.summary l
+    ∙ groups-same signed_decimal int_eq _ _ _ _ c.of-key.ensures c.number_inner.ensures.summary l
     ∙ ap (λ summary. number_summary_text summary l) (sym c.in-GroupBy.is)
