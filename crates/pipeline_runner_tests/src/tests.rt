@@ -1,10 +1,13 @@
-ghost use Rattle.std.specs.Prelude.{◌≤◌, ◌^◌};
+//! Every run of a file, on devices and with a gate of the tests' own.
 
-use pipeline_runner::{Counted, NoGate, RunError, Settings, run};
+use gates::Watch;
+use pipeline_runner::{Counted, RunError, Settings, run};
 use std::alloc::{AllocError, Global};
 use std::io;
 use std::io::{ErrorKind, Read, Write};
+use std::process::Abort;
 use std::random::RandomSource;
+use std::test::Fail;
 use std::thread::Threads;
 
 mod devices;
@@ -16,95 +19,146 @@ mod program;
 mod rows;
 mod values;
 
-const SETTINGS: Settings = Settings {
-    workers: 4,
-    target: 0,
-};
-
 /// The bytes for which an output of the tests asks at once, so that no write of its wants memory.
 const ROOM: usize = 8192;
 
-/// What a run on the file writes, or the line that it tells. Want of memory is the test's own.
-fn answer<R: Threads + RandomSource + Sync>(
-    rt: &R,
-    alloc: Global,
-    file: &[u8],
-    settings: &Settings,
-) -> Result<String, AllocError>
-    requires workers { (1 ≤ settings.now.workers) × (settings.now.workers ≤ 64) }
-    requires target { settings.now.target ≤ 2 ^ 62 }
-{
-    let mut input = Counted::new(file);
-    let mut output = Counted::new(Vec::with_capacity(alloc, ROOM)?);
-    match run(rt, alloc, &mut input, &mut output, settings, &NoGate) {
-        Ok(()) => String::from_utf8_lossy(alloc, output.get_ref().as_slice()),
+/// A device's failing call, and how many calls of it were made.
+#[derive(Drop)]
+struct Calls {
+    made: u64,
+    fails_at: u64,
+}
+
+impl Calls {
+    /// No call fails where it is 0.
+    fn failing_at(fails_at: u64) -> Calls {
+        Calls { made: 0, fails_at }
+    }
+
+    /// Whether the call that is made now fails.
+    fn fails(&mut self) -> bool {
+        self.made = self.made.saturating_add(1);
+        self.made == self.fails_at
+    }
+}
+
+/// A reader that gives so many bytes at a time, and fails at one call.
+#[derive(Drop)]
+struct Source<'a> {
+    bytes: &'a [u8],
+    step: usize,
+    calls: Calls,
+}
+
+impl Read for Source<'_> {
+    fn read(&mut self, buf: &mut [u8]) -> io::Result<usize> {
+        if self.calls.fails() {
+            return Err(io::Error::from(ErrorKind::Interrupted));
+        }
+        let count = buf.len().min(self.step);
+        self.bytes.read(&mut buf[..count])
+    }
+}
+
+/// A writer that takes so many bytes at a time, and fails at one call.
+#[derive(Drop)]
+struct Sink {
+    written: Vec<u8>,
+    step: usize,
+    calls: Calls,
+}
+
+impl Write for Sink {
+    fn write(&mut self, buf: &[u8]) -> io::Result<usize> {
+        if self.calls.fails() {
+            return Err(io::Error::from(ErrorKind::Interrupted));
+        }
+        let count = buf.len().min(self.step);
+        self.written.write(&buf[..count])
+    }
+
+    fn flush(&mut self) -> io::Result<()> {
+        if self.calls.fails() {
+            return Err(io::Error::from(ErrorKind::Interrupted));
+        }
+        Ok(())
+    }
+}
+
+/// A file, how it is run, and how the devices of the run behave.
+#[derive(Clone, Copy)]
+struct Case<'a> {
+    file: &'a [u8],
+    workers: u32,
+    target: u64,
+    read_step: usize,
+    read_fails: u64,
+    write_step: usize,
+    write_fails: u64,
+}
+
+impl<'a> Case<'a> {
+    /// No device fails.
+    fn of(file: &'a [u8], workers: u32, target: u64) -> Case<'a> {
+        Case {
+            file,
+            workers,
+            target,
+            read_step: 65_536,
+            read_fails: 0,
+            write_step: ROOM,
+            write_fails: 0,
+        }
+    }
+}
+
+/// What is told of a run's end. Want of memory is the test's own.
+fn told(alloc: Global, end: Result<(), RunError>) -> Result<String, AllocError> {
+    match end {
+        Ok(()) => Ok(String::new(alloc)),
         Err(RunError::NoMemory) => Err(AllocError),
         Err(e) => format!(in alloc; "{e}"),
     }
 }
 
-/// A reader and writer that moves a few bytes at a time, and fails at one call.
-#[derive(Drop)]
-struct Script<'a> {
-    bytes: &'a [u8],
-    written: Vec<u8>,
-    step: usize,
-    calls: u64,
-    fails_at: u64,
+/// What a run tells and writes.
+fn run_with<R: Threads + RandomSource + Abort + Sync>(
+    rt: &R,
+    alloc: Global,
+    case: &Case<'_>,
+    gate: &Watch,
+) -> Result<(String, String), AllocError> {
+    let settings = Settings {
+        workers: case.workers,
+        target: case.target,
+    };
+    assert!(rt; (1..=64).contains(&settings.workers) && settings.target <= 1 << 62);
+    let mut input = Counted::new(Source {
+        bytes: case.file,
+        step: case.read_step,
+        calls: Calls::failing_at(case.read_fails),
+    });
+    let mut output = Counted::new(Sink {
+        written: Vec::with_capacity(alloc, ROOM)?,
+        step: case.write_step,
+        calls: Calls::failing_at(case.write_fails),
+    });
+    let end = run(rt, alloc, &mut input, &mut output, &settings, gate);
+    let told = told(alloc, end)?;
+    let written = String::from_utf8_lossy(alloc, output.get_ref().written.as_slice())?;
+    Ok((told, written))
 }
 
-impl<'a> Script<'a> {
-    fn new(alloc: Global, bytes: &'a [u8], step: usize, fails_at: u64) -> Script<'a> {
-        Script {
-            bytes,
-            written: Vec::new(alloc),
-            step,
-            calls: 0,
-            fails_at,
-        }
-    }
-
-    /// The same as an output.
-    fn with_room(mut self) -> Result<Script<'a>, AllocError> {
-        self.written.reserve(ROOM)?;
-        Ok(self)
-    }
-
-    /// Whether this call is the one that fails.
-    fn fails(&mut self) -> bool {
-        self.calls = self.calls.saturating_add(1);
-        self.calls == self.fails_at
-    }
-}
-
-impl Read for Script<'_> {
-    fn read(&mut self, buf: &mut [u8]) -> io::Result<usize> {
-        if self.fails() {
-            return Err(io::Error::from(ErrorKind::Interrupted));
-        }
-        let count = buf.len().min(self.step).min(self.bytes.len());
-        for i in 0..count {
-            buf[i] = self.bytes[i];
-        }
-        self.bytes = &self.bytes[count..];
-        Ok(count)
-    }
-}
-
-impl Write for Script<'_> {
-    fn write(&mut self, buf: &[u8]) -> io::Result<usize> {
-        if self.fails() {
-            return Err(io::Error::from(ErrorKind::Interrupted));
-        }
-        let count = self.step.min(buf.len());
-        self.written.extend_from_slice(&buf[..count])?;
-        Ok(count)
-    }
-
-    fn flush(&mut self) -> io::Result<()> {
-        if self.fails() {
-            return Err(io::Error::from(ErrorKind::Interrupted));
-        }
-        Ok(())
-    }
+/// Asserts what a run tells and writes.
+fn check<R: Threads + RandomSource + Abort + Sync>(
+    rt: &R,
+    alloc: Global,
+    case: &Case<'_>,
+    told: &str,
+    written: &str,
+) -> Result<(), Fail> {
+    let end = run_with(rt, alloc, case, &Watch::new(false))?;
+    let is_wanted = end.0.as_str() == told && end.1.as_str() == written;
+    assert!(rt; is_wanted, "{end:?} is not {told:?} and {written:?}");
+    Ok(())
 }

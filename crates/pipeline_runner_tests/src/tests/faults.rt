@@ -1,10 +1,10 @@
 //! Files that have a fault, each with the line that is told.
 
-use super::rows::{ONE, TWO, all_right};
+use super::rows::{ONE, Row, TWO, all_right};
 use std::test::Fail;
 
 /// Faults of a whole file, by its lines behind the first one.
-const OF_FILES: [(&[u8], &str); 11] = [
+const OF_FILES: &[Row<'_>] = &[
     (b"", "line 2: MISSING_TERMINAL"),
     (b"range 0 3\n", "line 3: MISSING_TERMINAL"),
     (b"lines 1\nx\n", "line 4: MISSING_TERMINAL"),
@@ -19,7 +19,7 @@ const OF_FILES: [(&[u8], &str); 11] = [
 ];
 
 /// Faults of the source's line.
-const OF_SOURCES: [(&[u8], &str); 7] = [
+const OF_SOURCES: &[Row<'_>] = &[
     (
         b"range 0 4611686018427387905\ncount\n",
         "line 2: RANGE_TOO_LONG",
@@ -36,7 +36,7 @@ const OF_SOURCES: [(&[u8], &str); 7] = [
 ];
 
 /// Faults of the lines behind the source.
-const OF_LINES: [(&[u8], &str); 9] = [
+const OF_LINES: &[Row<'_>] = &[
     (b"range 0 10\nmap mull 3\nsum\n", "line 3: UNKNOWN_WORD"),
     (b"range 0 10\nmap mul\nsum\n", "line 3: BAD_ARITY"),
     (b"range 0 10\nmap mul 03\nsum\n", "line 3: BAD_NUMBER"),
@@ -55,7 +55,7 @@ const OF_LINES: [(&[u8], &str); 9] = [
 ];
 
 /// Words of the second version, which the first has not.
-const NOT_IN_THE_FIRST: [(&[u8], &str); 3] = [
+const NOT_IN_THE_FIRST: &[Row<'_>] = &[
     (
         b"numbers 1\ntomapstrict self self\n",
         "line 3: UNKNOWN_WORD",
@@ -71,7 +71,7 @@ const NOT_IN_THE_FIRST: [(&[u8], &str); 3] = [
 ];
 
 /// Collectors of the second version, nested too deep or of the wrong items.
-const NOT_IN_THE_SECOND: [(&[u8], &str); 2] = [
+const NOT_IN_THE_SECOND: &[Row<'_>] = &[
     (
         b"numbers 1\ngroupby mod 2 groupby mod 3 groupby mod 5 count\n",
         "line 3: UNKNOWN_WORD",
@@ -83,7 +83,7 @@ const NOT_IN_THE_SECOND: [(&[u8], &str); 2] = [
 ];
 
 /// Whole files: bad first lines, and beginnings of a file of 25 bytes.
-const WHOLE: [(&[u8], &str); 11] = [
+const WHOLE: &[Row<'_>] = &[
     (b"", "line 1: BAD_VERSION"),
     (b"pipeline 1\r\nrange 1 6\nsum\n", "line 1: BAD_VERSION"),
     (b"pipeline 3\nrange 1 6\nsum\n", "line 1: BAD_VERSION"),
@@ -98,38 +98,21 @@ const WHOLE: [(&[u8], &str); 11] = [
 ];
 
 #[test]
-fn of_both_versions(rt: HostRuntime) -> Result<(), Fail> {
-    for version in [ONE, TWO] {
-        all_right(&rt, rt.alloc(), version, OF_FILES.as_slice())?;
-        all_right(&rt, rt.alloc(), version, OF_SOURCES.as_slice())?;
-        all_right(&rt, rt.alloc(), version, OF_LINES.as_slice())?;
-    }
-    Ok(())
-}
-
-#[test]
-fn of_one_version(rt: HostRuntime) -> Result<(), Fail> {
-    all_right(&rt, rt.alloc(), ONE, NOT_IN_THE_FIRST.as_slice())?;
-    all_right(&rt, rt.alloc(), TWO, NOT_IN_THE_SECOND.as_slice())
-}
-
-#[test]
-fn of_first_lines_and_beginnings(rt: HostRuntime) -> Result<(), Fail> {
-    all_right(&rt, rt.alloc(), b"", WHOLE.as_slice())
+fn are_told(rt: HostRuntime) -> Result<(), Fail> {
+    let both = [ONE, TWO];
+    all_right(&rt, rt.alloc(), &both, &[OF_FILES, OF_SOURCES, OF_LINES])?;
+    all_right(&rt, rt.alloc(), &[ONE], &[NOT_IN_THE_FIRST])?;
+    all_right(&rt, rt.alloc(), &[TWO], &[NOT_IN_THE_SECOND])?;
+    all_right(&rt, rt.alloc(), &[b""], &[WHOLE])
 }
 
 #[test]
 fn of_the_stage_line_above_the_most(rt: HostRuntime) -> Result<(), Fail> {
     let alloc = rt.alloc();
-    for (stages, wanted) in [(32usize, "0\n"), (33, "line 35: TOO_MANY_STAGES")] {
-        let mut lines = Vec::new(alloc);
-        lines.extend_from_slice(b"range 0 1\n")?;
-        for _ in 0..stages {
-            lines.extend_from_slice(b"map self\n")?;
-        }
-        lines.extend_from_slice(b"sum\n")?;
-        let rows: [(&[u8], &str); 1] = [(lines.as_slice(), wanted)];
-        all_right(&rt, alloc, ONE, rows.as_slice())?;
+    for &(stages, wanted) in &[(32, "0\n"), (33, "line 35: TOO_MANY_STAGES")] {
+        let stages = "map self\n".repeat(alloc, stages)?;
+        let lines = format!(in alloc; "range 0 1\n{stages}sum\n")?;
+        all_right(&rt, alloc, &[ONE], &[&[(lines.as_bytes(), wanted)]])?;
     }
     Ok(())
 }

@@ -1,4 +1,4 @@
-//! The gate of the tests: each other type of gate would be one more copy of the whole run in the compiled tests.
+//! The gate of the tests. The program's own gate and this one are each a copy of the whole run in the compiled tests.
 
 use pipeline_runner::Gate;
 use std::hint;
@@ -73,23 +73,10 @@ impl Watch {
         }
     }
 
-    /// Turns until a worker with another bit has come.
-    fn wait_for_another(&self, own: u64) {
+    /// Turns until the number is at least this.
+    fn wait_for(&self, number: &AtomicU64, least: u64) {
         for _ in 0..TURNS {
-            if self.workers.load(Ordering::SeqCst) != own {
-                return;
-            }
-            hint::spin_loop();
-        }
-        self.missed.fetch_add(1, Ordering::SeqCst);
-    }
-
-    /// Turns until the other leaves of this run and of those before it have ended.
-    fn wait_for_others(&self) {
-        let earlier = self.runs.fetch_add(1, Ordering::SeqCst);
-        let wanted = self.others.wrapping_mul(earlier.wrapping_add(1));
-        for _ in 0..TURNS {
-            if self.others_ended.load(Ordering::SeqCst) >= wanted {
+            if number.load(Ordering::SeqCst) >= least {
                 return;
             }
             hint::spin_loop();
@@ -103,10 +90,13 @@ impl Gate for Watch {
         self.count(&self.entered, worker);
         let own = 1 << (worker % 64);
         if self.workers.fetch_or(own, Ordering::SeqCst) == 0 && self.holds {
-            self.wait_for_another(own);
+            // another worker's bit makes a greater number of them
+            self.wait_for(&self.workers, own.wrapping_add(1));
         }
         if leaf == 0 {
-            self.wait_for_others();
+            // the other leaves of this run and of those before it
+            let runs = self.runs.fetch_add(1, Ordering::SeqCst).wrapping_add(1);
+            self.wait_for(&self.others_ended, self.others.wrapping_mul(runs));
         }
     }
 

@@ -1,8 +1,9 @@
 //! The whole program, over the words after its name.
 
-use super::{ROOM, Script};
+use super::{Calls, ROOM, Sink, Source};
 use pipeline_runner::{Counted, command};
 use std::alloc::{AllocError, Global};
+use std::process::Abort;
 use std::random::RandomSource;
 use std::test::Fail;
 use std::thread::Threads;
@@ -75,29 +76,35 @@ Status:
 /// A file whose key 3 is the first that comes twice.
 const REPEATS: &[u8] = b"pipeline 2\nnumbers 1 2 3 4 3 1\ntomapstrict mod 10 self\n";
 
-/// A program's end: its status, what it wrote, and what it told.
-#[derive(Debug, Drop)]
-struct End {
-    status: u8,
-    written: String,
-    told: String,
+/// An input with these bytes, which gives so many of them at a time.
+fn input(bytes: &[u8], step: usize, fails_at: u64) -> Counted<Source<'_>> {
+    Counted::new(Source {
+        bytes,
+        step,
+        calls: Calls::failing_at(fails_at),
+    })
 }
 
-/// How the program ends, with an output that fails at one call.
+const ROW: &[u8] = b"pipeline 1\nrange 1 6\nsum\n";
+
+/// How the program ends, with an output that fails at one call: its status, what it wrote, and what it told.
 fn program<R: Threads + RandomSource + Sync>(
     rt: &R,
     alloc: Global,
     words: &[&str],
     write_fails: u64,
-) -> Result<End, AllocError> {
-    let mut output = Counted::new(Script::new(alloc, b"", 100, write_fails).with_room()?);
+) -> Result<(u8, String, String), AllocError> {
+    let mut output = Counted::new(Sink {
+        written: Vec::with_capacity(alloc, ROOM)?,
+        step: 100,
+        calls: Calls::failing_at(write_fails),
+    });
     let mut error = Vec::with_capacity(alloc, ROOM)?;
-    let row: &[u8] = b"pipeline 1\nrange 1 6\nsum\n";
     let opener = |name: &str| match name {
-        "row" => Some(Counted::new(Script::new(alloc, row, 100, 0))),
-        "torn" => Some(Counted::new(Script::new(alloc, row, 4, 2))),
-        "bad" => Some(Counted::new(Script::new(alloc, b"pipeline 3\n", 100, 0))),
-        "repeats" => Some(Counted::new(Script::new(alloc, REPEATS, 100, 0))),
+        "row" => Some(input(ROW, 100, 0)),
+        "torn" => Some(input(ROW, 4, 2)),
+        "bad" => Some(input(b"pipeline 3\n", 100, 0)),
+        "repeats" => Some(input(REPEATS, 100, 0)),
         _ => None,
     };
     let status = command(rt, alloc, words, opener, &mut output, &mut error);
@@ -106,96 +113,91 @@ fn program<R: Threads + RandomSource + Sync>(
     if told.as_str() == "out of memory\n" {
         return Err(AllocError);
     }
-    Ok(End {
-        status,
-        written,
-        told,
-    })
+    Ok((status, written, told))
 }
 
+/// Asserts how the program ends.
+fn check<R: Threads + RandomSource + Abort + Sync>(
+    rt: &R,
+    alloc: Global,
+    words: &[&str],
+    write_fails: u64,
+    wanted: (u8, &str, &str),
+) -> Result<(), Fail> {
+    let (status, written, told) = program(rt, alloc, words, write_fails)?;
+    let is_wanted = (status, written.as_str(), told.as_str()) == wanted;
+    assert!(rt; is_wanted, "{words:?}: {status} {written} {told}");
+    Ok(())
+}
+
+/// The words, the write that fails, and the status, what is written and what is told.
+type Row<'a> = (&'a [&'a str], u64, (u8, &'a str, &'a str));
+
+const RUNS: &[Row<'_>] = &[
+    (&["row"], 0, (0, "15\n", "")),
+    (
+        &["row", "--workers", "64", "--target", "1"],
+        0,
+        (0, "15\n", ""),
+    ),
+    (&["--workers=1", "row"], 0, (0, "15\n", "")),
+    (
+        &["row", "--target", "4611686018427387904"],
+        0,
+        (0, "15\n", ""),
+    ),
+    (&["bad"], 0, (2, "", "line 1: BAD_VERSION\n")),
+    (&["repeats"], 0, (4, "", "duplicate key 3\n")),
+    (&["none"], 0, (3, "", "read failed\n")),
+    (&["torn"], 0, (3, "", "read failed\n")),
+    (&["row"], 1, (3, "", "write failed\n")),
+    (&["row"], 2, (3, "15\n", "write failed\n")),
+    (&["--help"], 0, (0, HELP, "")),
+    (&["-h"], 0, (0, HELP, "")),
+    (&["--help"], 1, (3, "", "write failed\n")),
+];
+
 #[test]
-fn ends_as_the_run_does(rt: HostRuntime) -> Result<(), Fail> {
-    let cases: [(&[&str], u64, u8, &str, &str); 10] = [
-        (&["row"], 0, 0, "15\n", ""),
-        (
-            &["row", "--workers", "64", "--target", "1"],
-            0,
-            0,
-            "15\n",
-            "",
-        ),
-        (&["--workers=1", "row"], 0, 0, "15\n", ""),
-        (
-            &["row", "--target", "4611686018427387904"],
-            0,
-            0,
-            "15\n",
-            "",
-        ),
-        (&["bad"], 0, 2, "", "line 1: BAD_VERSION\n"),
-        (&["repeats"], 0, 4, "", "duplicate key 3\n"),
-        (&["none"], 0, 3, "", "read failed\n"),
-        (&["torn"], 0, 3, "", "read failed\n"),
-        (&["row"], 1, 3, "", "write failed\n"),
-        (&["row"], 2, 3, "15\n", "write failed\n"),
-    ];
-    for (words, write_fails, status, written, told) in cases {
-        let end = program(&rt, rt.alloc(), words, write_fails)?;
-        assert!(rt; end.status == status, "{end:?}");
-        assert!(rt; end.written.as_str() == written);
-        assert!(rt; end.told.as_str() == told);
+fn ends_as_the_run_or_with_its_help(rt: HostRuntime) -> Result<(), Fail> {
+    for &(words, write_fails, wanted) in RUNS {
+        check(&rt, rt.alloc(), words, write_fails, wanted)?;
     }
     Ok(())
 }
+
+/// The words, and the beginning of what is told.
+const FAULTS: &[(&[&str], &str)] = &[
+    (
+        &[],
+        "error: the following required arguments were not provided:\n  <FILE>\n\nUsage: pstream <FILE>",
+    ),
+    (
+        &["row", "--workers", "0"],
+        "error: invalid value '0' for '--workers <W>': 0 is not in 1..=64",
+    ),
+    (
+        &["row", "--workers", "65"],
+        "error: invalid value '65' for '--workers <W>': 65 is not in 1..=64",
+    ),
+    (
+        &["row", "--target", "4611686018427387905"],
+        "error: invalid value '4611686018427387905' for '--target <T>': 4611686018427387905 is not in 0..=4611686018427387904",
+    ),
+    (
+        &["row", "--workers", "four"],
+        "error: invalid value 'four' for '--workers <W>': invalid digit found in string",
+    ),
+    (
+        &["row", "bad"],
+        "error: unexpected argument 'bad' found\n\nUsage: pstream [OPTIONS] <FILE>",
+    ),
+];
 
 #[test]
 fn tells_a_fault_of_the_command_line(rt: HostRuntime) -> Result<(), Fail> {
-    let tail = "\n\nFor more information, try '--help'.\n";
-    let missing =
-        "error: the following required arguments were not provided:\n  <FILE>\n\nUsage: pstream <FILE>";
-    let cases: [(&[&str], &str); 6] = [
-        (&[], missing),
-        (
-            &["row", "--workers", "0"],
-            "error: invalid value '0' for '--workers <W>': 0 is not in 1..=64",
-        ),
-        (
-            &["row", "--workers", "65"],
-            "error: invalid value '65' for '--workers <W>': 65 is not in 1..=64",
-        ),
-        (
-            &["row", "--target", "4611686018427387905"],
-            "error: invalid value '4611686018427387905' for '--target <T>': 4611686018427387905 is not in 0..=4611686018427387904",
-        ),
-        (
-            &["row", "--workers", "four"],
-            "error: invalid value 'four' for '--workers <W>': invalid digit found in string",
-        ),
-        (
-            &["row", "bad"],
-            "error: unexpected argument 'bad' found\n\nUsage: pstream [OPTIONS] <FILE>",
-        ),
-    ];
-    for (words, wanted) in cases {
-        let end = program(&rt, rt.alloc(), words, 0)?;
-        let text = format!(in rt.alloc(); "{wanted}{tail}")?;
-        assert!(rt; end.told.as_str() == text.as_str());
-        assert!(rt; end.status == 2);
-        assert!(rt; end.written.as_str() == "");
+    for &(words, fault) in FAULTS {
+        let told = format!(in rt.alloc(); "{fault}\n\nFor more information, try '--help'.\n")?;
+        check(&rt, rt.alloc(), words, 0, (2, "", told.as_str()))?;
     }
-    Ok(())
-}
-
-#[test]
-fn shows_its_help(rt: HostRuntime) -> Result<(), Fail> {
-    for word in ["--help", "-h"] {
-        let end = program(&rt, rt.alloc(), [word].as_slice(), 0)?;
-        assert!(rt; end.written.as_str() == HELP);
-        assert!(rt; end.status == 0);
-        assert!(rt; end.told.as_str() == "");
-    }
-    let end = program(&rt, rt.alloc(), ["--help"].as_slice(), 1)?;
-    assert!(rt; end.status == 3);
-    assert!(rt; end.told.as_str() == "write failed\n");
     Ok(())
 }

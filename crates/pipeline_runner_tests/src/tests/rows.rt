@@ -1,9 +1,6 @@
 //! Runs of files with few and many workers, at leaves of one item and of as many as are chosen.
 
-ghost use Rattle.std.specs.Prelude.{◌≤◌, ◌^◌};
-
-use super::answer;
-use pipeline_runner::Settings;
+use super::{Case, check};
 use std::alloc::{AllocError, Global};
 use std::process::Abort;
 use std::random::RandomSource;
@@ -14,6 +11,9 @@ pub const ONE: &[u8] = b"pipeline 1\n";
 
 pub const TWO: &[u8] = b"pipeline 2\n";
 
+/// The lines behind the first one of a file, and what is written of it, which ends a line, or told.
+pub type Row<'a> = (&'a [u8], &'a str);
+
 /// The bytes of a file.
 fn file_of(alloc: Global, first: &[u8], lines: &[u8]) -> Result<Vec<u8>, AllocError> {
     let mut file = Vec::new(alloc);
@@ -22,36 +22,18 @@ fn file_of(alloc: Global, first: &[u8], lines: &[u8]) -> Result<Vec<u8>, AllocEr
     Ok(file)
 }
 
-/// The first row with another answer, and that answer. A row has the lines behind the first.
-fn first_wrong<R: Threads + RandomSource + Sync>(
-    rt: &R,
-    alloc: Global,
-    first: &[u8],
-    rows: &[(&[u8], &str)],
-    settings: &Settings,
-) -> Result<Option<(usize, String)>, AllocError>
-    requires workers { (1 ≤ settings.now.workers) × (settings.now.workers ≤ 64) }
-    requires target { settings.now.target ≤ 2 ^ 62 }
-{
-    for (place, (lines, wanted)) in rows.iter().enumerate() {
-        let file = file_of(alloc, first, lines)?;
-        let found = answer(rt, alloc, file.as_slice(), settings)?;
-        if found.as_str() != *wanted {
-            return Ok(Some((place, found)));
-        }
-    }
-    Ok(None)
-}
-
-/// Each row has its answer with 1, 2, 7 and 64 workers, at target 1 and at the one that is chosen.
+/// Behind each of the first lines each row of the tables has its answer with 1, 2, 7 and 64 workers, at target 1 and at the one that is chosen.
 pub fn all_right<R: Threads + RandomSource + Abort + Sync>(
     rt: &R,
     alloc: Global,
-    first: &[u8],
-    rows: &[(&[u8], &str)],
+    firsts: &[&[u8]],
+    tables: &[&[Row<'_>]],
 ) -> Result<(), Fail> {
-    for target in [1, 0] {
-        right_at(rt, alloc, first, rows, target)?;
+    for first in firsts {
+        for rows in tables {
+            right_at(rt, alloc, first, rows, 1)?;
+            right_at(rt, alloc, first, rows, 0)?;
+        }
     }
     Ok(())
 }
@@ -61,31 +43,33 @@ pub fn right_at<R: Threads + RandomSource + Abort + Sync>(
     rt: &R,
     alloc: Global,
     first: &[u8],
-    rows: &[(&[u8], &str)],
+    rows: &[Row<'_>],
     target: u64,
 ) -> Result<(), Fail> {
-    for workers in [1u32, 2, 7, 64] {
-        assert!(rt; (1..=64).contains(&workers) && target <= 1 << 62);
-        let settings = Settings { workers, target };
-        let wrong = first_wrong(rt, alloc, first, rows, &settings)?;
-        assert!(rt; wrong == None, "{workers} workers, target {target}");
+    for &(lines, wanted) in rows {
+        let file = file_of(alloc, first, lines)?;
+        for &workers in &[1, 2, 7, 64] {
+            answers(
+                rt,
+                alloc,
+                &Case::of(file.as_slice(), workers, target),
+                wanted,
+            )?;
+        }
     }
     Ok(())
 }
 
-#[test]
-fn a_first_item_far_within(rt: HostRuntime) -> Result<(), Fail> {
-    let rows: [(&[u8], &str); 2] = [
-        (
-            b"range 0 1000000\nmap mul 3\nfilter greater 100\nfindfirst\n",
-            "Optional[102]\n",
-        ),
-        (
-            b"range 0 1000000\nmap mul 3\nfilter greater 100\nlimit 1\ntolist\n",
-            "[102]\n",
-        ),
-    ];
-    right_at(&rt, rt.alloc(), ONE, rows.as_slice(), 1000)?;
-    let rows: [(&[u8], &str); 1] = [(b"range 0 8192\nfilter less 1\nlimit 1\ntolist\n", "[0]\n")];
-    right_at(&rt, rt.alloc(), ONE, rows.as_slice(), 4096)
+/// Asserts the answer of a run: a text that ends a line is written, any other one told.
+fn answers<R: Threads + RandomSource + Abort + Sync>(
+    rt: &R,
+    alloc: Global,
+    case: &Case<'_>,
+    wanted: &str,
+) -> Result<(), Fail> {
+    if wanted.ends_with("\n") {
+        check(rt, alloc, case, "", wanted)
+    } else {
+        check(rt, alloc, case, wanted, "")
+    }
 }

@@ -1,10 +1,10 @@
 //! Lines behind the first one of a file, each with what a run writes.
 
-use super::rows::{ONE, TWO, all_right};
+use super::rows::{ONE, Row, TWO, all_right, right_at};
 use std::test::Fail;
 
 /// Sums, products and the like of numbers, which need no list.
-const REDUCTIONS: [(&[u8], &str); 18] = [
+const REDUCTIONS: &[Row<'_>] = &[
     (b"range 1 6\nsum\n", "15\n"),
     (b"range 1 6\nmap self\nsum\n", "15\n"),
     (b"range 5 5\nsum\n", "0\n"),
@@ -29,7 +29,7 @@ const REDUCTIONS: [(&[u8], &str); 18] = [
 ];
 
 /// Lists of numbers behind stages.
-const LISTS: [(&[u8], &str); 13] = [
+const LISTS: &[Row<'_>] = &[
     (b"range 0 10\nlimit 0\ntolist\n", "[]\n"),
     (b"range 0 10\nlimit 3\ntolist\n", "[0, 1, 2]\n"),
     // no run over so many numbers would end
@@ -62,7 +62,7 @@ const LISTS: [(&[u8], &str); 13] = [
 ];
 
 /// Counts, with sizes that are known and that aren't.
-const COUNTS: [(&[u8], &str); 10] = [
+const COUNTS: &[Row<'_>] = &[
     (
         b"closed 9223372036854775807 9223372036854775807\ncount\n",
         "1\n",
@@ -85,7 +85,7 @@ const COUNTS: [(&[u8], &str); 10] = [
 ];
 
 /// Values of texts.
-const TEXTS: [(&[u8], &str); 8] = [
+const TEXTS: &[Row<'_>] = &[
     (b"lines 3\n\na\n\njoining ,\n", ",a,\n"),
     (b"lines 3\n\n\n\njoining , < >\n", "<,,>\n"),
     (
@@ -100,7 +100,7 @@ const TEXTS: [(&[u8], &str); 8] = [
 ];
 
 /// Maps, partitions and pairs.
-const GROUPS: [(&[u8], &str); 8] = [
+const GROUPS: &[Row<'_>] = &[
     (
         b"numbers 5 2 7 4 5\ngroupby mod 2 counting\n",
         "{1=3, 0=2}\n",
@@ -124,7 +124,7 @@ const GROUPS: [(&[u8], &str); 8] = [
 ];
 
 /// Collectors within collectors, which the second version has.
-const NESTED: [(&[u8], &str); 8] = [
+const NESTED: &[Row<'_>] = &[
     (
         b"numbers 1 2 3 4 5 6\ngroupby mod 2 groupby mod 3 counting\n",
         "{1={1=1, 0=1, 2=1}, 0={2=1, 1=1, 0=1}}\n",
@@ -160,7 +160,7 @@ const NESTED: [(&[u8], &str); 8] = [
 ];
 
 /// Maps in which no key may repeat, which the second version has.
-const STRICT: [(&[u8], &str); 5] = [
+const STRICT: &[Row<'_>] = &[
     (b"numbers 1 2\ntomapstrict self negate\n", "{1=-1, 2=-2}\n"),
     (
         b"numbers 1 2 3 4 3 1\ntomapstrict mod 10 self\n",
@@ -181,31 +181,29 @@ const STRICT: [(&[u8], &str); 5] = [
 ];
 
 #[test]
-fn reductions_and_counts(rt: HostRuntime) -> Result<(), Fail> {
-    for version in [ONE, TWO] {
-        all_right(&rt, rt.alloc(), version, REDUCTIONS.as_slice())?;
-        all_right(&rt, rt.alloc(), version, COUNTS.as_slice())?;
-    }
-    Ok(())
+fn are_written(rt: HostRuntime) -> Result<(), Fail> {
+    let of_both = [REDUCTIONS, COUNTS, LISTS, TEXTS, GROUPS];
+    all_right(&rt, rt.alloc(), &[ONE, TWO], &of_both)?;
+    all_right(&rt, rt.alloc(), &[TWO], &[NESTED, STRICT])
 }
 
-#[test]
-fn lists_and_texts(rt: HostRuntime) -> Result<(), Fail> {
-    for version in [ONE, TWO] {
-        all_right(&rt, rt.alloc(), version, LISTS.as_slice())?;
-        all_right(&rt, rt.alloc(), version, TEXTS.as_slice())?;
-    }
-    Ok(())
-}
+/// First items far within a range, for leaves of 1,000 items.
+const FAR_WITHIN: &[Row<'_>] = &[
+    (
+        b"range 0 1000000\nmap mul 3\nfilter greater 100\nfindfirst\n",
+        "Optional[102]\n",
+    ),
+    (
+        b"range 0 1000000\nmap mul 3\nfilter greater 100\nlimit 1\ntolist\n",
+        "[102]\n",
+    ),
+];
+
+/// The first item of a range, for leaves of 4,096 items.
+const AT_THE_FRONT: &[Row<'_>] = &[(b"range 0 8192\nfilter less 1\nlimit 1\ntolist\n", "[0]\n")];
 
 #[test]
-fn groups(rt: HostRuntime) -> Result<(), Fail> {
-    all_right(&rt, rt.alloc(), ONE, GROUPS.as_slice())?;
-    all_right(&rt, rt.alloc(), TWO, GROUPS.as_slice())
-}
-
-#[test]
-fn what_the_second_version_adds(rt: HostRuntime) -> Result<(), Fail> {
-    all_right(&rt, rt.alloc(), TWO, NESTED.as_slice())?;
-    all_right(&rt, rt.alloc(), TWO, STRICT.as_slice())
+fn of_a_first_item(rt: HostRuntime) -> Result<(), Fail> {
+    right_at(&rt, rt.alloc(), ONE, FAR_WITHIN, 1000)?;
+    right_at(&rt, rt.alloc(), ONE, AT_THE_FRONT, 4096)
 }
