@@ -15,6 +15,8 @@ CODE = """//! Numbers that follow one another.
 
 ghost use Rattle.std.specs.Prelude.{◌≡◌, ◌+◌, ◌<◌};
 
+const STEP: u8 = 5;
+
 pub fn next(number: u8) -> u8
     requires { number < 9 }
     ensures { result ≡ number + 1 }
@@ -42,14 +44,23 @@ pub fn fourth(number: u8) -> u8
 {
     number + 4
 }
+
+pub fn fifth(number: u8) -> u8
+    requires { number < 5 }
+    ensures { result ≡ number + 5 }
+{
+    number + STEP
+}
 """
-# what each edit changes, and how its line has to begin
+# what each edit changes, with the function that it names where it names one, and how its line has to begin
 EDITS = {
     "adds_two": ("    number + 1", "    number + 2", "sample/adds_two: refused: "),
     "only_calls_what_is_refused": ("next(next(number))", "{ let first = next(number); next(first) }", "FAILED: sample/only_calls_what_is_refused: NOT REFUSED"),
     "changes_nothing": ("    number + 3", "    3 + number", "FAILED: sample/changes_nothing: NOT REFUSED"),
     "does_not_parse": ("    number + 4", "    number +", "FAILED: sample/does_not_parse: the edited text can't be read"),
-    "stands_nowhere": ("    number + 5", "    number", "FAILED: sample/stands_nowhere: it can't be applied"),
+    "stands_nowhere": ("    number + 9", "    number", "FAILED: sample/stands_nowhere: it can't be applied"),
+    "steps_too_far": ("STEP: u8 = 5", "STEP: u8 = 6\nfunction: fifth", "sample/steps_too_far: refused: "),
+    "names_no_function": ("STEP: u8 = 5", "STEP: u8 = 6\nfunction: sixth", "FAILED: sample/names_no_function: it can't be applied"),
 }
 
 
@@ -70,7 +81,7 @@ def told():
 def main():
     lines, status = told()
     cases = {name: any(line.startswith(wanted) for line in lines) for name, (_, _, wanted) in EDITS.items()}
-    cases |= {"the sums": lines[-1:] == ["1 passed, 4 failed"], "the status": status == 1}
+    cases |= {"the sums": lines[-1:] == ["2 passed, 5 failed"], "the status": status == 1}
     for name, good in cases.items():
         print(f"{'ok' if good else 'FAILED'}: {name}")
     if not all(cases.values()):
