@@ -5,6 +5,7 @@ ghost use Rattle.stages.specs.Operators.{IsAssociative, TestsAssociative, associ
 ghost use Rattle.collectors.specs.Reductions.{reduced, first, earlier, reduce_add, reduce_merge, reduce_laws, first_laws};
 
 use crate::Collector;
+use crate::strands::join_all;
 use spliterator::{NoMemory, Value};
 use stages::Operator;
 use std::marker::PhantomData;
@@ -102,15 +103,13 @@ impl<T: Value + Clone, O: Operator<T>> Collector for Reducing<T, O> {
         }
     }
 
-    // What is joined so far stays out of the container.
+    // What is joined so far stays out of the container, and grows in strands.
     fn accumulate_all(&self, acc: &mut Option<T>, items: &[T]) -> Result<(), NoMemory> {
         let Some((first, rest)) = items.split_first() else {
             return Ok(());
         };
         let mut joined = join_first(&self.operator, acc.take(), first)?;
-        for x in rest {
-            joined = self.operator.join(&joined, x)?;
-        }
+        join_all(&self.operator, &mut joined, rest)?;
         *acc = Some(joined);
         Ok(())
     }

@@ -5,7 +5,10 @@ use Rattle.std.proofs.Math.ListN.{set}
 use Rattle.std.proofs.Math.Seq.{drop-cons, take-append_seam}
 use Rattle.std.proofs.lemmas.List.{take_more_set, take-set, drop-set-lt}
 use Rattle.std.proofs.lemmas.List.Elements.{filter_more}
+use Rattle.std.proofs.lemmas.List.Sums.{length-filter, count_by-le-length}
+use Rattle.std.specs.List.{count_by}
 use Rattle.stages.specs.Passing.{flat_map-flat_map, flat_map-one}
+use Rattle.pipeline_meaning.specs.WalkLaws.{filter-flat_map}
 use Rattle.pipeline_meaning.specs.NumberSteps.{number_step_images, steps_images}
 use Rattle.pipeline_meaning.specs.Prepared.{mapping_image}
 use Rattle.pipeline_meaning.specs.declared.functions.NumberMapping.{NumberMapping}
@@ -59,3 +62,30 @@ get_or_any (x ∷ l) (suc i) d e h = get_or_any l i d e (omega arith)
 -- the mapping that changes no number
 pub itself-all : (m : NumberMapping) (l : List ℤ) → m ≡ Itself → l ≡ flat_map (λ x. mapping_image m x ∷ []) l
 itself-all m l is = sym (flat_map-one l) ∙ ap (λ m. flat_map (λ x. mapping_image m x ∷ []) l) (sym is)
+
+-- what a test leaves of a list, where it is all of it, or nothing
+module _ (p : ℤ → Bool) where
+  abbrev kept : List ℤ → List ℤ
+  kept l = flat_map (λ x. cond (p x) (x ∷ []) []) l
+
+  counted : (l : List ℤ) → length (kept l) ≡ count_by p l
+  counted l = ap length (sym (filter-flat_map p l)) ∙ length-filter p l
+
+  stays : (b : Bool) (x : ℤ) (l : List ℤ) → (length (kept l) ≡ length l → kept l ≡ l) → length (cond b (x ∷ []) [] ++ kept l) ≡ suc (length l)
+      → cond b (x ∷ []) [] ++ kept l ≡ x ∷ l
+  stays true x l again e = ap (λ r. x ∷ r) (again (omega (arith, e)))
+  stays false x l again e = absurd (omega (arith, e, counted l, count_by-le-length p l))
+
+  all_kept : (l : List ℤ) → length (kept l) ≡ length l → kept l ≡ l
+  all_kept [] e = refl
+  all_kept (x ∷ l) e = stays (p x) x l (all_kept l) e
+
+  pub kept-all : (l : List ℤ) → length l ≤ count_by p l → kept l ≡ l
+  kept-all l h = all_kept l (omega (arith, h, counted l, count_by-le-length p l))
+
+  none : (l : List ℤ) → length l ≡ 0 → l ≡ []
+  none [] e = refl
+  none (x ∷ l) e = absurd (omega (arith, e))
+
+  pub kept-none : (l : List ℤ) → count_by p l ≡ 0 → kept l ≡ []
+  kept-none l h = none (kept l) (counted l ∙ h)

@@ -9,7 +9,7 @@ ghost use Rattle.pipeline_meaning.specs.PreparedLaws.{remainder-value};
 
 use crate::Divisor;
 use crate::functions::{NumberChange, NumberCheck, NumberComparison, NumberMapping};
-use crate::number_blocks::{keep_all, map_all};
+use crate::number_blocks::{keep_all, keep_runs, map_all};
 use crate::small_divisor::{SmallDivisor, all_near};
 use spliterator::NoMemory;
 use stages::{Mapping, Test};
@@ -184,9 +184,9 @@ pub(crate) fn filter_block(check: NumberCheck, items: &mut Vec<i64>)
     match check {
         NumberCheck::Divisible(divisor) => keep_all(Multiple { divisor }, items),
         NumberCheck::Comparison(comparison) => match comparison {
-            NumberComparison::Less(bound) => keep_all(Below { bound }, items),
-            NumberComparison::Greater(bound) => keep_all(Above { bound }, items),
-            NumberComparison::Equals(number) => keep_all(Equal { number }, items),
+            NumberComparison::Less(bound) => keep_runs(Below { bound }, items),
+            NumberComparison::Greater(bound) => keep_runs(Above { bound }, items),
+            NumberComparison::Equals(number) => keep_runs(Equal { number }, items),
         },
     }
 }
@@ -195,7 +195,7 @@ fn keep_failing<P: Test<i64> + Copy>(test: P, items: &mut Vec<i64>)
     requires { P.ready test }
     ensures { items.new.items ≡ flat_map (λ x. cond (not (P.holds test x)) (x ∷ []) []) items.old.items }
 {
-    keep_all(Fails { test }, items);
+    keep_runs(Fails { test }, items);
 }
 
 /// Leaves the numbers that fail a test.
@@ -203,7 +203,12 @@ pub(crate) fn drop_block(check: NumberCheck, items: &mut Vec<i64>)
     ensures { items.new.items ≡ flat_map (λ x. cond (not (check_holds check x)) (x ∷ []) []) items.old.items }
 {
     match check {
-        NumberCheck::Divisible(divisor) => keep_failing(Multiple { divisor }, items),
+        NumberCheck::Divisible(divisor) => keep_all(
+            Fails {
+                test: Multiple { divisor },
+            },
+            items,
+        ),
         NumberCheck::Comparison(comparison) => match comparison {
             NumberComparison::Less(bound) => keep_failing(Below { bound }, items),
             NumberComparison::Greater(bound) => keep_failing(Above { bound }, items),
