@@ -64,24 +64,27 @@ EDITS = {
 }
 
 
-def told():
-    """What the script tells of the edits of the small crate, in lines."""
+def told(edits, *words):
+    """What the script tells of these edits of the small crate, in lines, and its status."""
     with tempfile.TemporaryDirectory(prefix="test-wrong-bodies-") as root:
         crate = pathlib.Path(root, "crates", "sample")
         for folder in ("src", "wrong-bodies"):
             (crate / folder).mkdir(parents=True)
         pathlib.Path(root, "crates.txt").write_text("sample:\n")
         (crate / "src" / "lib.rt").write_text(CODE)
-        for name, (old, new, _) in EDITS.items():
+        for name, (old, new, _) in edits.items():
             (crate / "wrong-bodies" / f"{name}.edit").write_text(f"file: src/lib.rt\nold: {old}\nnew: {new}\n")
-        ran = subprocess.run([sys.executable, SCRIPT], cwd=root, stdout=subprocess.PIPE, text=True)
+        ran = subprocess.run([sys.executable, SCRIPT, *words], cwd=root, stdout=subprocess.PIPE, text=True)
         return ran.stdout.splitlines(), ran.returncode
 
 
 def main():
-    lines, status = told()
+    lines, status = told(EDITS, "--anew")
     cases = {name: any(line.startswith(wanted) for line in lines) for name, (_, _, wanted) in EDITS.items()}
     cases |= {"the sums": lines[-1:] == ["2 passed, 5 failed"], "the status": status == 1}
+    again, _ = told({name: edit for name, edit in EDITS.items() if "FAILED" not in edit[2]})
+    cases["what passed is kept"] = [line.endswith(" (by an earlier run of the same)") for line in again[:-1]] == [True, True]
+    lines += again
     for name, good in cases.items():
         print(f"{'ok' if good else 'FAILED'}: {name}")
     if not all(cases.values()):

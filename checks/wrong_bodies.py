@@ -1,7 +1,7 @@
 #!/usr/bin/env python3
 """Tries the wrong bodies crates/NAME/wrong-bodies/*.edit: the check has to refuse each edited function by a goal of its own.
 
-    checks/wrong_bodies.py [CRATE..]
+    checks/wrong_bodies.py [--anew] [CRATE..]
 
 Run it at the top of the repository, once the libraries are built (`rt ci`, or `rt all check`). An edit has the form of a must-fail edit:
 a line `file: src/..`, then pairs of lines `old: TEXT` and `new: TEXT`. One check tries as many edits of a crate as touch different
@@ -11,11 +11,15 @@ the edit took away, or that the text can't be read is no refusal. What a pack do
 `function: NAME` with the check's name of the function that has to be refused; without one it is tried alone, on the whole crate, and passes
 where any function is refused so.
 
+As `rt ci` does, it keeps on this machine what passed, by the checksums of all that it rests on: the edit, the crate, the crates below it, the
+toolchain, and this script. A later run tries what changed; --anew tries all.
+
 Prints a line an edit, and last `N passed, M failed`.
 """
 
 import collections
 import concurrent.futures
+import hashlib
 import importlib.machinery
 import importlib.util
 import os
@@ -151,7 +155,7 @@ class Edit:
     """A wrong body: what it changes, and the functions that it changes."""
 
     def __init__(self, path, crate):
-        self.name, self.pairs, self.functions, self.fault = path.stem, [], [], None
+        self.path, self.name, self.pairs, self.functions, self.fault = path, path.stem, [], [], None
         text = path.read_text(encoding="utf-8")
         self.fault = RT.edited(text, crate.folder)[1]
         file = old = named = None
@@ -266,6 +270,30 @@ def why_not(edit, crate, told):
     return f"refused by no goal of its own: {shown[:200]}"
 
 
+class Passed:
+    """What earlier runs on this machine saw refused, where `rt` keeps what it passed."""
+
+    def __init__(self, crates, anew):
+        self.store = RT.Kept(crates, anew)
+        self.script = b"".join(pathlib.Path(__file__).with_name(it).read_bytes() for it in ("wrong_bodies.py", "kept_work.py"))
+
+    def name(self, crate, edit):
+        """The sum of all that an edit's result rests on."""
+        text = repr((RT.stamp_of(crate, {}), hashlib.sha256(self.script).hexdigest()))
+        return self.store.of_edit(edit.path, hashlib.sha256(text.encode()).hexdigest())
+
+    def find(self, crate, edit):
+        """What an earlier run told of a refused edit, or None."""
+        found = None if edit.fault else self.store.tried(self.name(crate, edit))
+        return found and found[1]
+
+    def keep(self, crate, edits):
+        """Keeps what was told of refused edits, unless a file that the result rests on was touched since the run began."""
+        if all(map(self.store.is_untouched, [crate, *crate.below()])):
+            for edit, text in edits.items():
+                self.store.keep_tried(self.name(crate, edit), RT.REFUSED, text)
+
+
 class Trial:
     """The edits of one crate, each tried until it is shown as refused or has failed."""
 
@@ -273,6 +301,7 @@ class Trial:
         self.crate, self.edits, self.begun, self.kept, self.told = crate, edits, begun, kept, {}
 
     def run(self):
+        """What came of each edit: whether it passed, and what is told of it."""
         sound = [it for it in self.edits if not it.fault]
         self.told = {it: (False, f"it can't be applied: {it.fault}") for it in self.edits if it.fault}
         for pack in packs_of(sound, self.crate.folder):
@@ -280,7 +309,7 @@ class Trial:
         for edit in sound:
             if edit not in self.told:
                 self.try_pack([edit])
-        return [(self.told[it][0], f"{self.crate.name}/{it.name}: {self.told[it][1]}") for it in self.edits]
+        return self.told
 
     def try_pack(self, pack):
         texts = {}
@@ -322,14 +351,18 @@ class Trial:
         self.try_pack(pack[half:])
 
 
-def try_crate(crate):
-    folder = pathlib.Path(crate.folder)
-    edits = [Edit(it, crate) for it in sorted((folder / FOLDER).glob("*.edit"))]
+def try_crate(crate, passed):
+    """A line for each edit of a crate, with whether it passed."""
+    edits = [Edit(it, crate) for it in sorted(pathlib.Path(crate.folder, FOLDER).glob("*.edit"))]
+    known = {it: text for it in edits if (text := passed.find(crate, it))}
     lacking = [it.name for it in crate.below() if not os.path.isdir(it.rlib)]
-    if lacking:
+    if lacking and len(known) < len(edits):
         return [(False, f"{crate.name}: its library {lacking[0]} is not built: `rt all check` builds it")]
     with tempfile.TemporaryDirectory(prefix="wrong-bodies-", ignore_cleanup_errors=True) as kept:
-        return Trial(crate, edits, proved_work(crate), kept).run()
+        told = Trial(crate, [it for it in edits if it not in known], proved_work(crate), kept).run()
+    passed.keep(crate, {it: text for it, (well, text) in told.items() if well})
+    told |= {it: (True, f"{text} (by an earlier run of the same)") for it, text in known.items()}
+    return [(told[it][0], f"{crate.name}/{it.name}: {told[it][1]}") for it in edits]
 
 
 def proved_work(crate):
@@ -345,17 +378,20 @@ def jobs():
 
 
 def main():
+    names = {*sys.argv[1:]} - {"--anew"}
     RT.rtlib.guarded()
-    crates = [it for it in RT.rtlib.crates_below(os.getcwd()) if os.path.isdir(f"{it.folder}/{FOLDER}")]
-    unknown = {*sys.argv[1:]} - {it.name for it in crates}
+    every = RT.rtlib.crates_below(os.getcwd())
+    passed_before = Passed(every, "--anew" in sys.argv)
+    crates = [it for it in every if os.path.isdir(f"{it.folder}/{FOLDER}")]
+    unknown = names - {it.name for it in crates}
     if unknown:
         sys.exit(f"no crate with a folder {FOLDER}: {' '.join(sorted(unknown))}")
-    crates = [it for it in crates if it.name in sys.argv[1:] or not sys.argv[1:]]
+    crates = [it for it in crates if it.name in names or not names]
     # the dearest first, so that none is left over at the end
     crates.sort(key=lambda it: -it.count(rb"\n"))
     passed = failed = 0
     with concurrent.futures.ThreadPoolExecutor(jobs()) as lanes:
-        for ended in concurrent.futures.as_completed([lanes.submit(try_crate, it) for it in crates]):
+        for ended in concurrent.futures.as_completed([lanes.submit(try_crate, it, passed_before) for it in crates]):
             for well, text in ended.result():
                 print(text if well else f"FAILED: {text}", flush=True)
                 passed, failed = passed + well, failed + (not well)
