@@ -1,6 +1,6 @@
 //! Small runs take one worker, since threads take longer to start than they would save.
 
-ghost use Rattle.std.specs.Prelude.{◌≡◌, ◌≢◌, ◌⊎◌, ◌≤◌, ◌^◌, IfSome};
+ghost use Rattle.std.specs.Prelude.{◌≡◌, ◌≢◌, ◌⊎◌, ◌<◌, ◌≤◌, ◌^◌, IfSome};
 ghost use Rattle.split_tree.specs.SplitTree.{split_target};
 ghost use Rattle.pipeline_value.specs.Ranges.{PipelineFits};
 ghost use Rattle.pipeline_runner.specs.Leaves.{source_count};
@@ -22,6 +22,7 @@ pub(crate) fn settings_for(pipeline: &Pipeline, wanted: &Settings) -> Settings
     ensures workers { (result.workers ≡ 1) ⊎ (result.workers ≡ wanted.now.workers) }
     ensures target { result.target ≤ 2 ^ 62 }
     ensures chosen { wanted.now.target ≢ 0 → result ≡ wanted.now }
+    ensures large { 2 ^ 18 < source_count pipeline.now → result ≡ wanted.now }
     ensures leaves { split_target (source_count pipeline.now) result.workers result.target ≡ split_target (source_count pipeline.now) wanted.now.workers wanted.now.target }
 {
     if wanted.target > 0 {

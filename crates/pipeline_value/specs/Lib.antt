@@ -10,6 +10,7 @@ pub mod NumberContents
 pub mod OneToOne
 pub mod Places
 pub mod Ranges
+pub mod Settling
 pub mod TextContents
 pub mod Value
 pub mod Narrowing

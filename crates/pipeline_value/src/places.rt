@@ -25,6 +25,7 @@ fn run_over<'a, H>(items: u64, run: &Run<'a, H>) -> Run<'a, H>
     requires settings { IsLawfulRun run.now.workers run.now.target }
     ensures settings { IsLawfulRun result.workers result.target }
     ensures many { 65536 < items → result.workers ≡ run.now.workers }
+    ensures few { items ≤ 65536 → result.workers ≡ 1 }
     ensures target { result.target ≡ run.now.target }
 {
     Run {

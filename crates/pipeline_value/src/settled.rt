@@ -1,12 +1,13 @@
 //! Barriers that are done by cutting the source.
 
-ghost use Rattle.std.specs.Prelude.{◌≡◌, ◌≤◌, ◌<◌, IfOk, IfSome, All, IsTrue, drop, flat_map, length, take, take_while};
+ghost use Rattle.std.specs.Prelude.{◌≡◌, ◌≤◌, ◌<◌, ◌&&◌, IfOk, IfSome, All, IsTrue, drop, false, flat_map, is_some, length, take, take_while, true};
 ghost use Rattle.std.specs.List.{HoldsAt};
 ghost use Rattle.barriers.specs.Whiles.{drop_while};
 ghost use Rattle.parallel_streams.specs.Runs.{IsLawfulRun};
 ghost use Rattle.pipeline_meaning.specs.AtMostOne.{GivesAtMostOne};
 ghost use Rattle.pipeline_meaning.specs.Functions.{number_holds};
 ghost use Rattle.pipeline_meaning.specs.Stages.{is_number_barrier, number_stage, number_stages};
+ghost use Rattle.pipeline_value.specs.Settling.{cuts_source};
 
 use crate::places::place_of;
 use parallel_streams::Run;
@@ -99,7 +100,8 @@ where
     H: Gate + Sync,
     requires settings { IsLawfulRun run.now.workers run.now.target }
     requires stage { A.ready stage.now }
-    ensures { IfOk result (λ part. IfSome part (λ part. flat_map (A.expand stage.now) (S.items part) ≡ number_stage barrier.now (flat_map (A.expand stage.now) (S.items source)))) }
+    ensures part { IfOk result (λ part. IfSome part (λ part. flat_map (A.expand stage.now) (S.items part) ≡ number_stage barrier.now (flat_map (A.expand stage.now) (S.items source)))) }
+    ensures had { IfOk result (λ part. is_some part ≡ (A.is_few stage.now && cuts_source barrier.now)) }
 {
     if !stage.gives_at_most_one() {
         return Ok(None);
@@ -136,7 +138,8 @@ pub(crate) struct Settled<S> {
 
 /// Takes stages as far as they go without a list, over a source's items behind a stage in front.
 ///
-/// A limit, a skip or a while is done by cutting the source at the place that the counts of its images tell.
+/// A limit, a skip or a while is done by cutting the source at the place that the counts of its images tell: each one, where no repeat
+/// stands before it.
 ///
 /// ```text
 /// range 0 1000, filter divisible 3, limit 5, sum    // range 0 13, filter divisible 3, sum
@@ -160,6 +163,10 @@ where
     ensures within { IfOk result (λ s. s.taken ≤ length stages.now) }
     ensures means { IfOk result (λ s. flat_map (⟦<NumberSteps as Stage>⟧.expand s.steps) (flat_map (A.expand front.now) (S.items s.source)) ≡ number_stages (take s.taken stages.now) (flat_map (A.expand front.now) (S.items source))) }
     ensures barrier { IfOk result (λ s. s.taken < length stages.now → HoldsAt (λ stage. IsTrue (is_number_barrier stage)) stages.now s.taken) }
+    ensures far { let stops = HoldsAt (λ stage. cuts_source stage ≡ false) stages.now in
+        let few = ⟦<NumberSteps as AtMostOne>⟧.is_few in
+        IfOk result (λ s. s.taken < length stages.now → A.is_few front.now ≡ true
+        → few s.steps ≡ true → stops s.taken) }
 {
     let mut source = source;
     let (mut steps, first) = NumberSteps::front_of(alloc, stages)?;

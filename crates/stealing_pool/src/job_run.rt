@@ -43,6 +43,7 @@ where
     requires case { K.case ≡ case_of (J.work job.now) seats }
     requires workers { 0 < workers }
     requires seats { (0 < seats) × (seats ≤ 64) }
+    requires lesser { seats ≡ min workers (J.work job.now).leaves }
     ensures entry { IfOk result (λ g. Reports (J.work job.now).needed (J.work job.now).leaves (J.work job.now).full g.entry.leaves (count_of g.entry) (cut_of g.entry)) }
     ensures stands { IfOk result (λ g. StandsForRun (J.work job.now) g.acc) }
 {

@@ -23,6 +23,6 @@ loop-taken-preserved g c =
     let within : c.loop-taken.taken < length c.args.stages.now = c.loop-taken-test.true in
     let unchanged = (rw c.if-branch.false at c.in_ok-put.ensures).1 in
     flat_map-flat_map images steps (g.S.Spliterator.items c.in-Some.part)
-    ∙ (rw (c.new-stage.ensures.first, c.new-stage.ensures.second, c.in-Some.is) at c.in_ok-part.ensures)
+    ∙ (rw (c.new-stage.ensures.first, c.new-stage.ensures.second, c.in-Some.is) at c.in_ok-part.ensures.part)
     ∙ ap (number_stage _) (sym (flat_map-flat_map images steps items) ∙ ap (λ s. flat_map (number_images s) (flat_map images items)) unchanged)
     ∙ stage-more c.args.stages.now c.loop-taken.taken _ (flat_map (number_images c.loop-taken.steps) (flat_map images items)) _ within c.loop-taken.invariant
