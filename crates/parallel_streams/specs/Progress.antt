@@ -1,5 +1,5 @@
 -- How far the barriers of a stream have come.
-use Rattle.std.specs.Prelude.{◌≡◌, ◌+◌, ℕ, Bool, true, false, List, [], Option, Some, None, map, length}
+use Rattle.std.specs.Prelude.{◌≡◌, ◌+◌, ℕ, Bool, true, false, List, [], Option, Some, None, Result, Ok, Err, map, length}
 use Rattle.std.specs.Global.{Vec}
 use Rattle.stealing_pool.specs.Jobs.{Work}
 use Rattle.leaf_board.specs.Closing.{Outcome}
@@ -75,3 +75,7 @@ barred_work true before own = record { leaves = own.leaves; full = own.full; nee
 abbrev pub end_with : {A B : Type 0} → (A → B) → LeafEnd A → LeafEnd B
 end_with f (Done p) = Done (record { count = p.count; kept = f p.kept })
 end_with f Cut = Cut
+
+abbrev pub ended_with : {A B E : Type 0} → (A → B) → Result (LeafEnd A) E → Result (LeafEnd B) E
+ended_with f (Ok end) = Ok (end_with f end)
+ended_with f (Err refused) = Err refused

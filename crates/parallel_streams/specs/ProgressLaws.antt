@@ -1,5 +1,5 @@
 -- What holds of the progress of a stream with barriers.
-use Rattle.std.specs.Prelude.{◌≡◌, ◌<◌, ◌+◌, ◌++◌, ℕ, Bool, true, false, List, [], Option, Some, None, Result, Ok, Err, OnOk, map, length, slice_get, slice_index_or, refl}
+use Rattle.std.specs.Prelude.{◌≡◌, ◌<◌, ◌+◌, ◌++◌, ℕ, Bool, true, false, List, [], Option, Some, None, Result, Ok, Err, OnOk, IfOk, map, length, slice_get, slice_index_or, refl}
 use Rattle.std.proofs.Common.{sym, ap, ◌∙◌, subst, arith, true≢false}
 use Rattle.std.specs.Global.{Vec}
 use Rattle.std.proofs.lemmas.List.{length-map}
@@ -14,7 +14,7 @@ use Rattle.parallel_streams.specs.Cuts.{cut_at, cut_at-map, joined-cut_at, lengt
 use Rattle.parallel_streams.specs.Ends.{ends_of}
 use Rattle.parallel_streams.specs.Leaves.{IsCutList}
 use Rattle.parallel_streams.specs.LeafCutLaws.{IsCutList-ends}
-use Rattle.parallel_streams.specs.Progress.{HoldsListed, IsPlannedList, ToldSoFar, is_listed, next_leaves, parts_of, barred_work, end_with}
+use Rattle.parallel_streams.specs.Progress.{HoldsListed, IsPlannedList, ToldSoFar, is_listed, next_leaves, parts_of, barred_work, end_with, ended_with}
 use Rattle.parallel_streams.specs.declared.part.Listed.{Listed}
 use Rattle.parallel_streams.specs.declared.part.Part.{Part}
 use Rattle.parallel_streams.specs.declared.part.Part.TheVariants.{Before, Own}
@@ -92,10 +92,23 @@ module _ {P T : Type 0} (before : Work P) where
       let R : Part P T → Type 0 = λ m. Combines (barred_work done before own) (Own left) m (Own both) in
       subst Q (sym is_left) (subst R (sym is_right) (combines-own before own done left right both (spans-combine f content lists left right both law)))
 
-  pub ends-own_of : (own : Work (Vec T)) (done : Bool) (cut i : ℕ) (end : LeafEnd (Vec T)) (ended : LeafEnd (Part P T)) → ended ≡ end_with Own end → done ≡ true → EndsLeaf own cut i end → EndsLeaf (barred_work done before own) cut i ended
-  ends-own_of own done cut i end ended is held h =
-      let Q : LeafEnd (Part P T) → Type 0 = λ e. EndsLeaf (barred_work done before own) cut i e in
+  pub ends-own_ok : {E : Type 0} (own : Work (Vec T)) (done : Bool) (cut i : ℕ) (end : Result (LeafEnd (Vec T)) E) (ended : Result (LeafEnd (Part P T)) E) → ended ≡ ended_with Own end → done ≡ true
+      → IfOk end (EndsLeaf own cut i) → IfOk ended (EndsLeaf (barred_work done before own) cut i)
+  ends-own_ok {E} own done cut i (Ok end) ended is held h =
+      let Q : Result (LeafEnd (Part P T)) E → Type 0 = λ r. IfOk r (EndsLeaf (barred_work done before own) cut i) in
       subst Q (sym is) (ends-own before own done cut i end held h)
+  ends-own_ok {E} own done cut i (Err refused) ended is held h =
+      let Q : Result (LeafEnd (Part P T)) E → Type 0 = λ r. IfOk r (EndsLeaf (barred_work done before own) cut i) in
+      subst Q (sym is) tt
+
+  pub ends-before_ok : {E : Type 0} (own : Work (Vec T)) (done : Bool) (cut i : ℕ) (end : Result (LeafEnd P) E) (ended : Result (LeafEnd (Part P T)) E) → ended ≡ ended_with Before end → done ≡ false
+      → IfOk end (EndsLeaf before cut i) → IfOk ended (EndsLeaf (barred_work done before own) cut i)
+  ends-before_ok {E} own done cut i (Ok end) ended is unrun h =
+      let Q : Result (LeafEnd (Part P T)) E → Type 0 = λ r. IfOk r (EndsLeaf (barred_work done before own) cut i) in
+      subst Q (sym is) (ends-before before own done cut i end unrun h)
+  ends-before_ok {E} own done cut i (Err refused) ended is unrun h =
+      let Q : Result (LeafEnd (Part P T)) E → Type 0 = λ r. IfOk r (EndsLeaf (barred_work done before own) cut i) in
+      subst Q (sym is) tt
 
 -- the items of a leaf of a barrier's list
 pub part-at : {T C D : Type 0} (content : T → C) (through : List C → List D) (listed : Option (Listed T)) (l : Listed T) (i : ℕ) (part : List T) → listed ≡ Some l

@@ -137,22 +137,23 @@ impl<U: Stream, B: Barrier<U::Item>> Stream for Barred<U, B> {
         if self.upstream.is_gathered(&progress.before) {
             let nothing = Nothing::new();
             let list = ToList::new(alloc);
-            let end = self.upstream.run_last_leaf(
-                alloc,
-                &progress.before,
-                &nothing,
-                &self.barrier,
-                &list,
-                board,
-                seat,
-                leaf,
-            )?;
-            Ok(end_own(end))
+            end_own(
+                self.upstream.run_last_leaf(
+                    alloc,
+                    &progress.before,
+                    &nothing,
+                    &self.barrier,
+                    &list,
+                    board,
+                    seat,
+                    leaf,
+                ),
+            )
         } else {
-            let end = self
-                .upstream
-                .run_leaf(alloc, &progress.before, board, seat, leaf)?;
-            Ok(end_before(end))
+            end_before(
+                self.upstream
+                    .run_leaf(alloc, &progress.before, board, seat, leaf),
+            )
         }
     }
 

@@ -66,7 +66,7 @@ impl<T: Value, P: Test<T>> Collector for Meets<'_, T, P> {
 }
 
 /// The test that holds where another does not.
-#[derive(Clone, Copy)]
+#[derive(Drop)]
 pub struct Contrary<'a, P> {
     pub test: &'a P,
 }

@@ -1,9 +1,10 @@
 //! What the runs of barriers keep, and what they leave.
 ghost use Rattle.std.specs.Prelude.{◌≡◌};
-ghost use Rattle.parallel_streams.specs.Progress.{end_with};
+ghost use Rattle.parallel_streams.specs.Progress.{ended_with};
 ghost use Rattle.parallel_streams.specs.declared.part.Part.TheVariants.{Before as before_part, Own as own_part};
 
 use crate::places::Places;
+use spliterator::NoMemory;
 use stealing_pool::{LeafEnd, Portion};
 
 /// The value of a barrier: its items, and how they are cut into the leaves of the next run.
@@ -28,27 +29,33 @@ pub enum Part<P, T> {
 }
 
 /// How a leaf of a run of a barrier before ended.
-pub fn end_before<P: Drop, T: Drop>(end: LeafEnd<P>) -> LeafEnd<Part<P, T>>
-    ensures { result ≡ end_with before_part end }
+pub fn end_before<P: Drop, T: Drop>(
+    end: Result<LeafEnd<P>, NoMemory>,
+) -> Result<LeafEnd<Part<P, T>>, NoMemory>
+    ensures { result ≡ ended_with before_part end }
 {
     match end {
-        LeafEnd::Done(portion) => LeafEnd::Done(Portion {
-            count: portion.count,
-            kept: Part::Before(portion.kept),
-        }),
-        LeafEnd::Cut => LeafEnd::Cut,
+        Ok(LeafEnd::Done(Portion { count, kept })) => Ok(LeafEnd::Done(Portion {
+            count,
+            kept: Part::Before(kept),
+        })),
+        Ok(LeafEnd::Cut) => Ok(LeafEnd::Cut),
+        Err(refused) => Err(refused),
     }
 }
 
 /// How a leaf of the last barrier's run ended.
-pub fn end_own<P: Drop, T: Drop>(end: LeafEnd<Vec<T>>) -> LeafEnd<Part<P, T>>
-    ensures { result ≡ end_with own_part end }
+pub fn end_own<P: Drop, T: Drop>(
+    end: Result<LeafEnd<Vec<T>>, NoMemory>,
+) -> Result<LeafEnd<Part<P, T>>, NoMemory>
+    ensures { result ≡ ended_with own_part end }
 {
     match end {
-        LeafEnd::Done(portion) => LeafEnd::Done(Portion {
-            count: portion.count,
-            kept: Part::Own(portion.kept),
-        }),
-        LeafEnd::Cut => LeafEnd::Cut,
+        Ok(LeafEnd::Done(Portion { count, kept })) => Ok(LeafEnd::Done(Portion {
+            count,
+            kept: Part::Own(kept),
+        })),
+        Ok(LeafEnd::Cut) => Ok(LeafEnd::Cut),
+        Err(refused) => Err(refused),
     }
 }

@@ -381,9 +381,8 @@ pub trait Stream {
         ensures settings { AnswersUnder run.now.workers run.now.target result }
         ensures value { IfOk result (C.gives collector.now (value self.now)) }
     {
-        allow(run.workers, run.target)?;
-        let ended = evaluate(rt, alloc, self, run, &Whole, collector)?;
-        Ok(collector.finish(ended.acc)?)
+        let (value, _report) = self.collect_reported(rt, alloc, run, collector)?;
+        Ok(value)
     }
 
     /// The result of a collector on all the items, and what each run tells of its leaves: one entry a barrier, and then the last
@@ -443,9 +442,7 @@ pub trait Stream {
         if let Some(size) = self.known_size() {
             return Ok(size as i64);
         }
-        let counting = Counting::new();
-        let ended = evaluate(rt, alloc, self, run, &Whole, &counting)?;
-        Ok(counting.finish(ended.acc)?)
+        self.collect(rt, alloc, run, &Counting::new())
     }
 
     /// The first item, or none. What follows it may stay unread.
@@ -566,10 +563,7 @@ pub trait Stream {
         ensures settings { AnswersUnder run.now.workers run.now.target result }
         ensures value { IfOk result (λ joined. option_map Self.Item.content joined ≡ reduced (O.join operator.now) (value self.now)) }
     {
-        allow(run.workers, run.target)?;
-        let reducing = Reducing::new(operator);
-        let ended = evaluate(rt, alloc, self, run, &Whole, &reducing)?;
-        Ok(reducing.finish(ended.acc)?)
+        self.collect(rt, alloc, run, &Reducing::new(operator))
     }
 
     /// The items joined by an associative operator, from the identity on. The identity is one on the left: joined before any value

@@ -1,5 +1,5 @@
 //! The stateless stages of a stream.
-ghost use Rattle.std.specs.Prelude.{◌≡◌, [], ◌∷◌, cond, map, flat_map, None, OnOk, OnErr};
+ghost use Rattle.std.specs.Prelude.{◌≡◌, [], ◌∷◌, cond, flat_map, None};
 ghost use Rattle.stages.specs.declared.flags.Operation.TheVariants.{Map as map_row, Filter as filter_row, FlatMap as flat_map_row};
 ghost use Rattle.stages.specs.FlagLaws.{KeepsSound-map, KeepsSound-filter, KeepsSound-flat_map};
 
@@ -106,21 +106,6 @@ impl<T: OrderedValue + Drop, P: Test<T>> Stage for Filter<T, P> {
     }
 }
 
-// Gives the items to a sink in turn, as long as they make a difference.
-fn take_each<T: Value + Drop, K: Sink<T>>(items: Vec<T>, sink: &mut K) -> Result<(), NoMemory>
-    requires { K.ready sink.old }
-    ensures taken { OnOk result (K.takes sink.old (map T.content items.items) sink.new) }
-    ensures spoilt { OnErr result (K.spoils sink.old sink.new) }
-{
-    for item in items {
-        if sink.is_full() {
-            return Ok(());
-        }
-        sink.take(item)?;
-    }
-    Ok(())
-}
-
 /// The items of a list in the place of each item (`java.util.stream.Stream`, `flatMap`): the image of an item is a `Vec`, or another
 /// `ListValue`.
 #[derive(Drop)]
@@ -163,7 +148,8 @@ where
         x: T,
         sink: &mut K,
     ) -> Result<(), NoMemory> {
-        take_each(self.mapping.image(&x)?.into_items(), sink)
+        let mut images = self.mapping.image(&x)?.into_items();
+        sink.take_all(&mut images)
     }
 
     fn operation(&self) -> Operation {

@@ -64,12 +64,10 @@ where
     requires numbered { IsNumbered tree.now }
     ensures { IfOk result (StandsForPart (J.work job.now) (length (leaf_numbers tree.now)) row.items) }
 {
-    let Tree::Node(left, right) = tree else {
-        return combine_here(job, tree, row);
+    let (left, right) = match tree {
+        Tree::Node(left, right) if levels > 0 => (left, right),
+        _ => return combine_here(job, tree, row),
     };
-    if levels == 0 {
-        return combine_here(job, tree, row);
-    }
     let middle = right.first_leaf() - left.first_leaf();
     if row.len() <= middle {
         return combine_part(rt, job, left, levels - 1, row);
@@ -116,7 +114,15 @@ const FEW_LEAVES: usize = 256;
 
 /// Whether what is kept of the leaves is combined sooner than threads start.
 fn is_light_row<J: LeafJob>(job: &J, row: &[J::Kept]) -> bool {
-    row.len() <= FEW_LEAVES && row.iter().all(|kept| job.is_light(kept))
+    if FEW_LEAVES < row.len() {
+        return false;
+    }
+    for kept in row {
+        if !job.is_light(kept) {
+            return false;
+        }
+    }
+    true
 }
 
 /// Of how many levels the right children are combined by other threads: the greatest number such that two to its power is at most the number

@@ -15,7 +15,7 @@ use std::alloc::Global;
 
 /// Runs one leaf: feeds its source's items through a stage into a container, until the source ends or enough is kept.
 ///
-/// It asks the board after each 1,024 source items whether the leaf was cut. No list stands between the source and the container.
+/// It asks the board after each 1,024 source items, and after each block, whether the leaf was cut. No list stands between the source and the container.
 /// A job calls it in its `run_leaf`.
 pub fn run_leaf<
     B: Handout,
@@ -42,18 +42,16 @@ pub fn run_leaf<
     ensures same { SameFrom (B.status seat.old) (B.status seat.new) }
     ensures end { IfOk result (EndsList (folding (D.needed demand.now) (D.counted demand.now) G.Out.is_value (C.empty collector.now) (C.add collector.now)) (C.content collector.now) (flat_map (G.expand stage.now) (S.items source)) (B.cut seat.new) leaf) }
 {
+    let kept = collector.supply()?;
     let mut keeper = Keeper {
         demand,
         need: demand.need(),
         collector,
-        portion: Portion {
-            count: 0,
-            kept: collector.supply()?,
-        },
+        portion: Portion { count: 0, kept },
     };
-    if feed_until_cut(alloc, stage, source, &mut keeper, board, seat, leaf)? {
-        Ok(LeafEnd::Done(keeper.portion))
-    } else {
-        Ok(LeafEnd::Cut)
+    match feed_until_cut(alloc, stage, source, &mut keeper, board, seat, leaf) {
+        Ok(true) => Ok(LeafEnd::Done(keeper.portion)),
+        Ok(false) => Ok(LeafEnd::Cut),
+        Err(refused) => Err(refused),
     }
 }

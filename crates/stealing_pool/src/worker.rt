@@ -156,14 +156,6 @@ impl<B: Handout, J: LeafJob, H: Gate> Crew<'_, B, J, H> {
             }
         }
     }
-
-    /// The whole of a worker: what it hands back of the seat that it was given.
-    fn run_shift(&self, seat: B::Seat) -> Shift<B::Seat, J::Kept>
-        requires { Accepts (J.ready self.now.job.now) (J.work self.now.job.now) (B.leaves self.now.board.now) (B.full self.now.board.now) (B.need self.now.board.now) (B.is_of self.now.board.now seat) (B.status seat) }
-        ensures { IsShift (J.work self.now.job.now) (B.is_of self.now.board.now) B.number B.status B.drained B.made_cut seat result }
-    {
-        self.work(seat)
-    }
 }
 
 impl<B: Handout + Sync, J: LeafJob + Sync, H: Gate + Sync> Worker for Crew<'_, B, J, H>
@@ -180,6 +172,6 @@ where
     ghost gives = { λ w seat shift. IsShift (J.work w.job.now) (B.is_of w.board.now) B.number B.status B.drained B.made_cut seat shift };
 
     fn run(&self, seat: B::Seat) -> Shift<B::Seat, J::Kept> {
-        self.run_shift(seat)
+        self.work(seat)
     }
 }

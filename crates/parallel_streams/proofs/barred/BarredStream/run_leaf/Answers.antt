@@ -1,20 +1,21 @@
 use Rattle.std.specs.Global.{Vec}
 use Rattle.std.proofs.Common.{List, [], map, subst, sym, ◌∙◌}
+use Rattle.std.specs.Prelude.{IfOk}
 use Rattle.collectors.specs.NestedLaws.{push}
 use Rattle.stealing_pool.specs.Fronts.{folding, work_of}
 use Rattle.stealing_pool.specs.Jobs.{EndsLeaf}
 use Rattle.parallel_streams.specs.LeafLaws.{map-alone}
-use Rattle.parallel_streams.specs.ProgressLaws.{ends-own_of}
+use Rattle.parallel_streams.specs.ProgressLaws.{ends-own_ok}
 use Rattle.parallel_streams.proofs.barred.BarredStream.run_leaf.Goals as goal
 
-pub returns-in_ok-end-clause-end : goal.returns-in_ok-end-clause-end
-returns-in_ok-end-clause-end g c =
+pub returns-then-is_gathered-clause-end : goal.returns-then-is_gathered-clause-end
+returns-then-is_gathered-clause-end g c =
     let s = c.args.self.now in
     let U = g.U.Stream in
     let p = c.args.progress.now.before in
     let f = folding (g.B.Demand.needed s.barrier) (g.B.Demand.counted s.barrier) g.U.Item.Value.is_value [] push in
     let content : Vec g.row.U-Item.Denot → List g.row.U-Item-Content.Denot = λ v. map g.U.Item.Value.content v.items in
     let cut = g.L.Handout.cut c.run_last_leaf.new.seat in
-    let Q : List (List _) → Type 0 = λ lists. EndsLeaf (work_of f content lists) cut c.args.leaf c.in_ok-end.end in
-    ends-own_of (U.work s.upstream p) (work_of f content (U.parts s.upstream p)) (U.done s.upstream p) cut c.args.leaf c.in_ok-end.end c.end_own.result c.end_own.ensures
-    (sym c.is_gathered.ensures ∙ c.if-is_gathered.true) (subst Q (map-alone (U.parts s.upstream p)) c.in_ok-end.ensures.end)
+    let Q : List (List _) → Type 0 = λ lists. IfOk c.run_last_leaf.result (EndsLeaf (work_of f content lists) cut c.args.leaf) in
+    ends-own_ok (U.work s.upstream p) (work_of f content (U.parts s.upstream p)) (U.done s.upstream p) cut c.args.leaf c.run_last_leaf.result c.end_own.result c.end_own.ensures
+    (sym c.is_gathered.ensures ∙ c.if-is_gathered.true) (subst Q (map-alone (U.parts s.upstream p)) c.run_last_leaf.ensures.end)
