@@ -13,7 +13,7 @@ use crate::nested::{paired, parted};
 use crate::told::ValueError;
 use collectors::{Collector, Counting};
 use parallel_streams::Stream;
-use pipeline_meaning::{SeededHashes, Spelled, Summarizes, Written, grouped};
+use pipeline_meaning::{Spelled, Summarizes, Written, grouped};
 use stages::{Mapping, Test};
 use std::hash::Hash;
 use std::thread::Threads;

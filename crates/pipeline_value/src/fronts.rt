@@ -12,7 +12,7 @@ use crate::numbers::{list_value, range_items};
 use crate::told::ValueError;
 use barriers::{Demand, FirstHit, TakeWhile};
 use pipeline_language::{NumberBody, NumberStage, NumberTerminal, NumberTest};
-use pipeline_meaning::{NumberCheck, SeededHashes};
+use pipeline_meaning::NumberCheck;
 use sources::{RangeSplit, Windowed};
 use spliterator::Spliterator;
 use std::thread::Threads;

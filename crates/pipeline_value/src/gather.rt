@@ -12,7 +12,6 @@ use crate::distinct_items::DistinctItems;
 use crate::engine::Engine;
 use barriers::{Barrier, Demand, Whole};
 use collectors::{Collector, ToList, finish_container};
-use pipeline_meaning::SeededHashes;
 use split_tree::{Plan, PlanError};
 use spliterator::{NoMemory, OrderedValue, Spliterator};
 use stages::Stage;

@@ -10,7 +10,7 @@ use crate::number_maps::{map_value, strict_map_value};
 use crate::told::{ValueError, ran_optional, ran_text, ran_told};
 use parallel_streams::Stream;
 use pipeline_language::NumberTerminal;
-use pipeline_meaning::{ListText, NumberCheck as Check, SeededHashes};
+use pipeline_meaning::{ListText, NumberCheck as Check};
 use std::thread::Threads;
 use stealing_pool::Gate;
 

@@ -8,7 +8,7 @@ use crate::maps::{merged_value, strict_value};
 use crate::told::ValueError;
 use parallel_streams::Stream;
 use pipeline_language::{NumberFunction, NumberMerge};
-use pipeline_meaning::{NumberMapping, NumberMerging, SeededHashes};
+use pipeline_meaning::{NumberMapping, NumberMerging};
 use std::thread::Threads;
 use stealing_pool::Gate;
 

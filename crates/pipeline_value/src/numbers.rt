@@ -13,7 +13,7 @@ use crate::told::ValueError;
 use barriers::{DropWhile, Limit, Skip, TakeWhile};
 use parallel_streams::{Stream, of};
 use pipeline_language::{NumberBody, NumberStage, NumberTerminal};
-use pipeline_meaning::{AtMostOne, NumberCheck, NumberSteps, SeededHashes};
+use pipeline_meaning::{AtMostOne, NumberCheck, NumberSteps};
 use sources::{RangeSplit, SliceSplit, Windowed};
 use spliterator::{NoMemory, Spliterator};
 use stages::{Nothing, Stage, Then};

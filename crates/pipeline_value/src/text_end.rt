@@ -14,7 +14,7 @@ use crate::told::{ValueError, ran_optional, ran_text, ran_told};
 use collectors::Joining;
 use parallel_streams::{Source, Staged, Stream};
 use pipeline_language::TextTerminal;
-use pipeline_meaning::{ListText, SeededHashes, Spelled, TextCheck, TextSteps};
+use pipeline_meaning::{ListText, Spelled, TextCheck, TextSteps};
 use sources::SliceSplit;
 use spliterator::{OrderedValue, Text};
 use std::hash::Hash;

@@ -10,7 +10,7 @@ use crate::maps::{merged_value, strict_value};
 use crate::told::ValueError;
 use parallel_streams::Stream;
 use pipeline_language::{TextFunction, TextValue};
-use pipeline_meaning::{Itself, NumberMerging, SeededHashes, Spelled, TextLength, TextMerging};
+use pipeline_meaning::{Itself, NumberMerging, Spelled, TextLength, TextMerging};
 use spliterator::{OrderedValue, Text};
 use stages::Mapping;
 use std::hash::Hash;

@@ -12,7 +12,7 @@ use crate::told::ValueError;
 use collectors::{Collector, Counting};
 use parallel_streams::Stream;
 use pipeline_language::TextFunction;
-use pipeline_meaning::{Itself, SeededHashes, Spelled, Summarizes, TextLength, Written};
+use pipeline_meaning::{Itself, Spelled, Summarizes, TextLength, Written};
 use spliterator::{OrderedValue, Text};
 use stages::Test;
 use std::hash::Hash;

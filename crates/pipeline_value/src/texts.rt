@@ -15,7 +15,7 @@ use crate::told::ValueError;
 use barriers::{DropWhile, Limit, Skip, TakeWhile};
 use parallel_streams::{Stream, of};
 use pipeline_language::{NumberBody, TextEnd, TextStage};
-use pipeline_meaning::{AtMostOne, SeededHashes, TextCheck, TextLength, TextSteps};
+use pipeline_meaning::{AtMostOne, TextCheck, TextLength, TextSteps};
 use sources::{SliceSplit, Windowed};
 use spliterator::{NoMemory, OrderedValue, Spliterator, Text};
 use stages::{Map, Stage, Then};
