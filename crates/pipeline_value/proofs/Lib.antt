@@ -1,7 +1,6 @@
 pub mod FirstOnes
 pub mod StageFronts
 pub mod KnownSizes
-pub mod Parts
 pub mod Stages
 pub mod Strict
 pub mod Telling

@@ -1,30 +1,44 @@
--- The terminals that put texts under keys, part them, or collect them twice.
-use Rattle.std.specs.Prelude.{ℕ, Bool, true, false, List, ⊤}
-use Rattle.pipeline_language.specs.declared.pipeline.TextBase.TheVariants as bases
+-- The terminals that put items under keys, part them, or collect them twice.
+use Rattle.std.specs.Prelude.{ℕ, pos, Bool, true, false, List, length}
+use Rattle.std.specs.Fmt.{signed_decimal}
+use Rattle.stages.specs.Wrapping.{wrapped}
+use Rattle.pipeline_language.specs.declared.pipeline.NumberTerminal.{NumberTerminal}
+use Rattle.pipeline_language.specs.declared.pipeline.NumberTerminal.TheVariants as of_numbers
 use Rattle.pipeline_language.specs.declared.pipeline.TextTerminal.{TextTerminal}
-use Rattle.pipeline_language.specs.declared.pipeline.TextTerminal.TheVariants as terminals
-use Rattle.pipeline_meaning.specs.Summaries.{parts_text, text_base_text, text_groups_text}
+use Rattle.pipeline_language.specs.declared.pipeline.TextTerminal.TheVariants as of_texts
+use Rattle.pipeline_meaning.specs.Summaries.{groups_text, parts_text}
 use Rattle.pipeline_meaning.specs.Texts.{pair_text}
-use Rattle.pipeline_value.specs.declared.text_groups.TextArrangement.{TextArrangement}
-use Rattle.pipeline_value.specs.declared.text_groups.TextArrangement.TheVariants as arrangements
+use Rattle.pipeline_value.specs.declared.arrangements.Arrangement.{Arrangement}
+use Rattle.pipeline_value.specs.declared.arrangements.Arrangement.TheVariants.{Counts, Groups, Parts, Pair}
+
+abbrev pub arranges_numbers : NumberTerminal → Bool
+arranges_numbers (of_numbers.GroupBy key summary) = true
+arranges_numbers (of_numbers.Partition test summary) = true
+arranges_numbers (of_numbers.Teeing one other) = true
+arranges_numbers _ = false
 
 abbrev pub arranges_texts : TextTerminal → Bool
-arranges_texts (terminals.GroupBy key summary) = true
-arranges_texts (terminals.Partition test summary) = true
-arranges_texts (terminals.Teeing one other) = true
+arranges_texts (of_texts.GroupBy key summary) = true
+arranges_texts (of_texts.Partition test summary) = true
+arranges_texts (of_texts.Teeing one other) = true
 arranges_texts _ = false
 
-module _ {P D : Type 0} where
-  -- the text of what an arrangement makes of texts, by its tests and by the texts of its collectors' results
-  abbrev pub arranged_text : (P → List ℕ → Bool) → (D → List (List ℕ) → List ℕ) → TextArrangement P D → List (List ℕ) → List ℕ
-  arranged_text holds summary (arrangements.Counts key) l = text_groups_text key (text_base_text bases.Count) l
-  arranged_text holds summary (arrangements.Groups key d) l = text_groups_text key (summary d) l
-  arranged_text holds summary (arrangements.Parts test d) l = parts_text (holds test) (summary d) l
-  arranged_text holds summary (arrangements.Pair one other) l = pair_text (summary one l) (summary other l)
+-- the texts of the groups of items by their keys
+abbrev pub grouped_text : {K L X : Type 0} → (L → List ℕ) → (L → L → Bool) → (K → X → L) → K → (List X → List ℕ) → List X → List ℕ
+grouped_text key_text same image key text l = groups_text key_text same (image key) text l
 
-  -- its tests and its collectors may be called
-  abbrev pub IsReady : (P → Type 0) → (D → Type 0) → TextArrangement P D → Type 0
-  IsReady tests collectors (arrangements.Counts key) = ⊤
-  IsReady tests collectors (arrangements.Groups key d) = collectors d
-  IsReady tests collectors (arrangements.Parts test d) = tests test × collectors d
-  IsReady tests collectors (arrangements.Pair one other) = collectors one × collectors other
+module _ {K P D X : Type 0} where
+  -- the text of what an arrangement makes of items, by the texts of groups, by its tests, and by the texts of its collectors' results
+  abbrev pub arranged_text : (K → (List X → List ℕ) → List X → List ℕ) → (P → X → Bool) → (D → List X → List ℕ) → Arrangement K P D → List X → List ℕ
+  arranged_text grouped holds summary (Counts key) l = grouped key (λ items. signed_decimal (wrapped (pos (length items)))) l
+  arranged_text grouped holds summary (Groups key d) l = grouped key (summary d) l
+  arranged_text grouped holds summary (Parts test d) l = parts_text (holds test) (summary d) l
+  arranged_text grouped holds summary (Pair one other) l = pair_text (summary one l) (summary other l)
+
+module _ {K P D : Type 0} where
+  -- its keys, its tests and its collectors may be called
+  abbrev pub IsReady : (K → Type 0) → (P → Type 0) → (D → Type 0) → Arrangement K P D → Type 0
+  IsReady keys tests collectors (Counts key) = keys key
+  IsReady keys tests collectors (Groups key d) = keys key × collectors d
+  IsReady keys tests collectors (Parts test d) = tests test × collectors d
+  IsReady keys tests collectors (Pair one other) = collectors one × collectors other

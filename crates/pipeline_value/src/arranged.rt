@@ -1,32 +1,61 @@
 //! Groups, parts and pairs of a stream's items, told by their texts.
 
 ghost use Rattle.std.specs.Prelude.{Ok};
-ghost use Rattle.parallel_streams.specs.Runs.{IsLawfulRun};
 ghost use Rattle.pipeline_meaning.specs.Summaries.{groups_text, parts_text};
 ghost use Rattle.pipeline_meaning.specs.Texts.{pair_text};
+ghost use Rattle.pipeline_value.specs.Arrangements.{IsReady, arranged_text, grouped_text};
 ghost use Rattle.pipeline_value.specs.Value.{Tells};
 
+use crate::arrangements::Arrangement;
 use crate::collected::collected;
+use crate::engine::Engine;
 use crate::nested::{paired, parted};
 use crate::told::ValueError;
-use collectors::Collector;
-use parallel_streams::{Run, Stream};
-use pipeline_meaning::{SeededHashes, Spelled, Summarizes, Written, grouped};
+use collectors::{Collector, Counting};
+use parallel_streams::Stream;
+use pipeline_meaning::{Spelled, Summarizes, Written, grouped};
 use stages::{Mapping, Test};
-use std::alloc::Global;
 use std::hash::Hash;
 use std::thread::Threads;
 use stealing_pool::Gate;
 
+/// The text of what an arrangement makes of a stream's items.
+pub(crate) fn arranged_value<R, X, K, P, D, H>(
+    engine: &Engine<'_, R, H>,
+    stream: &X,
+    arrangement: Arrangement<K, P, D>,
+) -> Result<String, ValueError>
+where
+    R: Threads + Sync,
+    X: Stream + Sync,
+    X::Item: Send + Sync,
+    X::Progress: Send + Sync,
+    X::Part: Send,
+    K: Mapping<X::Item> + Drop + Sync,
+    K::Out: Spelled + Hash + Drop + Send,
+    P: Test<X::Item> + Drop + Sync,
+    D: Summarizes + Collector<Item = X::Item> + Drop + Sync,
+    D::Acc: Send,
+    D::Out: Written + Send,
+    H: Gate + Sync,
+    requires stream { X.ready stream.now }
+    requires arrangement { IsReady K.ready P.ready D.ready arrangement }
+    ensures { Tells (Ok (arranged_text (grouped_text K.Out.spelling K.Out.same K.image) P.holds D.summary arrangement (X.value stream.now))) result }
+{
+    match arrangement {
+        Arrangement::Counts(key) => grouped_value(engine, stream, key, Counting::new()),
+        Arrangement::Groups(key, summary) => grouped_value(engine, stream, key, summary),
+        Arrangement::Parts(test, summary) => parted_value(engine, stream, test, summary),
+        Arrangement::Pair(one, other) => paired_value(engine, stream, one, other),
+    }
+}
+
 /// The text of what a collector makes of a stream's items of each key.
 pub(crate) fn grouped_value<R, X, K, D, H>(
-    rt: &R,
-    alloc: Global,
-    hashes: SeededHashes,
+    engine: &Engine<'_, R, H>,
     stream: &X,
     key: K,
     downstream: D,
-    run: &Run<'_, H>,
 ) -> Result<String, ValueError>
 where
     R: Threads + Sync,
@@ -40,24 +69,21 @@ where
     D::Acc: Send,
     D::Out: Written + Send,
     H: Gate + Sync,
-    requires settings { IsLawfulRun run.now.workers run.now.target }
     requires stream { X.ready stream.now }
     requires key { K.ready key }
     requires downstream { D.ready downstream }
     ensures { Tells (Ok (groups_text K.Out.spelling K.Out.same (K.image key) (D.summary downstream) (X.value stream.now))) result }
 {
-    let groups = grouped(alloc, key, downstream, hashes);
-    collected(rt, alloc, stream, &groups, run)
+    let groups = grouped(engine.alloc, key, downstream, engine.hashes);
+    collected(engine, stream, &groups)
 }
 
 /// The text of what a collector makes of a stream's items that fail a test, and of those that pass.
 pub(crate) fn parted_value<R, X, P, D, H>(
-    rt: &R,
-    alloc: Global,
+    engine: &Engine<'_, R, H>,
     stream: &X,
     test: P,
     downstream: D,
-    run: &Run<'_, H>,
 ) -> Result<String, ValueError>
 where
     R: Threads + Sync,
@@ -70,24 +96,21 @@ where
     D::Acc: Send,
     D::Out: Written + Send,
     H: Gate + Sync,
-    requires settings { IsLawfulRun run.now.workers run.now.target }
     requires stream { X.ready stream.now }
     requires test { P.ready test }
     requires downstream { D.ready downstream }
     ensures { Tells (Ok (parts_text (P.holds test) (D.summary downstream) (X.value stream.now))) result }
 {
     let parts = parted(test, downstream);
-    collected(rt, alloc, stream, &parts, run)
+    collected(engine, stream, &parts)
 }
 
 /// The text of what two collectors make of a stream's items.
 pub(crate) fn paired_value<R, X, D, H>(
-    rt: &R,
-    alloc: Global,
+    engine: &Engine<'_, R, H>,
     stream: &X,
     first: D,
     second: D,
-    run: &Run<'_, H>,
 ) -> Result<String, ValueError>
 where
     R: Threads + Sync,
@@ -99,12 +122,11 @@ where
     D::Acc: Send,
     D::Out: Written + Send,
     H: Gate + Sync,
-    requires settings { IsLawfulRun run.now.workers run.now.target }
     requires stream { X.ready stream.now }
     requires first { D.ready first }
     requires second { D.ready second }
     ensures { Tells (Ok (pair_text (D.summary first (X.value stream.now)) (D.summary second (X.value stream.now)))) result }
 {
     let pair = paired(first, second);
-    collected(rt, alloc, stream, &pair, run)
+    collected(engine, stream, &pair)
 }

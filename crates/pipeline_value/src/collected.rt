@@ -1,12 +1,12 @@
 //! What collectors make of a stream, told by its text.
 
 ghost use Rattle.std.specs.Prelude.{Ok, List};
-ghost use Rattle.parallel_streams.specs.Runs.{IsLawfulRun};
 ghost use Rattle.pipeline_value.specs.Value.{Tells};
 
+use crate::engine::Engine;
 use crate::told::{ValueError, ran};
 use collectors::Collector;
-use parallel_streams::{Run, Stream};
+use parallel_streams::Stream;
 use pipeline_meaning::{Summarizes, Written, write_result};
 use std::alloc::Global;
 use std::thread::Threads;
@@ -14,11 +14,9 @@ use stealing_pool::Gate;
 
 /// The text of what a collector makes of a stream.
 pub(crate) fn collected<R, X, C, H>(
-    rt: &R,
-    alloc: Global,
+    engine: &Engine<'_, R, H>,
     stream: &X,
     collector: &C,
-    run: &Run<'_, H>,
 ) -> Result<String, ValueError>
 where
     R: Threads + Sync,
@@ -30,13 +28,15 @@ where
     C::Acc: Send,
     C::Out: Written + Send,
     H: Gate + Sync,
-    requires settings { IsLawfulRun run.now.workers run.now.target }
     requires stream { X.ready stream.now }
     requires collector { C.ready collector.now }
     ensures { Tells (Ok (C.summary collector.now (X.value stream.now))) result }
 {
-    let made = ran(run, stream.collect(rt, alloc, run, collector))?;
-    told_summary(alloc, collector, &made)
+    let made = ran(
+        engine,
+        stream.collect(engine.rt, engine.alloc, &engine.run, collector),
+    )?;
+    told_summary(engine.alloc, collector, &made)
 }
 
 /// The text of what a collector made.

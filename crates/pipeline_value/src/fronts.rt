@@ -1,22 +1,20 @@
 //! Short fronts of a range, read before the whole of it.
 
 ghost use Rattle.std.specs.Prelude.{◌≡◌, ◌≤◌, ℤ, List, IfSome, length, count_by, not, true};
-ghost use Rattle.parallel_streams.specs.Runs.{IsLawfulRun};
 ghost use Rattle.pipeline_meaning.specs.Functions.{number_holds};
 ghost use Rattle.pipeline_meaning.specs.Stages.{number_stage, number_stages};
 ghost use Rattle.pipeline_value.specs.Fronts.{IsFrontOf};
 ghost use Rattle.pipeline_value.specs.Ranges.{NumberBodyFits};
 ghost use Rattle.pipeline_value.specs.Value.{Tells, number_body_told, number_told};
 
+use crate::engine::Engine;
 use crate::numbers::{list_value, range_items};
 use crate::told::ValueError;
 use barriers::{Demand, FirstHit, TakeWhile};
-use parallel_streams::Run;
 use pipeline_language::{NumberBody, NumberStage, NumberTerminal, NumberTest};
-use pipeline_meaning::{NumberCheck, SeededHashes};
+use pipeline_meaning::NumberCheck;
 use sources::{RangeSplit, Windowed};
 use spliterator::Spliterator;
-use std::alloc::Global;
 use std::thread::Threads;
 use stealing_pool::Gate;
 
@@ -35,15 +33,11 @@ const TIMES_LONGER: u64 = 64;
 /// range 0 10000000, filter greater 9, distinct, findfirst    // 10, by the first 4,096 numbers
 /// ```
 pub(crate) fn front_value<R: Threads + Sync, H: Gate + Sync>(
-    rt: &R,
-    alloc: Global,
-    hashes: SeededHashes,
+    engine: &Engine<'_, R, H>,
     range: RangeSplit,
     size: u64,
     body: &NumberBody,
-    run: &Run<'_, H>,
 ) -> Option<Result<String, ValueError>>
-    requires settings { IsLawfulRun run.now.workers run.now.target }
     requires body { NumberBodyFits body.now }
     ensures { IfSome result (Tells (number_body_told body.now (⟦<RangeSplit as Spliterator>⟧.items range))) }
 {
@@ -52,18 +46,14 @@ pub(crate) fn front_value<R: Threads + Sync, H: Gate + Sync>(
         return None;
     }
     let (before, asking) = body.stages.split_at(at);
-    let run = &Run {
-        workers: 1,
-        target: run.target,
-        gate: run.gate,
-    };
-    let Ok(items) = range_items(rt, alloc, hashes, range.first(size), before, run) else {
+    let engine = &engine.with_workers(1);
+    let Ok(items) = range_items(engine, range.first(size), before) else {
         return Some(Err(ValueError::NoMemory));
     };
     if !is_enough(items.as_slice(), asking, &body.terminal) {
         return None;
     }
-    Some(list_value(rt, alloc, hashes, items, asking, &body.terminal, run))
+    Some(list_value(engine, items, asking, &body.terminal))
 }
 
 /// The place of what asks for few items behind a barrier: a limit, a `takewhile`, or a terminal that a first hit decides.

@@ -5,31 +5,26 @@ ghost use Rattle.barriers.specs.Needs.{IsOutcome};
 ghost use Rattle.spliterator.specs.Clones.{ClonesAlike};
 ghost use Rattle.stages.specs.Distinct.{distinct};
 ghost use Rattle.parallel_streams.specs.Leaves.{ArePlanned};
-ghost use Rattle.parallel_streams.specs.Runs.{IsLawfulRun};
 ghost use Rattle.split_tree.specs.Plan.{leaves_of, tree_of};
 ghost use Rattle.stealing_pool.specs.Fronts.{IsFront, folding};
 
 use crate::distinct_items::DistinctItems;
+use crate::engine::Engine;
 use barriers::{Barrier, Demand, Whole};
 use collectors::{Collector, ToList, finish_container};
-use parallel_streams::Run;
-use pipeline_meaning::SeededHashes;
 use split_tree::{Plan, PlanError};
 use spliterator::{NoMemory, OrderedValue, Spliterator};
 use stages::Stage;
-use std::alloc::Global;
 use std::hash::Hash;
 use std::thread::Threads;
 use stealing_pool::{Gate, run_leaves};
 
 /// What a barrier leaves of a source's items behind a stage. The leaves run once, as far as the barrier asks.
 pub(crate) fn gather<R, S, A, B, H>(
-    rt: &R,
-    alloc: Global,
+    engine: &Engine<'_, R, H>,
     source: S,
     stage: &A,
     barrier: &B,
-    run: &Run<'_, H>,
 ) -> Result<Vec<A::Out>, NoMemory>
 where
     R: Threads + Sync,
@@ -39,26 +34,23 @@ where
     A::Out: Clone + Send + Sync,
     B: Barrier<A::Out> + Sync,
     H: Gate + Sync,
-    requires settings { IsLawfulRun run.now.workers run.now.target }
     requires stage { A.ready stage.now }
     requires barrier { B.Demand.ready barrier.now }
     requires clones { ClonesAlike A.Out.is_clone A.Out.content }
     ensures { IfOk result (λ kept. map A.Out.content kept.items ≡ B.value barrier.now (flat_map (A.expand stage.now) (S.items source))) }
 {
-    let list = ToList::new(alloc);
-    let front = gather_into(rt, alloc, source, stage, barrier, &list, run)?;
+    let list = ToList::new(engine.alloc);
+    let front = gather_into(engine, source, stage, barrier, &list)?;
     apply_to_front(barrier, front)
 }
 
 /// The container in which a collector gathers a source's items behind a stage. The leaves run once, as far as the demand asks.
 fn gather_into<R, S, A, D, C, H>(
-    rt: &R,
-    alloc: Global,
+    engine: &Engine<'_, R, H>,
     source: S,
     stage: &A,
     demand: &D,
     collector: &C,
-    run: &Run<'_, H>,
 ) -> Result<C::Acc, NoMemory>
 where
     R: Threads + Sync,
@@ -71,38 +63,32 @@ where
     C::Acc: Send,
     C::Out: Send,
     H: Gate + Sync,
-    requires settings { IsLawfulRun run.now.workers run.now.target }
     requires stage { A.ready stage.now }
     requires demand { D.ready demand.now }
     requires collector { C.ready collector.now }
     ensures { IfOk result (λ acc. IsFront (folding (D.needed demand.now) (D.counted demand.now) A.Out.is_value (C.empty collector.now) (C.add collector.now)) (flat_map (A.expand stage.now) (S.items source)) (C.content collector.now acc)) }
 {
-    let plan = plan_of(alloc, source, run)?;
+    let plan = plan_of(engine, source)?;
     let gathered = run_leaves(
-        rt,
-        alloc,
+        engine.rt,
+        engine.alloc,
         &plan,
         stage,
         demand,
         collector,
-        run.workers,
-        run.gate,
+        engine.run.workers,
+        engine.run.gate,
     )?;
     Ok(gathered.acc)
 }
 
 /// The leaves of a source under lawful settings: only want of memory can refuse them.
-fn plan_of<S: Spliterator, H>(
-    alloc: Global,
-    source: S,
-    run: &Run<'_, H>,
-) -> Result<Plan<S>, NoMemory>
-    requires settings { IsLawfulRun run.now.workers run.now.target }
+fn plan_of<S: Spliterator, R, H>(engine: &Engine<'_, R, H>, source: S) -> Result<Plan<S>, NoMemory>
     ensures items { IfOk result (λ plan. flat_map S.items (leaves_of plan) ≡ S.items source) }
     ensures leaves { let planned = ArePlanned S.estimate S.split_gives source in
-        IfOk result (λ plan. planned run.now.workers run.now.target (tree_of plan) (leaves_of plan)) }
+        IfOk result (λ plan. planned engine.now.run.workers engine.now.run.target (tree_of plan) (leaves_of plan)) }
 {
-    match Plan::make(alloc, source, run.workers, run.target) {
+    match Plan::make(engine.alloc, source, engine.run.workers, engine.run.target) {
         Ok(plan) => Ok(plan),
         Err(PlanError::NoMemory) => Err(NoMemory),
         Err(PlanError::BadTarget) => unreachable!(),
@@ -120,17 +106,13 @@ fn apply_to_front<T: OrderedValue, B: Barrier<T>>(
     barrier.apply(front)
 }
 
-/// The distinct ones of a source's items behind a stage, each the first of its equals. Items are hashed by `hashes`, since whoever writes a
-/// file picks them.
+/// The distinct ones of a source's items behind a stage, each the first of its equals.
 ///
 /// Each leaf drops what repeats within it, so that the workers share the work; the pass at the end sees only what the leaves kept.
 pub(crate) fn gather_distinct<R, S, A, H>(
-    rt: &R,
-    alloc: Global,
-    hashes: SeededHashes,
+    engine: &Engine<'_, R, H>,
     source: S,
     stage: &A,
-    run: &Run<'_, H>,
 ) -> Result<Vec<A::Out>, NoMemory>
 where
     R: Threads + Sync,
@@ -139,11 +121,10 @@ where
     A: Stage<In = S::Item> + Sync,
     A::Out: Hash + Copy + Drop + Send + Sync,
     H: Gate + Sync,
-    requires settings { IsLawfulRun run.now.workers run.now.target }
     requires stage { A.ready stage.now }
     ensures { IfOk result (λ kept. map A.Out.content kept.items ≡ distinct A.Out.same (flat_map (A.expand stage.now) (S.items source))) }
 {
-    let first_ones = DistinctItems::new(alloc, hashes);
-    let kept = gather_into(rt, alloc, source, stage, &Whole, &first_ones, run)?;
+    let first_ones = DistinctItems::new(engine.alloc, engine.hashes);
+    let kept = gather_into(engine, source, stage, &Whole, &first_ones)?;
     finish_container(&first_ones, kept)
 }

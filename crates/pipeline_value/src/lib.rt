@@ -2,9 +2,11 @@
 #![tactic(auto)]
 
 mod arranged;
+mod arrangements;
 mod collected;
 mod differing;
 mod distinct_items;
+mod engine;
 mod folds;
 mod fronts;
 mod gather;
@@ -16,7 +18,6 @@ mod nested;
 mod number_end;
 mod number_groups;
 mod number_maps;
-mod number_parts;
 mod numbers;
 mod places;
 mod settled;

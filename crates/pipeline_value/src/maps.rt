@@ -1,17 +1,17 @@
 //! Maps of a stream's keys and values, told by their texts.
 
 ghost use Rattle.std.specs.Prelude.{Ok, List};
-ghost use Rattle.parallel_streams.specs.Runs.{IsLawfulRun};
 ghost use Rattle.stages.specs.Operators.{IsAssociative};
 ghost use Rattle.pipeline_meaning.specs.Summaries.{merged_text};
 ghost use Rattle.pipeline_value.specs.Value.{Tells, strict_told};
 
 use crate::collected::collected;
+use crate::engine::Engine;
 use crate::nested::merged;
 use crate::told::{ValueError, ran, text_of, told};
 use collectors::{Collector, DuplicateKey, ToMapStrict};
 use indexmap::IndexMap;
-use parallel_streams::{Run, Stream};
+use parallel_streams::Stream;
 use pipeline_meaning::{SeededHashes, Spelled};
 use spliterator::Value;
 use stages::{Mapping, Operator};
@@ -22,14 +22,11 @@ use stealing_pool::Gate;
 
 /// The text of the map of a stream's keys and values, where values of one key are merged.
 pub(crate) fn merged_value<R, X, U, K, V, M, H>(
-    rt: &R,
-    alloc: Global,
-    hashes: SeededHashes,
+    engine: &Engine<'_, R, H>,
     stream: &X,
     key: K,
     value: V,
     merge: M,
-    run: &Run<'_, H>,
 ) -> Result<String, ValueError>
 where
     R: Threads + Sync,
@@ -43,7 +40,6 @@ where
     M: Operator<U> + Drop + Sync,
     K::Out: Spelled + Hash + Drop + Send,
     H: Gate + Sync,
-    requires settings { IsLawfulRun run.now.workers run.now.target }
     requires stream { X.ready stream.now }
     requires keys { K.ready key }
     requires values { V.ready value }
@@ -51,19 +47,16 @@ where
     requires associative { IsAssociative U.is_value (M.join merge) }
     ensures { Tells (Ok (merged_text K.Out.spelling U.spelling K.Out.same (K.image key) (V.image value) (M.join merge) (X.value stream.now))) result }
 {
-    let map = merged(alloc, hashes, key, value, merge);
-    collected(rt, alloc, stream, &map, run)
+    let map = merged(engine.alloc, engine.hashes, key, value, merge);
+    collected(engine, stream, &map)
 }
 
 /// The text of the map of a stream's keys and values, or of the first key that comes again.
 pub(crate) fn strict_value<R, X, K, V, H>(
-    rt: &R,
-    alloc: Global,
-    hashes: SeededHashes,
+    engine: &Engine<'_, R, H>,
     stream: &X,
     key: K,
     value: V,
-    run: &Run<'_, H>,
 ) -> Result<String, ValueError>
 where
     R: Threads + Sync,
@@ -76,15 +69,17 @@ where
     K::Out: Spelled + Hash + Drop + Send,
     V::Out: Spelled + Drop + Send,
     H: Gate + Sync,
-    requires settings { IsLawfulRun run.now.workers run.now.target }
     requires stream { X.ready stream.now }
     requires keys { K.ready key }
     requires values { V.ready value }
     ensures { Tells (strict_told K.Out.spelling V.Out.spelling K.Out.same (K.image key) (V.image value) (X.value stream.now)) result }
 {
-    let strict = ToMapStrict::with_hasher(alloc, key, value, hashes);
-    let made = ran(run, stream.collect(rt, alloc, run, &strict))?;
-    told_strict(alloc, &strict, &made)
+    let strict = ToMapStrict::with_hasher(engine.alloc, key, value, engine.hashes);
+    let made = ran(
+        engine,
+        stream.collect(engine.rt, engine.alloc, &engine.run, &strict),
+    )?;
+    told_strict(engine.alloc, &strict, &made)
 }
 
 /// The text of what a strict map's collector made.

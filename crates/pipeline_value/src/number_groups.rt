@@ -1,92 +1,49 @@
-//! The collectors of the terminals that part numbers, put them under keys, or collect them twice.
+//! The terminals that part numbers, put them under keys, or collect them twice, by their collectors.
 
-ghost use Rattle.std.specs.Prelude.{◌≡◌, ℤ, List};
+ghost use Rattle.std.specs.Prelude.{◌≡◌, ℤ, List, IfSome, Ok, is_some, ⊤};
 ghost use Rattle.std.specs.Fmt.{signed_decimal};
 ghost use Rattle.std.specs.Ordering.{int_eq};
-ghost use Rattle.pipeline_language.specs.declared.pipeline.NumberBase.TheVariants as bases;
-ghost use Rattle.pipeline_meaning.specs.Functions.{number_image, number_holds};
-ghost use Rattle.pipeline_meaning.specs.Summaries.{groups_text, parts_text, number_base_text, number_summary_text};
-ghost use Rattle.pipeline_meaning.specs.Texts.{pair_text};
+ghost use Rattle.pipeline_meaning.specs.Prepared.{check_holds, mapping_image};
+ghost use Rattle.pipeline_value.specs.Arrangements.{IsReady, arranged_text, arranges_numbers, grouped_text};
+ghost use Rattle.pipeline_value.specs.Value.{number_told};
 
-use crate::nested::{paired, parted};
-use collectors::{Collector, Counting, GroupingBy, PartitioningBy, Teeing};
-use pipeline_language::{NumberFunction, NumberSummary, NumberTest};
+use crate::arrangements::Arrangement;
+use crate::engine::Engine;
+use collectors::Collector;
+use pipeline_language::{NumberBase, NumberSummary, NumberTerminal};
 use pipeline_meaning::{
-    Both, NumberCheck, NumberMapping, NumberSummaryCollector, SeededHashes, Summarizes, grouped,
-    number_summary,
+    NumberCheck, NumberMapping, NumberSummaryCollector, Summarizes, number_summary,
 };
-use std::alloc::Global;
 
-/// The collector of groups of numbers.
-pub(crate) type NumberGroups = GroupingBy<NumberMapping, NumberSummaryCollector, SeededHashes>;
+/// The arrangement of a terminal, by the collectors that its summaries name.
+pub(crate) type NumberArrangement = Arrangement<NumberMapping, NumberCheck, NumberSummaryCollector>;
 
-/// The collector of how many numbers have each image. It keeps a number a group, where the groups above keep what is chosen at run time.
-pub(crate) type NumberCounts = GroupingBy<NumberMapping, Counting<i64>, SeededHashes>;
-
-/// The collector of the numbers that fail a test and of those that pass.
-pub(crate) type NumberParts = PartitioningBy<NumberCheck, NumberSummaryCollector>;
-
-/// The collector of two results of the same numbers.
-pub(crate) type NumberPair = Teeing<NumberSummaryCollector, NumberSummaryCollector, Both>;
-
-/// The groups of numbers by their images.
-pub(crate) fn number_groups(
-    alloc: Global,
-    hashes: SeededHashes,
-    function: NumberFunction,
-    summary: NumberSummary,
-) -> NumberGroups
-    ensures ready { ⟦<NumberGroups as Collector>⟧.ready result }
-    ensures summary { (l : List ℤ) → ⟦<NumberGroups as Summarizes>⟧.summary result l ≡ groups_text signed_decimal int_eq (number_image function) (number_summary_text summary) l }
+/// The terminal as an arrangement, if it is one.
+pub(crate) fn number_arrangement<R, H>(
+    engine: &Engine<'_, R, H>,
+    terminal: &NumberTerminal,
+) -> Option<NumberArrangement>
+    ensures ready { IfSome result (IsReady (λ _. ⊤) (λ _. ⊤) (λ c. ⟦<NumberSummaryCollector as Collector>⟧.ready c)) }
+    ensures told { IfSome result (λ arranged. (l : List ℤ) → number_told terminal.now l ≡ Ok (arranged_text (grouped_text signed_decimal int_eq mapping_image) check_holds (λ c. ⟦<NumberSummaryCollector as Summarizes>⟧.summary c) arranged l)) }
+    ensures known { is_some result ≡ arranges_numbers terminal.now }
 {
-    grouped(
-        alloc,
-        NumberMapping::of(function),
-        number_summary(alloc, hashes, summary),
-        hashes,
-    )
-}
-
-/// How many numbers have each image.
-pub(crate) fn number_counts(
-    alloc: Global,
-    hashes: SeededHashes,
-    function: NumberFunction,
-) -> NumberCounts
-    ensures ready { ⟦<NumberCounts as Collector>⟧.ready result }
-    ensures summary { (l : List ℤ) → ⟦<NumberCounts as Summarizes>⟧.summary result l ≡ groups_text signed_decimal int_eq (number_image function) (number_base_text bases.Count) l }
-{
-    let key = NumberMapping::of(function);
-    grouped(alloc, key, Counting::new(), hashes)
-}
-
-/// The results of the numbers that fail a test, and of those that pass.
-pub(crate) fn number_parts(
-    alloc: Global,
-    hashes: SeededHashes,
-    test: NumberTest,
-    summary: NumberSummary,
-) -> NumberParts
-    ensures ready { ⟦<NumberParts as Collector>⟧.ready result }
-    ensures summary { (l : List ℤ) → ⟦<NumberParts as Summarizes>⟧.summary result l ≡ parts_text (number_holds test) (number_summary_text summary) l }
-{
-    parted(
-        NumberCheck::of(test),
-        number_summary(alloc, hashes, summary),
-    )
-}
-
-/// Two results of the same numbers.
-pub(crate) fn number_pair(
-    alloc: Global,
-    hashes: SeededHashes,
-    one: NumberSummary,
-    other: NumberSummary,
-) -> NumberPair
-    ensures ready { ⟦<NumberPair as Collector>⟧.ready result }
-    ensures summary { (l : List ℤ) → ⟦<NumberPair as Summarizes>⟧.summary result l ≡ pair_text (number_summary_text one l) (number_summary_text other l) }
-{
-    let first = number_summary(alloc, hashes, one);
-    let second = number_summary(alloc, hashes, other);
-    paired(first, second)
+    match *terminal {
+        NumberTerminal::GroupBy(function, NumberSummary::Base(NumberBase::Count)) => {
+            Some(Arrangement::Counts(NumberMapping::of(function)))
+        }
+        NumberTerminal::GroupBy(function, summary) => {
+            let groups = number_summary(engine.alloc, engine.hashes, summary);
+            Some(Arrangement::Groups(NumberMapping::of(function), groups))
+        }
+        NumberTerminal::Partition(test, summary) => {
+            let parts = number_summary(engine.alloc, engine.hashes, summary);
+            Some(Arrangement::Parts(NumberCheck::of(test), parts))
+        }
+        NumberTerminal::Teeing(one, other) => {
+            let first = number_summary(engine.alloc, engine.hashes, one);
+            let second = number_summary(engine.alloc, engine.hashes, other);
+            Some(Arrangement::Pair(first, second))
+        }
+        _ => None,
+    }
 }

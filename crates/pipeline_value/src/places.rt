@@ -1,16 +1,15 @@
 //! Places in a source at which so many images of its items have come.
 
 ghost use Rattle.std.specs.Prelude.{◌≡◌, ◌<◌, ◌≤◌, IfOk, Some, flat_map, length};
-ghost use Rattle.parallel_streams.specs.Runs.{IsLawfulRun};
 ghost use Rattle.pipeline_meaning.specs.AtMostOne.{GivesAtMostOne};
 ghost use Rattle.pipeline_value.specs.Places.{PlaceOrFewer};
 
+use crate::engine::Engine;
 use crate::told::ran;
-use parallel_streams::{Run, Stream, of};
+use parallel_streams::{Stream, of};
 use sources::Windowed;
 use spliterator::NoMemory;
 use stages::Stage;
-use std::alloc::Global;
 use std::thread::Threads;
 use stealing_pool::Gate;
 
@@ -21,28 +20,20 @@ const FIRST_PART: u64 = 1 << 12;
 const ALONE: u64 = 1 << 16;
 
 /// How a part of so many items is looked at: by one worker where these are few, and else by all.
-fn run_over<'a, H>(items: u64, run: &Run<'a, H>) -> Run<'a, H>
-    requires settings { IsLawfulRun run.now.workers run.now.target }
-    ensures settings { IsLawfulRun result.workers result.target }
-    ensures many { 65536 < items → result.workers ≡ run.now.workers }
-    ensures few { items ≤ 65536 → result.workers ≡ 1 }
-    ensures target { result.target ≡ run.now.target }
+fn engine_over<'e, R, H>(items: u64, engine: &Engine<'e, R, H>) -> Engine<'e, R, H>
+    ensures many { 65536 < items → result.run.workers ≡ engine.now.run.workers }
+    ensures few { items ≤ 65536 → result.run.workers ≡ 1 }
+    ensures target { result.run.target ≡ engine.now.run.target }
 {
-    Run {
-        workers: if items <= ALONE { 1 } else { run.workers },
-        target: run.target,
-        gate: run.gate,
-    }
+    engine.with_workers(if items <= ALONE {
+        1
+    } else {
+        engine.run.workers
+    })
 }
 
 /// How many images the items of a part have.
-fn count_images<R, S, A, H>(
-    rt: &R,
-    alloc: Global,
-    part: S,
-    stage: &A,
-    run: &Run<'_, H>,
-) -> Result<u64, NoMemory>
+fn count_images<R, S, A, H>(engine: &Engine<'_, R, H>, part: S, stage: &A) -> Result<u64, NoMemory>
 where
     R: Threads + Sync,
     S: Windowed + Drop + Send + Sync,
@@ -50,24 +41,22 @@ where
     A: Stage<In = S::Item> + Sync,
     A::Out: Clone + Send + Sync,
     H: Gate + Sync,
-    requires settings { IsLawfulRun run.now.workers run.now.target }
     requires stage { A.ready stage.now }
     requires few { GivesAtMostOne (A.expand stage.now) }
     ensures { IfOk result (λ count. count ≡ length (flat_map (A.expand stage.now) (S.items part))) }
 {
-    let run = run_over(part.count(), run);
-    let count = ran(&run, of(part).then(stage).count(rt, alloc, &run))?;
+    let engine = &engine_over(part.count(), engine);
+    let images = of(part).then(stage);
+    let count = ran(engine, images.count(engine.rt, engine.alloc, &engine.run))?;
     Ok(count.cast_unsigned())
 }
 
 /// The place in a part at which so many images have come, of which there are as many.
 fn place_within<R, S, A, H>(
-    rt: &R,
-    alloc: Global,
+    engine: &Engine<'_, R, H>,
     part: S,
     stage: &A,
     wanted: u64,
-    run: &Run<'_, H>,
 ) -> Result<u64, NoMemory>
 where
     R: Threads + Sync,
@@ -76,7 +65,6 @@ where
     A: Stage<In = S::Item> + Sync,
     A::Out: Clone + Send + Sync,
     H: Gate + Sync,
-    requires settings { IsLawfulRun run.now.workers run.now.target }
     requires stage { A.ready stage.now }
     requires few { GivesAtMostOne (A.expand stage.now) }
     requires some { 1 ≤ wanted }
@@ -88,12 +76,12 @@ where
         return Ok(0);
     }
     let front = part.first(half);
-    let count = count_images(rt, alloc, front, stage, run)?;
+    let count = count_images(engine, front, stage)?;
     if wanted <= count {
-        return place_within(rt, alloc, front, stage, wanted, run);
+        return place_within(engine, front, stage, wanted);
     }
     let rest = part.after_first(half);
-    let place = place_within(rt, alloc, rest, stage, wanted - count, run)?;
+    let place = place_within(engine, rest, stage, wanted - count)?;
     Ok(half + place)
 }
 
@@ -102,12 +90,10 @@ where
 /// It counts the images of one part after another, each on all workers, and then in halves of the part in which the last one comes. So a
 /// place near the front costs little.
 pub(crate) fn place_of<R, S, A, H>(
-    rt: &R,
-    alloc: Global,
+    engine: &Engine<'_, R, H>,
     source: S,
     stage: &A,
     wanted: u64,
-    run: &Run<'_, H>,
 ) -> Result<Option<u64>, NoMemory>
 where
     R: Threads + Sync,
@@ -116,24 +102,21 @@ where
     A: Stage<In = S::Item> + Sync,
     A::Out: Clone + Send + Sync,
     H: Gate + Sync,
-    requires settings { IsLawfulRun run.now.workers run.now.target }
     requires stage { A.ready stage.now }
     requires few { GivesAtMostOne (A.expand stage.now) }
     requires some { 1 ≤ wanted }
     ensures { IfOk result (PlaceOrFewer (A.expand stage.now) (S.items source) wanted) }
 {
-    place_from(rt, alloc, source, stage, wanted, FIRST_PART, run)
+    place_from(engine, source, stage, wanted, FIRST_PART)
 }
 
 /// The same, where the first part that is looked at has so many items.
 fn place_from<R, S, A, H>(
-    rt: &R,
-    alloc: Global,
+    engine: &Engine<'_, R, H>,
     source: S,
     stage: &A,
     wanted: u64,
     size: u64,
-    run: &Run<'_, H>,
 ) -> Result<Option<u64>, NoMemory>
 where
     R: Threads + Sync,
@@ -142,7 +125,6 @@ where
     A: Stage<In = S::Item> + Sync,
     A::Out: Clone + Send + Sync,
     H: Gate + Sync,
-    requires settings { IsLawfulRun run.now.workers run.now.target }
     requires stage { A.ready stage.now }
     requires few { GivesAtMostOne (A.expand stage.now) }
     requires some { 1 ≤ wanted }
@@ -150,9 +132,9 @@ where
     ensures { IfOk result (PlaceOrFewer (A.expand stage.now) (S.items source) wanted) }
 {
     let part = source.first(size);
-    let count = count_images(rt, alloc, part, stage, run)?;
+    let count = count_images(engine, part, stage)?;
     if wanted <= count {
-        let place = place_within(rt, alloc, part, stage, wanted, run)?;
+        let place = place_within(engine, part, stage, wanted)?;
         return Ok(Some(place));
     }
     if source.count() <= size {
@@ -160,7 +142,7 @@ where
     }
     let rest = source.after_first(size);
     let wanted = wanted - count;
-    match place_from(rt, alloc, rest, stage, wanted, size.saturating_mul(2), run)? {
+    match place_from(engine, rest, stage, wanted, size.saturating_mul(2))? {
         Some(place) => Ok(Some(size + place)),
         None => Ok(None),
     }

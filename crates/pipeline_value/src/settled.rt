@@ -3,31 +3,27 @@
 ghost use Rattle.std.specs.Prelude.{◌≡◌, ◌≤◌, ◌<◌, ◌&&◌, IfOk, IfSome, All, IsTrue, drop, false, flat_map, is_some, length, take, take_while, true};
 ghost use Rattle.std.specs.List.{HoldsAt};
 ghost use Rattle.barriers.specs.Whiles.{drop_while};
-ghost use Rattle.parallel_streams.specs.Runs.{IsLawfulRun};
 ghost use Rattle.pipeline_meaning.specs.AtMostOne.{GivesAtMostOne};
 ghost use Rattle.pipeline_meaning.specs.Functions.{number_holds};
 ghost use Rattle.pipeline_meaning.specs.Stages.{is_number_barrier, number_stage, number_stages};
 ghost use Rattle.pipeline_value.specs.Settling.{cuts_source};
 
+use crate::engine::Engine;
 use crate::places::place_of;
-use parallel_streams::Run;
 use pipeline_language::{NumberStage, NumberTest};
 use pipeline_meaning::{AtMostOne, Failing, NumberSteps};
 use sources::Windowed;
 use spliterator::NoMemory;
 use stages::{Stage, Then};
-use std::alloc::Global;
 use std::thread::Threads;
 use stealing_pool::Gate;
 
 /// How many of a source's items have the first `number` images, or all of them where there are fewer.
 fn items_of<R, S, A, H>(
-    rt: &R,
-    alloc: Global,
+    engine: &Engine<'_, R, H>,
     source: S,
     stage: &A,
     number: u64,
-    run: &Run<'_, H>,
 ) -> Result<u64, NoMemory>
 where
     R: Threads + Sync,
@@ -35,7 +31,6 @@ where
     S::Item: Clone + Send + Sync,
     A: Stage<In = S::Item, Out = i64> + Sync,
     H: Gate + Sync,
-    requires settings { IsLawfulRun run.now.workers run.now.target }
     requires stage { A.ready stage.now }
     requires few { GivesAtMostOne (A.expand stage.now) }
     ensures front { IfOk result (λ end. flat_map (A.expand stage.now) (take end (S.items source)) ≡ take number (flat_map (A.expand stage.now) (S.items source))) }
@@ -48,7 +43,7 @@ where
     if number == 0 {
         return Ok(0);
     }
-    match place_of(rt, alloc, source, stage, number, run)? {
+    match place_of(engine, source, stage, number)? {
         Some(place) => Ok(place + 1),
         None => Ok(all),
     }
@@ -56,12 +51,10 @@ where
 
 /// How many of a source's items stand in front of the first whose image fails a test.
 fn items_before_failing<R, S, A, H>(
-    rt: &R,
-    alloc: Global,
+    engine: &Engine<'_, R, H>,
     source: S,
     stage: &A,
     test: NumberTest,
-    run: &Run<'_, H>,
 ) -> Result<u64, NoMemory>
 where
     R: Threads + Sync,
@@ -69,14 +62,13 @@ where
     S::Item: Clone + Send + Sync,
     A: Stage<In = S::Item, Out = i64> + Sync,
     H: Gate + Sync,
-    requires settings { IsLawfulRun run.now.workers run.now.target }
     requires stage { A.ready stage.now }
     requires few { GivesAtMostOne (A.expand stage.now) }
     ensures taken { IfOk result (λ end. flat_map (A.expand stage.now) (take end (S.items source)) ≡ take_while (number_holds test) (flat_map (A.expand stage.now) (S.items source))) }
     ensures dropped { IfOk result (λ end. flat_map (A.expand stage.now) (drop end (S.items source)) ≡ drop_while (number_holds test) (flat_map (A.expand stage.now) (S.items source))) }
 {
     let failing = Then::new(stage, Failing::of(test));
-    match place_of(rt, alloc, source, &failing, 1, run)? {
+    match place_of(engine, source, &failing, 1)? {
         Some(place) => Ok(place),
         None => Ok(source.count()),
     }
@@ -85,12 +77,10 @@ where
 /// The part of a source whose images are what a barrier leaves of the images of all, where it can be had without a list: behind a
 /// stage that gives no item more than one image.
 fn through_barrier<R, S, A, H>(
-    rt: &R,
-    alloc: Global,
+    engine: &Engine<'_, R, H>,
     source: S,
     stage: &A,
     barrier: &NumberStage,
-    run: &Run<'_, H>,
 ) -> Result<Option<S>, NoMemory>
 where
     R: Threads + Sync,
@@ -98,7 +88,6 @@ where
     S::Item: Clone + Send + Sync,
     A: AtMostOne + Stage<In = S::Item, Out = i64> + Sync,
     H: Gate + Sync,
-    requires settings { IsLawfulRun run.now.workers run.now.target }
     requires stage { A.ready stage.now }
     ensures part { IfOk result (λ part. IfSome part (λ part. flat_map (A.expand stage.now) (S.items part) ≡ number_stage barrier.now (flat_map (A.expand stage.now) (S.items source)))) }
     ensures had { IfOk result (λ part. is_some part ≡ (A.is_few stage.now && cuts_source barrier.now)) }
@@ -108,19 +97,19 @@ where
     }
     match *barrier {
         NumberStage::Limit(most) => {
-            let end = items_of(rt, alloc, source, stage, most, run)?;
+            let end = items_of(engine, source, stage, most)?;
             Ok(Some(source.first(end)))
         }
         NumberStage::Skip(number) => {
-            let end = items_of(rt, alloc, source, stage, number, run)?;
+            let end = items_of(engine, source, stage, number)?;
             Ok(Some(source.after_first(end)))
         }
         NumberStage::TakeWhile(test) => {
-            let end = items_before_failing(rt, alloc, source, stage, test, run)?;
+            let end = items_before_failing(engine, source, stage, test)?;
             Ok(Some(source.first(end)))
         }
         NumberStage::DropWhile(test) => {
-            let end = items_before_failing(rt, alloc, source, stage, test, run)?;
+            let end = items_before_failing(engine, source, stage, test)?;
             Ok(Some(source.after_first(end)))
         }
         _ => Ok(None),
@@ -145,12 +134,10 @@ pub(crate) struct Settled<S> {
 /// range 0 1000, filter divisible 3, limit 5, sum    // range 0 13, filter divisible 3, sum
 /// ```
 pub(crate) fn settle<R, S, A, H>(
-    rt: &R,
-    alloc: Global,
+    engine: &Engine<'_, R, H>,
     source: S,
     front: &A,
     stages: &[NumberStage],
-    run: &Run<'_, H>,
 ) -> Result<Settled<S>, NoMemory>
 where
     R: Threads + Sync,
@@ -158,7 +145,6 @@ where
     S::Item: Clone + Send + Sync,
     A: AtMostOne + Stage<In = S::Item, Out = i64> + Sync,
     H: Gate + Sync,
-    requires settings { IsLawfulRun run.now.workers run.now.target }
     requires front { A.ready front.now }
     ensures within { IfOk result (λ s. s.taken ≤ length stages.now) }
     ensures means { IfOk result (λ s. flat_map (⟦<NumberSteps as Stage>⟧.expand s.steps) (flat_map (A.expand front.now) (S.items s.source)) ≡ number_stages (take s.taken stages.now) (flat_map (A.expand front.now) (S.items source))) }
@@ -169,13 +155,13 @@ where
         → few s.steps ≡ true → stops s.taken) }
 {
     let mut source = source;
-    let (mut steps, first) = NumberSteps::front_of(alloc, stages)?;
+    let (mut steps, first) = NumberSteps::front_of(engine.alloc, stages)?;
     for taken in first..stages.len() {
         if steps.put(&stages[taken])? {
             continue;
         }
         let stage = Then::new(front, &steps);
-        let Some(part) = through_barrier(rt, alloc, source, &stage, &stages[taken], run)? else {
+        let Some(part) = through_barrier(engine, source, &stage, &stages[taken])? else {
             return Ok(Settled {
                 source,
                 steps,

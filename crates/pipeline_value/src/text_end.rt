@@ -1,23 +1,22 @@
 //! What the terminals make of texts.
 
 ghost use Rattle.std.specs.Prelude.{◌≡◌, bytes_eq, false};
-ghost use Rattle.parallel_streams.specs.Runs.{IsLawfulRun};
 ghost use Rattle.pipeline_meaning.specs.Summaries.{itself};
 ghost use Rattle.pipeline_value.specs.Arrangements.{arranges_texts};
 ghost use Rattle.pipeline_value.specs.Value.{Tells, text_told};
 ghost use Rattle.spliterator.specs.Clones.{ClonesAlike};
 
+use crate::engine::Engine;
 use crate::text_groups::text_arrangement;
 use crate::text_maps::{map_value, strict_map_value};
-use crate::text_parts::arranged_value;
+use crate::text_parts::text_arranged_value;
 use crate::told::{ValueError, ran_optional, ran_text, ran_told};
 use collectors::Joining;
-use parallel_streams::{Run, Source, Staged, Stream};
+use parallel_streams::{Source, Staged, Stream};
 use pipeline_language::TextTerminal;
-use pipeline_meaning::{ListText, SeededHashes, Spelled, TextCheck, TextSteps};
+use pipeline_meaning::{ListText, Spelled, TextCheck, TextSteps};
 use sources::SliceSplit;
 use spliterator::{OrderedValue, Text};
-use std::alloc::Global;
 use std::hash::Hash;
 use std::thread::Threads;
 use stealing_pool::Gate;
@@ -27,31 +26,24 @@ pub(crate) type Texts<'s, 'a> = Staged<Source<SliceSplit<'s, &'a str>>, TextStep
 
 /// The text of a terminal's value on a stream of texts.
 pub(crate) fn text_end<'s, 'a, R: Threads + Sync, H: Gate + Sync>(
-    rt: &R,
-    alloc: Global,
-    hashes: SeededHashes,
+    engine: &Engine<'_, R, H>,
     stream: &Texts<'s, 'a>,
     terminal: &TextTerminal<'a>,
-    run: &Run<'_, H>,
 ) -> Result<String, ValueError>
-    requires settings { IsLawfulRun run.now.workers run.now.target }
     requires stream { ⟦<Texts<'s, 'a> as Stream>⟧.ready stream.now }
     ensures { Tells (text_told terminal.now (⟦<Texts<'s, 'a> as Stream>⟧.value stream.now)) result }
 {
-    match text_arrangement(alloc, hashes, terminal) {
-        Some(arrangement) => arranged_value(rt, alloc, hashes, stream, arrangement, run),
-        None => plain_end(rt, alloc, hashes, stream, terminal, run),
+    match text_arrangement(engine, terminal) {
+        Some(arrangement) => text_arranged_value(engine, stream, arrangement),
+        None => plain_end(engine, stream, terminal),
     }
 }
 
 /// The text of the value of a terminal that arranges nothing, on a stream of texts.
 fn plain_end<T, R, X, H>(
-    rt: &R,
-    alloc: Global,
-    hashes: SeededHashes,
+    engine: &Engine<'_, R, H>,
     stream: &X,
     terminal: &TextTerminal<'_>,
-    run: &Run<'_, H>,
 ) -> Result<String, ValueError>
 where
     T: Text + OrderedValue + Spelled + Hash + Clone + Copy + Drop + Send + Sync,
@@ -60,7 +52,6 @@ where
     X::Progress: Send + Sync,
     X::Part: Send,
     H: Gate + Sync,
-    requires settings { IsLawfulRun run.now.workers run.now.target }
     requires stream { X.ready stream.now }
     requires plain { arranges_texts terminal.now ≡ false }
     requires clones { ClonesAlike T.is_clone T.content }
@@ -68,37 +59,36 @@ where
     requires same { T.same ≡ bytes_eq }
     ensures { Tells (text_told terminal.now (X.value stream.now)) result }
 {
+    let (rt, alloc, run) = (engine.rt, engine.alloc, &engine.run);
     match *terminal {
-        TextTerminal::Count => ran_told(alloc, run, stream.count(rt, alloc, run)),
-        TextTerminal::FindFirst => ran_optional(alloc, run, stream.find_first(rt, alloc, run)),
+        TextTerminal::Count => ran_told(engine, stream.count(rt, alloc, run)),
+        TextTerminal::FindFirst => ran_optional(engine, stream.find_first(rt, alloc, run)),
         TextTerminal::ToList => {
             let list = ListText::new(alloc);
-            ran_text(run, stream.collect(rt, alloc, run, &list))
+            ran_text(engine, stream.collect(rt, alloc, run, &list))
         }
         TextTerminal::AllMatch(test) => {
             let check = TextCheck::of(test);
-            ran_told(alloc, run, stream.all_match(rt, alloc, run, &check))
+            ran_told(engine, stream.all_match(rt, alloc, run, &check))
         }
         TextTerminal::AnyMatch(test) => {
             let check = TextCheck::of(test);
-            ran_told(alloc, run, stream.any_match(rt, alloc, run, &check))
+            ran_told(engine, stream.any_match(rt, alloc, run, &check))
         }
         TextTerminal::NoneMatch(test) => {
             let check = TextCheck::of(test);
-            ran_told(alloc, run, stream.none_match(rt, alloc, run, &check))
+            ran_told(engine, stream.none_match(rt, alloc, run, &check))
         }
         TextTerminal::Joining(between) => {
             let joining = Joining::new(alloc, between, "", "");
-            ran_text(run, stream.collect(rt, alloc, run, &joining))
+            ran_text(engine, stream.collect(rt, alloc, run, &joining))
         }
         TextTerminal::JoiningWithin(between, front, back) => {
             let joining = Joining::new(alloc, between, front, back);
-            ran_text(run, stream.collect(rt, alloc, run, &joining))
+            ran_text(engine, stream.collect(rt, alloc, run, &joining))
         }
-        TextTerminal::ToMap(key, value) => map_value(rt, alloc, hashes, stream, key, value, run),
-        TextTerminal::ToMapStrict(key, value) => {
-            strict_map_value(rt, alloc, hashes, stream, key, value, run)
-        }
+        TextTerminal::ToMap(key, value) => map_value(engine, stream, key, value),
+        TextTerminal::ToMapStrict(key, value) => { strict_map_value(engine, stream, key, value) }
         TextTerminal::GroupBy(_, _) | TextTerminal::Partition(_, _) | TextTerminal::Teeing(_, _) =>
             unreachable!(),
     }

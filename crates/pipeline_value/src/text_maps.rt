@@ -1,32 +1,28 @@
 //! The maps whose values are texts or their lengths.
 
 ghost use Rattle.std.specs.Prelude.{◌≡◌, Ok, bytes_eq};
-ghost use Rattle.parallel_streams.specs.Runs.{IsLawfulRun};
 ghost use Rattle.pipeline_meaning.specs.Summaries.{itself};
 ghost use Rattle.pipeline_language.specs.declared.pipeline.TextTerminal.TheVariants as terminals;
 ghost use Rattle.pipeline_value.specs.Value.{Tells, text_map_text, text_strict_told, text_told};
 
+use crate::engine::Engine;
 use crate::maps::{merged_value, strict_value};
 use crate::told::ValueError;
-use parallel_streams::{Run, Stream};
+use parallel_streams::Stream;
 use pipeline_language::{TextFunction, TextValue};
-use pipeline_meaning::{Itself, NumberMerging, SeededHashes, Spelled, TextLength, TextMerging};
+use pipeline_meaning::{Itself, NumberMerging, Spelled, TextLength, TextMerging};
 use spliterator::{OrderedValue, Text};
 use stages::Mapping;
-use std::alloc::Global;
 use std::hash::Hash;
 use std::thread::Threads;
 use stealing_pool::Gate;
 
 /// The text of the map of a stream's keys and values, where values of one key are merged.
 pub(crate) fn map_value<T, R, X, H>(
-    rt: &R,
-    alloc: Global,
-    hashes: SeededHashes,
+    engine: &Engine<'_, R, H>,
     stream: &X,
     key: TextFunction,
     value: TextValue,
-    run: &Run<'_, H>,
 ) -> Result<String, ValueError>
 where
     T: Text + OrderedValue + Spelled + Hash + Copy + Drop + Send + Sync,
@@ -35,27 +31,23 @@ where
     X::Progress: Send + Sync,
     X::Part: Send,
     H: Gate + Sync,
-    requires settings { IsLawfulRun run.now.workers run.now.target }
     requires stream { X.ready stream.now }
     requires spelling { T.spelling ≡ itself }
     requires same { T.same ≡ bytes_eq }
     ensures { Tells (text_told (terminals.ToMap key value) (X.value stream.now)) result }
 {
     match key {
-        TextFunction::Length => text_map(rt, alloc, hashes, stream, TextLength, value, run),
-        TextFunction::Itself => text_map(rt, alloc, hashes, stream, Itself, value, run),
+        TextFunction::Length => text_map(engine, stream, TextLength, value),
+        TextFunction::Itself => text_map(engine, stream, Itself, value),
     }
 }
 
 /// The text of the map of a stream's keys and values, or of the first key that comes again.
 pub(crate) fn strict_map_value<T, R, X, H>(
-    rt: &R,
-    alloc: Global,
-    hashes: SeededHashes,
+    engine: &Engine<'_, R, H>,
     stream: &X,
     key: TextFunction,
     value: TextFunction,
-    run: &Run<'_, H>,
 ) -> Result<String, ValueError>
 where
     T: Text + OrderedValue + Spelled + Hash + Copy + Drop + Send + Sync,
@@ -64,27 +56,23 @@ where
     X::Progress: Send + Sync,
     X::Part: Send,
     H: Gate + Sync,
-    requires settings { IsLawfulRun run.now.workers run.now.target }
     requires stream { X.ready stream.now }
     requires spelling { T.spelling ≡ itself }
     requires same { T.same ≡ bytes_eq }
     ensures { Tells (text_told (terminals.ToMapStrict key value) (X.value stream.now)) result }
 {
     match key {
-        TextFunction::Length => text_strict_map(rt, alloc, hashes, stream, TextLength, value, run),
-        TextFunction::Itself => text_strict_map(rt, alloc, hashes, stream, Itself, value, run),
+        TextFunction::Length => text_strict_map(engine, stream, TextLength, value),
+        TextFunction::Itself => text_strict_map(engine, stream, Itself, value),
     }
 }
 
 /// The text of the map of a stream's keys and values, where values of one key are merged.
 fn text_map<T, R, X, K, H>(
-    rt: &R,
-    alloc: Global,
-    hashes: SeededHashes,
+    engine: &Engine<'_, R, H>,
     stream: &X,
     key: K,
     value: TextValue,
-    run: &Run<'_, H>,
 ) -> Result<String, ValueError>
 where
     T: Text + OrderedValue + Spelled + Copy + Drop + Send + Sync,
@@ -95,7 +83,6 @@ where
     K: Mapping<T> + Drop + Sync,
     K::Out: Spelled + Hash + Drop + Send,
     H: Gate + Sync,
-    requires settings { IsLawfulRun run.now.workers run.now.target }
     requires stream { X.ready stream.now }
     requires keys { K.ready key }
     requires spelling { T.spelling ≡ itself }
@@ -104,24 +91,21 @@ where
     match value {
         TextValue::Length(merge) => {
             let merge = NumberMerging::of(merge);
-            merged_value(rt, alloc, hashes, stream, key, TextLength, merge, run)
+            merged_value(engine, stream, key, TextLength, merge)
         }
         TextValue::Itself(merge) => {
             let merge = TextMerging::of(merge);
-            merged_value(rt, alloc, hashes, stream, key, Itself, merge, run)
+            merged_value(engine, stream, key, Itself, merge)
         }
     }
 }
 
 /// The text of the map of a stream's keys and values, or of the first key that comes again.
 fn text_strict_map<T, R, X, K, H>(
-    rt: &R,
-    alloc: Global,
-    hashes: SeededHashes,
+    engine: &Engine<'_, R, H>,
     stream: &X,
     key: K,
     value: TextFunction,
-    run: &Run<'_, H>,
 ) -> Result<String, ValueError>
 where
     T: Text + OrderedValue + Spelled + Copy + Drop + Send + Sync,
@@ -132,14 +116,13 @@ where
     K: Mapping<T> + Drop + Sync,
     K::Out: Spelled + Hash + Drop + Send,
     H: Gate + Sync,
-    requires settings { IsLawfulRun run.now.workers run.now.target }
     requires stream { X.ready stream.now }
     requires keys { K.ready key }
     requires spelling { T.spelling ≡ itself }
     ensures { Tells (text_strict_told K.Out.spelling K.Out.same (K.image key) value (X.value stream.now)) result }
 {
     match value {
-        TextFunction::Length => strict_value(rt, alloc, hashes, stream, key, TextLength, run),
-        TextFunction::Itself => strict_value(rt, alloc, hashes, stream, key, Itself, run),
+        TextFunction::Length => strict_value(engine, stream, key, TextLength),
+        TextFunction::Itself => strict_value(engine, stream, key, Itself),
     }
 }

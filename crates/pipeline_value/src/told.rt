@@ -1,12 +1,13 @@
 //! What a pipeline tells: the text of its value, or of a repeated key.
 
 ghost use Rattle.std.specs.Prelude.{◌≡◌, ℕ, List, Option, Ok, Err, IfOk, IsErr, option_map, string_bytes};
-ghost use Rattle.parallel_streams.specs.Runs.{AnswersUnder, IsLawfulRun};
+ghost use Rattle.parallel_streams.specs.Runs.{AnswersUnder};
 ghost use Rattle.pipeline_meaning.specs.Texts.{optional_text};
 ghost use Rattle.pipeline_value.specs.Value.{Tells};
 ghost use Rattle.pipeline_value.specs.declared.told.ValueError.TheVariants as variants;
 
-use parallel_streams::{Run, StreamError};
+use crate::engine::Engine;
+use parallel_streams::StreamError;
 use pipeline_meaning::{Spelled, Written};
 use spliterator::NoMemory;
 use std::alloc::{AllocError, Global};
@@ -35,10 +36,12 @@ impl From<AllocError> for ValueError {
     }
 }
 
-/// What a stream made under lawful settings: only want of memory can have refused it.
-pub(crate) fn ran<V, H>(_run: &Run<'_, H>, made: Result<V, StreamError>) -> Result<V, NoMemory>
-    requires settings { IsLawfulRun _run.now.workers _run.now.target }
-    requires answers { AnswersUnder _run.now.workers _run.now.target made }
+/// What a stream made, whose settings are lawful: only want of memory can have refused it.
+pub(crate) fn ran<V, R, H>(
+    _engine: &Engine<'_, R, H>,
+    made: Result<V, StreamError>,
+) -> Result<V, NoMemory>
+    requires answers { AnswersUnder _engine.now.run.workers _engine.now.run.target made }
     ensures value { IfOk result (λ v. made ≡ Ok v) }
     ensures memory { IsErr result → made ≡ Err StreamError.NoMemory }
 {
@@ -66,41 +69,36 @@ pub(crate) fn told<V: Written>(alloc: Global, value: &V) -> Result<String, Value
 }
 
 /// What a stream made under lawful settings, told by its text.
-pub(crate) fn ran_told<V: Written + Drop, H>(
-    alloc: Global,
-    run: &Run<'_, H>,
+pub(crate) fn ran_told<V: Written + Drop, R, H>(
+    engine: &Engine<'_, R, H>,
     made: Result<V, StreamError>,
 ) -> Result<String, ValueError>
-    requires settings { IsLawfulRun run.now.workers run.now.target }
-    requires answers { AnswersUnder run.now.workers run.now.target made }
+    requires answers { AnswersUnder engine.now.run.workers engine.now.run.target made }
     ensures { (value : V) → IfOk made (λ v. v ≡ value) → Tells (Ok (V.text value)) result }
 {
-    let value = ran(run, made)?;
-    told(alloc, &value)
+    let value = ran(engine, made)?;
+    told(engine.alloc, &value)
 }
 
 /// An item that a stream made under lawful settings, or that it made none, told by its text.
-pub(crate) fn ran_optional<T: Spelled + Drop, H>(
-    alloc: Global,
-    run: &Run<'_, H>,
+pub(crate) fn ran_optional<T: Spelled + Drop, R, H>(
+    engine: &Engine<'_, R, H>,
     made: Result<Option<T>, StreamError>,
 ) -> Result<String, ValueError>
-    requires settings { IsLawfulRun run.now.workers run.now.target }
-    requires answers { AnswersUnder run.now.workers run.now.target made }
+    requires answers { AnswersUnder engine.now.run.workers engine.now.run.target made }
     ensures { (item : Option T.Content) → IfOk made (λ found. option_map T.content found ≡ item) → Tells (Ok (optional_text T.spelling item)) result }
 {
-    let found = ran(run, made)?;
-    told(alloc, &found)
+    let found = ran(engine, made)?;
+    told(engine.alloc, &found)
 }
 
 /// A text that a stream made under lawful settings.
-pub(crate) fn ran_text<H>(
-    run: &Run<'_, H>,
+pub(crate) fn ran_text<R, H>(
+    engine: &Engine<'_, R, H>,
     made: Result<String, StreamError>,
 ) -> Result<String, ValueError>
-    requires settings { IsLawfulRun run.now.workers run.now.target }
-    requires answers { AnswersUnder run.now.workers run.now.target made }
+    requires answers { AnswersUnder engine.now.run.workers engine.now.run.target made }
     ensures { (bytes : List ℕ) → IfOk made (λ text. string_bytes text ≡ bytes) → Tells (Ok bytes) result }
 {
-    Ok(ran(run, made)?)
+    Ok(ran(engine, made)?)
 }

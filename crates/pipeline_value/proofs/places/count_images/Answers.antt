@@ -12,4 +12,4 @@ returns g c =
     let few = images-few images c.requires.few items in
     let small : length (flat_map images items) < 2 ^ 64 = omega (arith, few, c.count.ensures, c.count.type_inv) in
     let count : to_z w64 (of_z w64 c.in_ok-count.count) ≡ c.in_ok-count.count = search rules in
-    c.cast_unsigned.ensures ∙ ap (of_z w64) count ∙ uncounted _ c.in_ok-count.count small (rw (c.in_ok-count.ensures.value, c.then.ensures.upstream, c.then.ensures.stage, c.of.ensures) at c.count-2.ensures.value)
+    c.cast_unsigned.ensures ∙ ap (of_z w64) count ∙ uncounted _ c.in_ok-count.count small (rw (c.in_ok-count.ensures.value, c.then-images.ensures.upstream, c.then-images.ensures.stage, c.of.ensures) at c.count-2.ensures.value)

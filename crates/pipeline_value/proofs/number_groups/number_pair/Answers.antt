@@ -1,7 +1,0 @@
--- The two texts are those of the two summaries.
-use Rattle.std.proofs.Common.{ap₂, ◌∙◌}
-use Rattle.pipeline_meaning.specs.Texts.{pair_text}
-use Rattle.pipeline_value.proofs.number_groups.number_pair.Goals as goal
-
-pub returns-clause-summary : goal.returns-clause-summary
-returns-clause-summary c = λ l. c.paired.ensures.summary l ∙ ap₂ pair_text (c.number_summary-first.ensures.summary l) (c.number_summary-second.ensures.summary l)
