@@ -8,30 +8,32 @@ use std::alloc::{AllocError, Global};
 use std::test::Fail;
 
 /// The first lines of the two versions.
-const VERSIONS: [&[u8]; 2] = [b"pipeline 1\n", b"pipeline 2\n"];
+static VERSIONS: [&[u8]; 2] = [b"pipeline 1\n", b"pipeline 2\n"];
+
+/// Files with a fault in their first line, or nothing behind it.
+static FIRST_LINES: [(&[u8], &str); 11] = [
+    (b"", "line 1: BAD_VERSION"),
+    (b"pipeline 1\r\nrange 0 1\nsum\n", "line 1: BAD_VERSION"),
+    (b"pipeline 2\r\nrange 0 1\nsum\n", "line 1: BAD_VERSION"),
+    (b"pipeline 2 \nrange 0 1\nsum\n", "line 1: BAD_VERSION"),
+    (b"pipeline  2\nrange 0 1\nsum\n", "line 1: BAD_VERSION"),
+    (b"pipeline 12\nrange 0 1\nsum\n", "line 1: BAD_VERSION"),
+    (b"pipeline 3\nrange 0 1\nsum\n", "line 1: BAD_VERSION"),
+    (b"pipeline\nrange 0 1\nsum\n", "line 1: BAD_VERSION"),
+    (b"\xff", "line 1: BAD_TEXT"),
+    (b"pipeline 1", "line 2: MISSING_TERMINAL"),
+    (b"pipeline 2", "line 2: MISSING_TERMINAL"),
+];
 
 #[test]
 fn tells_the_faults_of_a_first_line(rt: HostRuntime) -> Result<(), Fail> {
     one_reading();
-    let rows: &[(&[u8], &str)] = &[
-        (b"", "line 1: BAD_VERSION"),
-        (b"pipeline 1\r\nrange 0 1\nsum\n", "line 1: BAD_VERSION"),
-        (b"pipeline 2\r\nrange 0 1\nsum\n", "line 1: BAD_VERSION"),
-        (b"pipeline 2 \nrange 0 1\nsum\n", "line 1: BAD_VERSION"),
-        (b"pipeline  2\nrange 0 1\nsum\n", "line 1: BAD_VERSION"),
-        (b"pipeline 12\nrange 0 1\nsum\n", "line 1: BAD_VERSION"),
-        (b"pipeline 3\nrange 0 1\nsum\n", "line 1: BAD_VERSION"),
-        (b"pipeline\nrange 0 1\nsum\n", "line 1: BAD_VERSION"),
-        (b"\xff", "line 1: BAD_TEXT"),
-        (b"pipeline 1", "line 2: MISSING_TERMINAL"),
-        (b"pipeline 2", "line 2: MISSING_TERMINAL"),
-    ];
-    assert!(rt; first_wrong(rt.alloc(), b"", rows)?.is_none());
+    assert!(rt; first_wrong(rt.alloc(), b"", FIRST_LINES.as_slice())?.is_none());
     Ok(())
 }
 
 /// Source lines with what follows them.
-const SOURCES: [(&[u8], &str); 20] = [
+static SOURCES: [(&[u8], &str); 20] = [
     (b"", "line 2: MISSING_TERMINAL"),
     (b"\n", "line 2: UNKNOWN_WORD"),
     (b"range 1\nsum\n", "line 2: BAD_ARITY"),
@@ -67,7 +69,7 @@ const SOURCES: [(&[u8], &str); 20] = [
 ];
 
 /// Files with a fault in their stages or their terminal, and the fault.
-const BODY_FAULTS: [(&[u8], &str); 24] = [
+static BODY_FAULTS: [(&[u8], &str); 24] = [
     (b"range 0 10\nmap mull 3\nsum\n", "line 3: UNKNOWN_WORD"),
     (b"range 0 10\nmap mul\nsum\n", "line 3: BAD_ARITY"),
     (b"range 0 10\nmap mul 03\nsum\n", "line 3: BAD_NUMBER"),
@@ -114,7 +116,7 @@ const BODY_FAULTS: [(&[u8], &str); 24] = [
 
 #[test]
 fn tells_the_faults_of_a_source_and_of_a_body(rt: HostRuntime) -> Result<(), Fail> {
-    for first_line in VERSIONS {
+    for &first_line in &VERSIONS {
         assert!(rt; first_wrong(rt.alloc(), first_line, SOURCES.as_slice())?.is_none());
         assert!(rt; first_wrong(rt.alloc(), first_line, BODY_FAULTS.as_slice())?.is_none());
     }
@@ -122,7 +124,7 @@ fn tells_the_faults_of_a_source_and_of_a_body(rt: HostRuntime) -> Result<(), Fai
 }
 
 /// Numbers of stages and a line behind them, with what is told of such a file.
-const STAGES: [(usize, &str, &str); 6] = [
+static STAGES: [(usize, &str, &str); 6] = [
     (32, "", "read"),
     (33, "", "line 35: TOO_MANY_STAGES"),
     (32, "map mul 03\n", "line 35: BAD_NUMBER"),
@@ -151,8 +153,8 @@ fn told_of_stages(
 
 #[test]
 fn counts_the_stages(rt: HostRuntime) -> Result<(), Fail> {
-    for first_line in VERSIONS {
-        for (count, line, wanted) in STAGES {
+    for &first_line in &VERSIONS {
+        for &(count, line, wanted) in &STAGES {
             let told = told_of_stages(rt.alloc(), first_line, count, line)?;
             assert!(rt; told.as_str() == wanted);
         }
@@ -160,22 +162,24 @@ fn counts_the_stages(rt: HostRuntime) -> Result<(), Fail> {
     Ok(())
 }
 
+/// Of how many bytes a beginning is, and what is told of it.
+static BEGINNINGS: [(usize, &str); 9] = [
+    (25, "read"),
+    (24, "read"),
+    (23, "line 3: UNKNOWN_WORD"),
+    (21, "line 3: MISSING_TERMINAL"),
+    (20, "line 3: MISSING_TERMINAL"),
+    (19, "line 2: BAD_NUMBER"),
+    (18, "line 2: BAD_ARITY"),
+    (10, "line 2: MISSING_TERMINAL"),
+    (0, "line 1: BAD_VERSION"),
+];
+
 #[test]
 fn reads_each_beginning(rt: HostRuntime) -> Result<(), Fail> {
     let alloc = rt.alloc();
     let file = b"pipeline 1\nrange 1 6\nsum\n";
-    let beginnings = [
-        (25, "read"),
-        (24, "read"),
-        (23, "line 3: UNKNOWN_WORD"),
-        (21, "line 3: MISSING_TERMINAL"),
-        (20, "line 3: MISSING_TERMINAL"),
-        (19, "line 2: BAD_NUMBER"),
-        (18, "line 2: BAD_ARITY"),
-        (10, "line 2: MISSING_TERMINAL"),
-        (0, "line 1: BAD_VERSION"),
-    ];
-    for (size, wanted) in beginnings {
+    for &(size, wanted) in &BEGINNINGS {
         assert!(rt; size <= file.len());
         assert!(rt; told(alloc, &file[..size])?.as_str() == wanted);
     }
@@ -203,20 +207,23 @@ fn told_of_ends(alloc: Global, count: usize) -> Result<String, AllocError> {
     told(alloc, file.as_slice())
 }
 
+/// Numbers of line ends, and what is told of so many.
+static GREAT: [(usize, &str); 2] = [
+    (1_048_577, "line 0: TOO_LARGE"),
+    (1_048_576, "line 1: BAD_VERSION"),
+];
+
 #[test]
 fn tells_great_files(rt: HostRuntime) -> Result<(), Fail> {
     let alloc = rt.alloc();
-    for (count, wanted) in [
-        (1_048_577, "line 0: TOO_LARGE"),
-        (1_048_576, "line 1: BAD_VERSION"),
-    ] {
+    for &(count, wanted) in &GREAT {
         assert!(rt; told_of_ends(alloc, count)?.as_str() == wanted);
     }
     Ok(())
 }
 
 /// Each fault with its name.
-const NAMES: [(FileError, &str); 11] = [
+static NAMES: [(FileError, &str); 11] = [
     (FileError::BadText, "BAD_TEXT"),
     (FileError::TooLarge, "TOO_LARGE"),
     (FileError::BadVersion, "BAD_VERSION"),
@@ -233,9 +240,8 @@ const NAMES: [(FileError, &str); 11] = [
 #[test]
 fn names_each_fault(rt: HostRuntime) -> Result<(), Fail> {
     let alloc = rt.alloc();
-    for (kind, name) in NAMES {
-        assert!(rt; kind.name() == name);
-        assert!(rt; kind.to_string(alloc)?.as_str() == name);
+    for &(kind, name) in &NAMES {
+        assert!(rt; kind.name() == name && kind.to_string(alloc)?.as_str() == name);
     }
     let fault = FileFault {
         line: 18_446_744_073_709_551_615,

@@ -30,40 +30,42 @@ fn is_of_numbers(
     }
 }
 
+/// The stages of a file with each function, each test and each barrier.
+static STAGES: [NumberStage; 15] = [
+    NumberStage::Map(NumberFunction::Add(-3)),
+    NumberStage::Map(NumberFunction::Mul(2)),
+    NumberStage::Map(NumberFunction::Negate),
+    NumberStage::Map(NumberFunction::Mod(7)),
+    NumberStage::Map(NumberFunction::Itself),
+    NumberStage::Filter(NumberTest::Less(1)),
+    NumberStage::Filter(NumberTest::Greater(2)),
+    NumberStage::Filter(NumberTest::Equals(3)),
+    NumberStage::Filter(NumberTest::Divisible(4)),
+    NumberStage::Repeat(1000),
+    NumberStage::Distinct,
+    NumberStage::Limit(0),
+    NumberStage::Skip(9_223_372_036_854_775_807),
+    NumberStage::TakeWhile(NumberTest::Less(5)),
+    NumberStage::DropWhile(NumberTest::Less(6)),
+];
+
 #[test]
 fn reads_stages_over_numbers(rt: HostRuntime) -> Result<(), Fail> {
     let file =
         b"pipeline 1\nnumbers 5 -2 9223372036854775807\nmap add -3\nmap mul 2\nmap negate\nmap mod 7\nmap self\n\
         filter less 1\nfilter greater 2\nfilter equals 3\nfilter divisible 4\nflatmap repeat 1000\ndistinct\nlimit 0\n\
         skip 9223372036854775807\ntakewhile less 5\ndropwhile less 6\ntomap self negate last\n";
-    let stages = [
-        NumberStage::Map(NumberFunction::Add(-3)),
-        NumberStage::Map(NumberFunction::Mul(2)),
-        NumberStage::Map(NumberFunction::Negate),
-        NumberStage::Map(NumberFunction::Mod(7)),
-        NumberStage::Map(NumberFunction::Itself),
-        NumberStage::Filter(NumberTest::Less(1)),
-        NumberStage::Filter(NumberTest::Greater(2)),
-        NumberStage::Filter(NumberTest::Equals(3)),
-        NumberStage::Filter(NumberTest::Divisible(4)),
-        NumberStage::Repeat(1000),
-        NumberStage::Distinct,
-        NumberStage::Limit(0),
-        NumberStage::Skip(9_223_372_036_854_775_807),
-        NumberStage::TakeWhile(NumberTest::Less(5)),
-        NumberStage::DropWhile(NumberTest::Less(6)),
-    ];
     let terminal = NumberTerminal::ToMap(
         NumberFunction::Itself,
         NumberFunction::Negate,
         NumberMerge::Last,
     );
-    assert!(rt; is_of_numbers(rt.alloc(), file, &[5, -2, i64::MAX], &stages, terminal)?);
+    assert!(rt; is_of_numbers(rt.alloc(), file, &[5, -2, i64::MAX], &STAGES, terminal)?);
     Ok(())
 }
 
 /// Numbers at the ends of 64 bits, and words past them, with leading zeros, with signs, and empty.
-const WORDS: [(&[u8], &str); 14] = [
+static WORDS: [(&[u8], &str); 14] = [
     (b"numbers 9223372036854775808\nsum\n", "line 2: BAD_NUMBER"),
     (b"numbers -9223372036854775809\nsum\n", "line 2: BAD_NUMBER"),
     (
@@ -139,7 +141,7 @@ const BELOW: NumberTest = NumberTest::Less(3);
 const ODD: NumberFunction = NumberFunction::Mod(2);
 
 /// Terminals that both versions have.
-const TERMINALS: [(&str, NumberTerminal); 16] = [
+static TERMINALS: [(&str, NumberTerminal); 16] = [
     ("sum", NumberTerminal::Sum),
     ("product", NumberTerminal::Product),
     ("max", NumberTerminal::Max),

@@ -37,25 +37,27 @@ fn is_of_texts<'a>(
     }
 }
 
+/// The stages of a file with each stage over texts.
+static STAGES: [TextStage<'static>; 11] = [
+    TextStage::MapItself,
+    TextStage::Filter(TextTest::Starts("")),
+    TextStage::Filter(TextTest::Empty),
+    TextStage::Filter(TextTest::Longer(3)),
+    TextStage::Words,
+    TextStage::Repeat(2),
+    TextStage::Distinct,
+    TextStage::Limit(1),
+    TextStage::Skip(0),
+    TextStage::TakeWhile(TextTest::Empty),
+    TextStage::DropWhile(TextTest::Starts("a")),
+];
+
 #[test]
 fn reads_stages_over_texts(rt: HostRuntime) -> Result<(), Fail> {
     let file =
         b"pipeline 1\nlines 2\na b\n\nmap self\nfilter starts \nfilter empty\nfilter longer 3\nflatmap words\n\
         flatmap repeat 2\ndistinct\nlimit 1\nskip 0\ntakewhile empty\ndropwhile starts a\nmap length\nmap add 1\nmax\n";
-    let stages = [
-        TextStage::MapItself,
-        TextStage::Filter(TextTest::Starts("")),
-        TextStage::Filter(TextTest::Empty),
-        TextStage::Filter(TextTest::Longer(3)),
-        TextStage::Words,
-        TextStage::Repeat(2),
-        TextStage::Distinct,
-        TextStage::Limit(1),
-        TextStage::Skip(0),
-        TextStage::TakeWhile(TextTest::Empty),
-        TextStage::DropWhile(TextTest::Starts("a")),
-    ];
-    assert!(rt; is_of_texts(rt.alloc(), file, (3, 0), &stages)?);
+    assert!(rt; is_of_texts(rt.alloc(), file, (3, 0), &STAGES)?);
     Ok(())
 }
 
@@ -89,7 +91,7 @@ pub(super) fn first_other_end(
 }
 
 /// Files over texts, with their terminals.
-const TERMINALS: [(&[u8], TextTerminal<'static>); 9] = [
+static TERMINALS: [(&[u8], TextTerminal<'static>); 9] = [
     (b"pipeline 1\nlines 0\ncount", TextTerminal::Count),
     (b"pipeline 1\nlines 0\nfindfirst", TextTerminal::FindFirst),
     (b"pipeline 1\nlines 0\ntolist", TextTerminal::ToList),

@@ -16,7 +16,7 @@ const THIRDS: NumberFunction = NumberFunction::Mod(3);
 const COUNT: NumberInner = NumberInner::Base(NumberBase::Count);
 
 /// Terminals of numbers that the first version does not have.
-const NEW_TERMINALS: [(&str, NumberTerminal); 8] = [
+static NEW_TERMINALS: [(&str, NumberTerminal); 8] = [
     (
         "tomapstrict mod 10 self",
         NumberTerminal::ToMapStrict(NumberFunction::Mod(10), NumberFunction::Itself),
@@ -85,7 +85,7 @@ fn reads_strict_maps_and_nested_collectors_of_numbers(rt: HostRuntime) -> Result
 }
 
 /// Files of the second version over texts, with their terminals.
-const NEW_TEXT_TERMINALS: [(&[u8], TextTerminal<'static>); 7] = [
+static NEW_TEXT_TERMINALS: [(&[u8], TextTerminal<'static>); 7] = [
     (
         b"pipeline 2\nlines 0\ntomapstrict self length",
         TextTerminal::ToMapStrict(TextFunction::Itself, TextFunction::Length),
@@ -153,7 +153,7 @@ fn reads_strict_maps_and_nested_collectors_of_texts(rt: HostRuntime) -> Result<(
 }
 
 /// Lines with a word that the first version has not.
-const NEW_WORDS: [(&[u8], &str); 9] = [
+static NEW_WORDS: [(&[u8], &str); 9] = [
     (b"numbers\ntomapstrict self self", "line 3: UNKNOWN_WORD"),
     (b"numbers\ntomapstrict", "line 3: UNKNOWN_WORD"),
     (
@@ -187,7 +187,7 @@ fn new_words_are_unknown_in_the_first_version(rt: HostRuntime) -> Result<(), Fai
 }
 
 /// Lines with a new word where the second version has none, also as a third nesting.
-const MISPLACED: [(&[u8], &str); 9] = [
+static MISPLACED: [(&[u8], &str); 9] = [
     (b"numbers\nmapping negate\nsum", "line 3: UNKNOWN_WORD"),
     (b"numbers\nfiltering less 1\nsum", "line 3: UNKNOWN_WORD"),
     (
@@ -221,7 +221,7 @@ const MISPLACED: [(&[u8], &str); 9] = [
 ];
 
 /// Lines with too few or too many words, or a bad number, behind new words.
-const MISCOUNTED: [(&[u8], &str); 11] = [
+static MISCOUNTED: [(&[u8], &str); 11] = [
     (b"numbers\ntomapstrict", "line 3: BAD_ARITY"),
     (b"numbers\ntomapstrict self", "line 3: BAD_ARITY"),
     (b"numbers\ntomapstrict self self sum", "line 3: BAD_ARITY"),
@@ -254,7 +254,7 @@ const MISCOUNTED: [(&[u8], &str); 11] = [
 ];
 
 /// Lines that don't take the items that come to a collector.
-const MISTAKEN: [(&[u8], &str); 13] = [
+static MISTAKEN: [(&[u8], &str); 13] = [
     (b"numbers\ntomapstrict length self", "line 3: WRONG_KIND"),
     (b"numbers\ntomapstrict self length", "line 3: WRONG_KIND"),
     (b"lines 0\ntomapstrict mod 2 self", "line 3: WRONG_KIND"),

@@ -1,5 +1,5 @@
-use super::{read, wrapped};
-use either::{Either, Left, Right};
+use super::{Side, range, read, wrapped};
+use either::{Left, Right};
 use sources::{
     Concat, DequeSplit, LinesSplit, MAX_RANGE, RangeSplit, RangeTooLong, SliceSplit, Windowed,
 };
@@ -60,100 +60,90 @@ fn check<S: Spliterator>(
 }
 
 /// A range, how many items it has, and the part and the rest of its split.
-type RangeRow<'a> = (
-    Result<RangeSplit, RangeTooLong>,
-    u64,
-    Option<&'a [i64]>,
-    &'a [i64],
-);
+static RANGES: [((bool, i64, i64), u64, Option<&[i64]>, &[i64]); 8] = [
+    ((false, 0, 10), 10, Some(&[0, 1, 2, 3, 4]), &[5, 6, 7, 8, 9]),
+    ((false, 0, 5), 5, Some(&[0, 1]), &[2, 3, 4]),
+    ((false, 7, 8), 1, None, &[7]),
+    ((false, 5, 5), 0, None, &[]),
+    ((false, 5, -5), 0, None, &[]),
+    ((true, 5, 4), 0, None, &[]),
+    (
+        (true, i64::MAX - 1, i64::MAX),
+        2,
+        Some(&[i64::MAX - 1]),
+        &[i64::MAX],
+    ),
+    ((true, i64::MIN, i64::MIN), 1, None, &[i64::MIN]),
+];
 
+/// A slice, how many items it has, and the part and the rest of its split.
+static SLICES: [(&[i64], u64, Option<&[i64]>, &[i64]); 4] = [
+    (&[3, 1, 2], 3, Some(&[3]), &[1, 2]),
+    (&[], 0, None, &[]),
+    (&[3], 1, None, &[3]),
+    (&[7], 1, None, &[7]),
+];
+
+/// Each as a side that may be either, which does what it does alone.
 #[test]
-fn ranges_split_in_half(rt: HostRuntime) -> Result<(), Fail> {
-    let (least, most) = (i64::MIN, i64::MAX);
-    let rows: [RangeRow<'_>; 8] = [
-        (
-            RangeSplit::range(0, 10),
-            10,
-            Some(&[0, 1, 2, 3, 4]),
-            &[5, 6, 7, 8, 9],
-        ),
-        (RangeSplit::range(0, 5), 5, Some(&[0, 1]), &[2, 3, 4]),
-        (RangeSplit::range(7, 8), 1, None, &[7]),
-        (RangeSplit::range(5, 5), 0, None, &[]),
-        (RangeSplit::range(5, -5), 0, None, &[]),
-        (RangeSplit::closed(5, 4), 0, None, &[]),
-        (
-            RangeSplit::closed(most - 1, most),
-            2,
-            Some(&[most - 1]),
-            &[most],
-        ),
-        (RangeSplit::closed(least, least), 1, None, &[least]),
-    ];
-    for (range, size, part, rest) in rows {
-        check(&rt, rt.alloc(), range?, (0x4555, size), part, rest)?;
+fn ranges_and_slices_split_in_half(rt: HostRuntime) -> Result<(), Fail> {
+    for &(ends, size, part, rest) in &RANGES {
+        let side: Side<'_> = Left(range(ends)?);
+        check(&rt, rt.alloc(), side, (0x4555, size), part, rest)?;
     }
+    for &(numbers, size, part, rest) in &SLICES {
+        let side: Side<'_> = Right(SliceSplit::new(numbers));
+        check(&rt, rt.alloc(), side, (0x4550, size), part, rest)?;
+    }
+    let mut left: Side<'_> = Left(RangeSplit::range(0, 10)?);
+    let part = left.try_split().ok_or("no part")?;
+    assert!(rt; part.is_left() && left.is_left());
     Ok(())
 }
+
+/// How many of the last three numbers are cut off, these, and the rest.
+static CUTS: [(u64, &[i64], &[i64]); 4] = [
+    (0, &[], &[i64::MAX - 2, i64::MAX - 1, i64::MAX]),
+    (1, &[i64::MAX - 2], &[i64::MAX - 1, i64::MAX]),
+    (3, &[i64::MAX - 2, i64::MAX - 1, i64::MAX], &[]),
+    (u64::MAX, &[i64::MAX - 2, i64::MAX - 1, i64::MAX], &[]),
+];
 
 #[test]
 fn ranges_and_slices_are_cut(rt: HostRuntime) -> Result<(), Fail> {
-    let (first, second, third) = (i64::MAX - 2, i64::MAX - 1, i64::MAX);
-    let items = [first, second, third];
-    let rows: [(u64, &[i64], &[i64]); 4] = [
-        (0, &[], &[first, second, third]),
-        (1, &[first], &[second, third]),
-        (3, &[first, second, third], &[]),
-        (u64::MAX, &[first, second, third], &[]),
-    ];
-    for (number, front, rest) in rows {
-        let range = RangeSplit::closed(first, third)?;
-        let slice = SliceSplit::new(&items);
-        assert!(rt;
-            is_cut(rt.alloc(), range, number, front, rest)?,
-            "range {number}"
-        );
-        assert!(rt;
-            is_cut(rt.alloc(), slice, number, front, rest)?,
-            "slice {number}"
-        );
+    let range = RangeSplit::closed(i64::MAX - 2, i64::MAX)?;
+    let items = [i64::MAX - 2, i64::MAX - 1, i64::MAX];
+    let slice = SliceSplit::new(&items);
+    for &(number, front, rest) in &CUTS {
+        let is_range_cut = is_cut(rt.alloc(), range, number, front, rest)?;
+        let is_slice_cut = is_cut(rt.alloc(), slice, number, front, rest)?;
+        assert!(rt; is_range_cut && is_slice_cut, "{number}");
     }
     Ok(())
 }
+
+/// Ranges, and whether they have no more items than a range may have.
+static LONG: [((bool, i64, i64), bool); 6] = [
+    ((false, 0, 4_611_686_018_427_387_904), true),
+    ((true, 1, 4_611_686_018_427_387_904), true),
+    ((false, 0, 4_611_686_018_427_387_905), false),
+    ((true, 0, 4_611_686_018_427_387_904), false),
+    ((false, i64::MIN, i64::MAX), false),
+    ((true, i64::MIN, i64::MAX), false),
+];
 
 #[test]
 fn ranges_have_at_most_2_to_the_62_items(rt: HostRuntime) -> Result<(), Fail> {
     assert!(rt; MAX_RANGE == 4_611_686_018_427_387_904);
-    for range in [
-        RangeSplit::range(0, 4_611_686_018_427_387_904),
-        RangeSplit::closed(1, 4_611_686_018_427_387_904),
-    ] {
-        assert!(rt; tells(&range?, 0x4555, MAX_RANGE));
-    }
-    for range in [
-        RangeSplit::range(0, 4_611_686_018_427_387_905),
-        RangeSplit::closed(0, 4_611_686_018_427_387_904),
-        RangeSplit::range(i64::MIN, i64::MAX),
-        RangeSplit::closed(i64::MIN, i64::MAX),
-    ] {
-        assert!(rt; matches!(range, Err(RangeTooLong)));
+    for &(ends, is_lawful) in &LONG {
+        let is_answered = match range(ends) {
+            Ok(range) => is_lawful && tells(&range, 0x4555, MAX_RANGE),
+            Err(RangeTooLong) => !is_lawful,
+        };
+        assert!(rt; is_answered, "{ends:?}");
     }
     let text = format!(in rt.alloc(); "{RangeTooLong}")?;
     assert!(rt; text.as_str() == "a range of more than 2^62 items");
-    Ok(())
-}
-
-#[test]
-fn slices_split_in_half(rt: HostRuntime) -> Result<(), Fail> {
-    let rows: [(&[i64], u64, Option<&[i64]>, &[i64]); 3] = [
-        (&[3, 1, 2], 3, Some(&[3]), &[1, 2]),
-        (&[], 0, None, &[]),
-        (&[3], 1, None, &[3]),
-    ];
-    for (numbers, size, part, rest) in rows {
-        let slice = SliceSplit::new(numbers);
-        check(&rt, rt.alloc(), slice, (0x4550, size), part, rest)?;
-    }
     Ok(())
 }
 
@@ -167,7 +157,7 @@ fn a_deque_whose_storage_wraps_splits_like_any_other(rt: HostRuntime) -> Result<
 }
 
 /// A text, its bytes, and the part and the rest of its split into lines. A carriage return is no end of a line.
-const LINES: [(&str, u64, Option<&[&str]>, &[&str]); 9] = [
+static LINES: [(&str, u64, Option<&[&str]>, &[&str]); 9] = [
     ("\na\n\n", 4, Some(&["", "a"]), &[""]),
     ("\na\n", 3, Some(&[""]), &["a"]),
     ("a\n", 2, None, &["a"]),
@@ -181,23 +171,29 @@ const LINES: [(&str, u64, Option<&[&str]>, &[&str]); 9] = [
 
 #[test]
 fn lines_split_after_a_line_feed_near_the_middle(rt: HostRuntime) -> Result<(), Fail> {
-    for (text, bytes, part, rest) in LINES {
+    for &(text, bytes, part, rest) in &LINES {
         let lines = LinesSplit::new(text);
         check(&rt, rt.alloc(), lines, (0x510, bytes), part, rest)?;
     }
     Ok(())
 }
 
+/// The lines of a text with a vowel of two bytes, and the bytes left behind each.
+static LEFT: [(&str, u64); 3] = [("é", 3), ("", 2), ("ab", 0)];
+
 /// The bytes that an estimate of lines counts fall with each line that is read.
 #[test]
 fn an_estimate_of_lines_is_the_bytes_left(rt: HostRuntime) -> Result<(), Fail> {
     let mut lines = LinesSplit::new("é\n\nab");
     assert!(rt; tells(&lines, 0x510, 6));
-    assert!(rt; advances_to(&mut lines, "é", 0x510, 3)?);
-    assert!(rt; advances_to(&mut lines, "", 0x510, 2)?);
-    assert!(rt; advances_to(&mut lines, "ab", 0x510, 0)?);
+    for &(line, left) in &LEFT {
+        assert!(rt; advances_to(&mut lines, line, 0x510, left)?, "{line}");
+    }
     Ok(())
 }
+
+/// Two slices, and how many items they have together. They split between them.
+static PAIRS: [(&[i64], &[i64], u64); 2] = [(&[], &[7], 1), (&[7], &[8], 2)];
 
 #[test]
 fn a_concatenation_splits_between_its_sides(rt: HostRuntime) -> Result<(), Fail> {
@@ -206,8 +202,7 @@ fn a_concatenation_splits_between_its_sides(rt: HostRuntime) -> Result<(), Fail>
     check(&rt, alloc, ranges, (0x4550, 3), Some(&[0, 1]), &[5])?;
     let part = ranges.try_split().ok_or("no part")?;
     assert!(rt; tells(&part, 0x4555, 2) && tells(&ranges, 0x4555, 1));
-    let rows: [(&[i64], &[i64], u64); 2] = [(&[], &[7], 1), (&[7], &[8], 2)];
-    for (first, second, size) in rows {
+    for &(first, second, size) in &PAIRS {
         let both = Concat::new(SliceSplit::new(first), SliceSplit::new(second));
         check(&rt, alloc, both, (0x4550, size), Some(first), second)?;
     }
@@ -218,10 +213,13 @@ fn a_concatenation_splits_between_its_sides(rt: HostRuntime) -> Result<(), Fail>
 fn a_concatenation_tells_a_size_that_an_estimate_can_say(rt: HostRuntime) -> Result<(), Fail> {
     let most = RangeSplit::range(0, 4_611_686_018_427_387_904)?;
     let less = RangeSplit::range(0, 4_611_686_018_427_387_903)?;
-    assert!(rt; tells(&Concat::new(most, most), 0x510, 9_223_372_036_854_775_807));
-    assert!(rt; tells(&Concat::new(most, less), 0x4550, MAX_ESTIMATE));
     let lines = Concat::new(LinesSplit::new("a\n"), LinesSplit::new("b"));
-    assert!(rt; tells(&lines, 0x510, 3));
+    let told = [
+        tells(&Concat::new(most, most), 0x510, 9_223_372_036_854_775_807),
+        tells(&Concat::new(most, less), 0x4550, MAX_ESTIMATE),
+        tells(&lines, 0x510, 3),
+    ];
+    assert!(rt; told == [true; 3], "{told:?}");
     Ok(())
 }
 
@@ -253,23 +251,9 @@ fn advances_to<S: Spliterator>(
 #[test]
 fn a_side_that_is_left_alone_tells_by_itself(rt: HostRuntime) -> Result<(), Fail> {
     let mut ranges = Concat::new(RangeSplit::range(0, 1)?, RangeSplit::range(5, 8)?);
-    assert!(rt; advances_to(&mut ranges, 0, 0x4550, 3)?);
-    assert!(rt; advances_to(&mut ranges, 5, 0x4555, 2)?);
+    let is_first = advances_to(&mut ranges, 0, 0x4550, 3)?;
+    assert!(rt; is_first && advances_to(&mut ranges, 5, 0x4555, 2)?);
     let mut lines = Concat::new(LinesSplit::new(""), LinesSplit::new("a\nb"));
-    assert!(rt; tells(&lines, 0x510, 3));
-    assert!(rt; advances_to(&mut lines, "a", 0x510, 1)?);
-    Ok(())
-}
-
-#[test]
-fn either_side_does_what_it_does_alone(rt: HostRuntime) -> Result<(), Fail> {
-    let seven: [i64; 1] = [7];
-    let mut left: Either<RangeSplit, SliceSplit<'_, i64>> = Left(RangeSplit::range(0, 10)?);
-    let (part, rest) = ([0, 1, 2, 3, 4], [5, 6, 7, 8, 9]);
-    check(&rt, rt.alloc(), left, (0x4555, 10), Some(&part), &rest)?;
-    let part = left.try_split().ok_or("no part")?;
-    assert!(rt; part.is_left() && left.is_left());
-    let right: Either<RangeSplit, SliceSplit<'_, i64>> = Right(SliceSplit::new(&seven));
-    check(&rt, rt.alloc(), right, (0x4550, 1), None, &seven)?;
+    assert!(rt; tells(&lines, 0x510, 3) && advances_to(&mut lines, "a", 0x510, 1)?);
     Ok(())
 }

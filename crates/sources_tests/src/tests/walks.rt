@@ -1,6 +1,6 @@
-use super::wrapped;
-use either::{Either, Left, Right};
-use sources::{Concat, DequeSplit, LinesSplit, RangeSplit, RangeTooLong, SliceSplit};
+use super::{Side, range, wrapped};
+use either::{Left, Right};
+use sources::{Concat, DequeSplit, LinesSplit, RangeSplit, SliceSplit};
 use spliterator::{NoMemory, Spliterator};
 use std::alloc::Global;
 use std::process::Abort;
@@ -116,29 +116,31 @@ fn check<S: Spliterator>(
     Ok(())
 }
 
+/// Ranges, and their items.
+static RANGES: [((bool, i64, i64), &[i64]); 3] = [
+    ((false, -4, 6), &[-4, -3, -2, -1, 0, 1, 2, 3, 4, 5]),
+    ((true, -4, 5), &[-4, -3, -2, -1, 0, 1, 2, 3, 4, 5]),
+    ((false, 6, -4), &[]),
+];
+
+/// Slices of numbers.
+static SLICES: [&[i64]; 3] = [&[-4, -3, -2, -1, 0, 1, 2, 3, 4, 5], &[-4], &[]];
+
 #[test]
 fn numbers_are_read_in_five_ways(rt: HostRuntime) -> Result<(), Fail> {
-    let alloc = rt.alloc();
-    let ten = [-4, -3, -2, -1, 0, 1, 2, 3, 4, 5];
-    let ranges: [(Result<RangeSplit, RangeTooLong>, &[i64]); 3] = [
-        (RangeSplit::range(-4, 6), &ten),
-        (RangeSplit::closed(-4, 5), &ten),
-        (RangeSplit::range(6, -4), &[]),
-    ];
-    for (range, items) in ranges {
-        check(&rt, alloc, range?, items)?;
+    for &(ends, items) in &RANGES {
+        check(&rt, rt.alloc(), range(ends)?, items)?;
     }
-    let slices: [&[i64]; 3] = [&ten, &[-4], &[]];
-    for slice in slices {
-        check(&rt, alloc, SliceSplit::new(slice), slice)?;
+    for &slice in &SLICES {
+        check(&rt, rt.alloc(), SliceSplit::new(slice), slice)?;
     }
-    let queue = wrapped(alloc)?;
-    check(&rt, alloc, DequeSplit::new(&queue), &[1, 2, 3])?;
+    let queue = wrapped(rt.alloc())?;
+    check(&rt, rt.alloc(), DequeSplit::new(&queue), &[1, 2, 3])?;
     Ok(())
 }
 
 /// Texts and their lines.
-const LINES: [(&str, &[&str]); 7] = [
+static LINES: [(&str, &[&str]); 7] = [
     ("", &[]),
     ("\n", &[""]),
     ("\n\n\n", &["", "", ""]),
@@ -150,7 +152,7 @@ const LINES: [(&str, &[&str]); 7] = [
 
 #[test]
 fn lines_are_read_in_five_ways(rt: HostRuntime) -> Result<(), Fail> {
-    for (text, lines) in LINES {
+    for &(text, lines) in &LINES {
         check(&rt, rt.alloc(), LinesSplit::new(text), lines)?;
     }
     Ok(())
@@ -172,10 +174,7 @@ fn two_sources_are_read_in_five_ways(rt: HostRuntime) -> Result<(), Fail> {
     check(&rt, alloc, many, &[7, 8, 9, 0, 1, 2, 3])?;
     let lines = Concat::new(LinesSplit::new("a\nb"), LinesSplit::new("\nc\n"));
     check(&rt, alloc, lines, &["a", "b", "", "c"])?;
-    let sides: [(Either<RangeSplit, SliceSplit<'_, i64>>, &[i64]); 2] = [
-        (Left(range), &[0, 1, 2, 3]),
-        (Right(slice), &numbers),
-    ];
+    let sides: [(Side<'_>, &[i64]); 2] = [(Left(range), &[0, 1, 2, 3]), (Right(slice), &numbers)];
     for (side, items) in sides {
         check(&rt, alloc, side, items)?;
     }
