@@ -7,7 +7,7 @@ use spliterator::{NoMemory, Spliterator};
 use stages::{Sink, Stage};
 use std::alloc::Global;
 
-/// The most source items between two questions whether the leaf was cut.
+/// The source items between two questions whether the leaf was cut.
 const STRETCH: u64 = 1024;
 
 /// The source items of a round, which are those between two questions how many items are left.
@@ -113,9 +113,9 @@ fn feed_counted<S: Spliterator, G: Stage<In = S::Item>, K: Sink<G::Out>>(
     let above = rest.saturating_add(ROUND - 1);
     'reading: loop {
         let more = match source.exact_size() {
-            Some(left) if above < left => feed_rounds(stage, source, sink, above),
-            _ => feed_one(stage, source, sink),
-        }?;
+            Some(left) if above < left => feed_rounds(stage, source, sink, above)?,
+            _ => feed_one(stage, source, sink)?,
+        };
         if !more {
             return Ok(false);
         }
@@ -176,16 +176,14 @@ fn feed_block<S: Spliterator, G: Stage<In = S::Item>, K: Sink<G::Out>>(
     Ok(true)
 }
 
-/// Feeds a stretch of what the source covers to a sink, as the stage prefers it: item by item, or as a block of at most so many. Says whether
-/// more may make a difference.
-fn feed_stretch<S: Spliterator, G: Stage<In = S::Item>, K: Sink<G::Out>>(
+/// Feeds a stretch of a source's items to a sink in blocks that grow: each is as long as those before it, and 64 at least. Says whether more may
+/// make a difference.
+fn feed_growing<S: Spliterator, G: Stage<In = S::Item>, K: Sink<G::Out>>(
     stage: &G,
     source: &mut S,
-    most: usize,
     room: &mut Vec<S::Item>,
     sink: &mut K,
 ) -> Result<bool, NoMemory>
-    requires some { 0 < most }
     requires stage { G.ready stage.now }
     requires sink { K.ready sink.old }
     ensures taken { OnOk result ((end : K)
@@ -194,16 +192,45 @@ fn feed_stretch<S: Spliterator, G: Stage<In = S::Item>, K: Sink<G::Out>>(
     ensures ready { OnOk result (K.ready sink.new) }
     ensures more { IfOk result (λ more. MatchBool more (length (S.items source.new) < length (S.items source.old)) (K.takes sink.new (flat_map (G.expand stage.now) (S.items source.new)) sink.new)) }
 {
-    if stage.prefers_blocks() {
-        feed_block(stage, source, most, room, sink)
-    } else {
+    let mut fed: usize = 0;
+    'reading: loop {
+        let most = fed.max(64);
+        if !feed_block(stage, source, most, room, sink)? {
+            return Ok(false);
+        }
+        fed = fed.saturating_add(most);
+        if STRETCH as usize <= fed {
+            return Ok(true);
+        }
+    }
+}
+
+/// Feeds a stretch of what the source covers to a sink, as the stage prefers it. Says whether more may make a difference.
+fn feed_stretch<S: Spliterator, G: Stage<In = S::Item>, K: Sink<G::Out>>(
+    stage: &G,
+    source: &mut S,
+    is_first: bool,
+    room: &mut Vec<S::Item>,
+    sink: &mut K,
+) -> Result<bool, NoMemory>
+    requires stage { G.ready stage.now }
+    requires sink { K.ready sink.old }
+    ensures taken { OnOk result ((end : K)
+        → K.takes sink.new (flat_map (G.expand stage.now) (S.items source.new)) end
+        → K.takes sink.old (flat_map (G.expand stage.now) (S.items source.old)) end) }
+    ensures ready { OnOk result (K.ready sink.new) }
+    ensures more { IfOk result (λ more. MatchBool more (length (S.items source.new) < length (S.items source.old)) (K.takes sink.new (flat_map (G.expand stage.now) (S.items source.new)) sink.new)) }
+{
+    if !stage.prefers_blocks() {
         feed_items(stage, source, sink)
+    } else if is_first {
+        feed_growing(stage, source, room, sink)
+    } else {
+        feed_block(stage, source, STRETCH as usize, room, sink)
     }
 }
 
 /// Feeds what the source covers to a sink, until no more makes a difference, or the leaf is cut. Says whether it wasn't cut.
-///
-/// Blocks grow, so that a hit near the front costs little: each is as long as those before it, 64 at least and a stretch at most.
 pub(crate) fn feed_until_cut<B: Handout, S: Spliterator, G: Stage<In = S::Item>, K: Sink<G::Out>>(
     alloc: Global,
     stage: &G,
@@ -223,13 +250,13 @@ pub(crate) fn feed_until_cut<B: Handout, S: Spliterator, G: Stage<In = S::Item>,
 {
     let mut source = source;
     let mut room = Vec::new(alloc);
-    let mut fed: usize = 0;
+    let mut is_first = true;
     'reading: loop {
-        let most = fed.clamp(64, STRETCH as usize);
-        if !feed_stretch(stage, &mut source, most, &mut room, sink)? {
+        let more = feed_stretch(stage, &mut source, is_first, &mut room, sink)?;
+        is_first = false;
+        if !more {
             return Ok(true);
         }
-        fed = fed.saturating_add(most);
         if board.is_cut(seat, leaf) {
             return Ok(false);
         }
