@@ -7,7 +7,7 @@ use thiserror::Error;
 
 /// How a terminal operation runs: on how many workers, 1 to 64; down to which estimate of a leaf, at most 2^62, where 0 stands for
 /// four leaves a worker; and who is told of each leaf.
-#[derive(Drop)]
+#[derive(Clone, Copy)]
 pub struct Run<'a, H> {
     pub workers: u32,
     pub target: u64,

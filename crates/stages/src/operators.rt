@@ -14,7 +14,7 @@ use std::cmp::Ordering;
 use std::marker::PhantomData;
 
 /// The sum of two numbers, which wraps in 64-bit two's complement.
-#[derive(Clone, Copy)]
+#[derive(Clone, Copy, Debug)]
 pub struct WrapAdd;
 
 impl WrapAdd {
@@ -36,7 +36,7 @@ impl Operator<i64> for WrapAdd {
 }
 
 /// The product of two numbers, which wraps in 64-bit two's complement.
-#[derive(Clone, Copy)]
+#[derive(Clone, Copy, Debug)]
 pub struct WrapMul;
 
 impl WrapMul {

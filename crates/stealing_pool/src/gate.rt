@@ -8,7 +8,7 @@ pub trait Gate {
 }
 
 /// A gate that holds nobody.
-#[derive(Clone, Copy)]
+#[derive(Clone, Copy, Debug)]
 pub struct NoGate;
 
 impl Gate for NoGate {

@@ -15,7 +15,7 @@ use std::alloc::Global;
 
 /// Runs one leaf: feeds its source's items through a stage into a container, until the source ends or enough is kept.
 ///
-/// It asks the board after each 1,024 source items, and after each block, whether the leaf was cut. No list stands between the source and the container.
+/// It asks the board after each 1,024 source items whether the leaf was cut. No list stands between the source and the container.
 /// A job calls it in its `run_leaf`.
 pub fn run_leaf<
     B: Handout,
