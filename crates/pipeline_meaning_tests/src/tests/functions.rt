@@ -22,7 +22,7 @@ fn joined<T: Value, O: Operator<T>>(operator: &O, a: &T, b: &T) -> Result<T, NoM
 }
 
 /// The function, a number, and what it becomes.
-const MAPPED: [(NumberFunction, i64, i64); 11] = [
+static MAPPED: [(NumberFunction, i64, i64); 11] = [
     (NumberFunction::Add(5), -7, -2),
     (NumberFunction::Add(1), i64::MAX, i64::MIN),
     (NumberFunction::Mul(-3), 5, -15),
@@ -39,7 +39,7 @@ const MAPPED: [(NumberFunction, i64, i64); 11] = [
 
 #[test]
 fn numbers_are_mapped(rt: HostRuntime) -> Result<(), Fail> {
-    for (function, x, wanted) in MAPPED {
+    for &(function, x, wanted) in &MAPPED {
         let found = image(&NumberMapping::of(function), &x)?;
         assert!(rt; found == wanted, "{x} becomes {found}");
     }
@@ -47,7 +47,7 @@ fn numbers_are_mapped(rt: HostRuntime) -> Result<(), Fail> {
 }
 
 /// The number, the divisor, and the least remainder that isn't negative. A divisor below 1 counts as 1.
-const DIVIDED: [(i64, i64, i64); 29] = [
+static DIVIDED: [(i64, i64, i64); 29] = [
     (0, 7, 0),
     (6, 7, 6),
     (7, 7, 0),
@@ -81,7 +81,7 @@ const DIVIDED: [(i64, i64, i64); 29] = [
 
 #[test]
 fn prepared_divisors_divide(rt: HostRuntime) -> Result<(), Fail> {
-    for (x, number, rest) in DIVIDED {
+    for &(x, number, rest) in &DIVIDED {
         let divisor = Divisor::new(number);
         let is_divided = divisor.remainder(x) == rest && divisor.divides(x) == (rest == 0);
         assert!(rt; is_divided, "{x} by {number}");
@@ -90,7 +90,7 @@ fn prepared_divisors_divide(rt: HostRuntime) -> Result<(), Fail> {
 }
 
 /// The test, a number, and whether it passes.
-const TESTED: [(NumberTest, i64, bool); 11] = [
+static TESTED: [(NumberTest, i64, bool); 11] = [
     (NumberTest::Less(5), 4, true),
     (NumberTest::Less(5), 5, false),
     (NumberTest::Greater(5), 6, true),
@@ -106,7 +106,7 @@ const TESTED: [(NumberTest, i64, bool); 11] = [
 
 #[test]
 fn tests_of_numbers(rt: HostRuntime) -> Result<(), Fail> {
-    for (test, x, wanted) in TESTED {
+    for &(test, x, wanted) in &TESTED {
         assert!(rt; NumberCheck::of(test).holds(&x) == wanted, "{x}");
     }
     Ok(())
@@ -123,7 +123,7 @@ fn check_texts(rt: &impl Abort, rows: &[TextRow<'_>]) -> Result<(), Fail> {
 }
 
 /// One letter has the two bytes c3 a9.
-const TESTED_TEXTS: [TextRow<'_>; 9] = [
+static TESTED_TEXTS: [TextRow<'_>; 9] = [
     (TextTest::Empty, "", true),
     (TextTest::Empty, " ", false),
     (TextTest::Starts(""), "", true),
@@ -159,7 +159,7 @@ fn an_item_becomes_itself(rt: HostRuntime) -> Result<(), Fail> {
     Ok(())
 }
 
-const JOINED: [(NumberMerge, i64, i64, i64); 5] = [
+static JOINED: [(NumberMerge, i64, i64, i64); 5] = [
     (NumberMerge::First, 3, 5, 3),
     (NumberMerge::Last, 3, 5, 5),
     (NumberMerge::Sum, i64::MAX, 1, i64::MIN),
@@ -169,18 +169,18 @@ const JOINED: [(NumberMerge, i64, i64, i64); 5] = [
 
 #[test]
 fn numbers_of_one_key_are_joined(rt: HostRuntime) -> Result<(), Fail> {
-    for (merge, a, b, wanted) in JOINED {
+    for &(merge, a, b, wanted) in &JOINED {
         let found = joined(&NumberMerging::of(merge), &a, &b)?;
         assert!(rt; found == wanted, "{a} and {b} become {found}");
     }
     Ok(())
 }
 
-const JOINED_TEXTS: [(TextMerge, &str); 2] = [(TextMerge::First, "a"), (TextMerge::Last, "b")];
+static JOINED_TEXTS: [(TextMerge, &str); 2] = [(TextMerge::First, "a"), (TextMerge::Last, "b")];
 
 #[test]
 fn texts_of_one_key_are_joined(rt: HostRuntime) -> Result<(), Fail> {
-    for (merge, wanted) in JOINED_TEXTS {
+    for &(merge, wanted) in &JOINED_TEXTS {
         assert!(rt; joined(&TextMerging::of(merge), &"a", &"b")? == wanted);
     }
     Ok(())

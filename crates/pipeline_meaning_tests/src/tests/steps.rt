@@ -68,7 +68,7 @@ const LARGE: NumberStage = NumberStage::Filter(NumberTest::Greater(3));
 const TWICE: NumberStage = NumberStage::Repeat(2);
 
 /// Each step follows the one before.
-const IN_ORDER: [NumberRow<'_>; 6] = [
+static IN_ORDER: [NumberRow<'_>; 6] = [
     (&[], &[4, LEAST], &[4, LEAST], 0),
     (&[THRICE], &[1, -2], &[3, -6], 1),
     (&[THRICE, EVEN], &[1, 2, 3, 4], &[6, 12], 2),
@@ -78,7 +78,7 @@ const IN_ORDER: [NumberRow<'_>; 6] = [
 ];
 
 /// Functions wrap at the outermost numbers.
-const WRAPPED: [NumberRow<'_>; 5] = [
+static WRAPPED: [NumberRow<'_>; 5] = [
     (&[SAME, SAME], &[-7, LEAST], &[-7, LEAST], 2),
     (&[THRICE], &[MOST, LEAST, -1], &[MOST - 2, LEAST, -3], 1),
     (&[MORE, THRICE], &[MOST, 0], &[LEAST, 3], 2),
@@ -87,7 +87,7 @@ const WRAPPED: [NumberRow<'_>; 5] = [
 ];
 
 /// Bounds drop numbers.
-const BOUNDED: [NumberRow<'_>; 8] = [
+static BOUNDED: [NumberRow<'_>; 8] = [
     (&[LARGE], &[3, 4, LEAST, MOST], &[4, MOST], 1),
     (&[SMALL], &[9, 10, LEAST, MOST], &[9, LEAST], 1),
     (&[SMALL, LARGE], &[3, 4, 9, 10], &[4, 9], 2),
@@ -119,7 +119,7 @@ const BOUNDED: [NumberRow<'_>; 8] = [
 ];
 
 /// Remainders are not negative.
-const REMAINDERS: [NumberRow<'_>; 5] = [
+static REMAINDERS: [NumberRow<'_>; 5] = [
     (&[REST], &[-1, -3, LEAST, 7], &[2, 0, 1, 1], 1),
     (&[NEGATED, REST], &[-1, 1], &[1, 2], 2),
     (&[REST, REST], &[-4, 5], &[2, 2], 2),
@@ -128,7 +128,7 @@ const REMAINDERS: [NumberRow<'_>; 5] = [
 ];
 
 /// A number is repeated.
-const REPEATED: [NumberRow<'_>; 5] = [
+static REPEATED: [NumberRow<'_>; 5] = [
     (&[TWICE], &[7, 8], &[7, 7, 8, 8], 1),
     (&[NumberStage::Repeat(0), NEGATED], &[7, 8], &[], 2),
     (&[NumberStage::Repeat(1)], &[7, 8], &[7, 8], 1),
@@ -151,7 +151,7 @@ fn numbers_walk_through_their_steps(rt: HostRuntime) -> Result<(), Fail> {
 }
 
 /// More copies than a sink is given at once.
-const OFTEN: [(&[NumberStage], usize); 5] = [
+static OFTEN: [(&[NumberStage], usize); 5] = [
     (&[NumberStage::Repeat(1_024)], 1_024),
     (&[NumberStage::Repeat(1_025)], 1_025),
     (&[NumberStage::Repeat(3_000)], 3_000),
@@ -161,7 +161,7 @@ const OFTEN: [(&[NumberStage], usize); 5] = [
 
 #[test]
 fn a_number_is_repeated_often(rt: HostRuntime) -> Result<(), Fail> {
-    for (stages, number) in OFTEN {
+    for &(stages, number) in &OFTEN {
         let (steps, _) = NumberSteps::front_of(rt.alloc(), stages)?;
         let found = made_at_once(rt.alloc(), &steps, &[7, 8])?;
         assert!(rt;
@@ -172,7 +172,7 @@ fn a_number_is_repeated_often(rt: HostRuntime) -> Result<(), Fail> {
     Ok(())
 }
 
-const BARRIERS: [NumberStage; 5] = [
+static BARRIERS: [NumberStage; 5] = [
     NumberStage::Distinct,
     NumberStage::Limit(1),
     NumberStage::Skip(1),
@@ -182,7 +182,7 @@ const BARRIERS: [NumberStage; 5] = [
 
 #[test]
 fn a_front_of_numbers_ends_at_a_barrier(rt: HostRuntime) -> Result<(), Fail> {
-    for barrier in BARRIERS {
+    for &barrier in &BARRIERS {
         let rows: [NumberRow<'_>; 2] = [
             (&[MORE, barrier, MORE], &[4, 4, 5], &[5, 5, 6], 1),
             (&[barrier, MORE], &[4, 4, 5], &[4, 4, 5], 0),
@@ -197,7 +197,7 @@ const KEPT: (Operation, Option<u64>) = (Operation::Map, Some(5));
 const LOST: (Operation, Option<u64>) = (Operation::FlatMap, None);
 
 /// Maps alone keep the number of items, and stand in the flags' table as a map.
-const NUMBER_SIZES: [(&[NumberStage], (Operation, Option<u64>)); 5] = [
+static NUMBER_SIZES: [(&[NumberStage], (Operation, Option<u64>)); 5] = [
     (&[], KEPT),
     (&[MORE, MORE], KEPT),
     (&[MORE, NumberStage::Limit(3)], KEPT),
@@ -206,18 +206,18 @@ const NUMBER_SIZES: [(&[NumberStage], (Operation, Option<u64>)); 5] = [
 ];
 
 /// The texts themselves keep the size.
-const TEXT_SIZES: [(TextStage<'_>, (Operation, Option<u64>)); 2] = [
+static TEXT_SIZES: [(TextStage<'_>, (Operation, Option<u64>)); 2] = [
     (TextStage::MapItself, KEPT),
     (TextStage::Words, LOST),
 ];
 
 #[test]
 fn maps_alone_keep_the_size(rt: HostRuntime) -> Result<(), Fail> {
-    for (stages, wanted) in NUMBER_SIZES {
+    for &(stages, wanted) in &NUMBER_SIZES {
         let (steps, _) = NumberSteps::front_of(rt.alloc(), stages)?;
         assert!(rt; (steps.operation(), steps.size_after(Some(5))) == wanted);
     }
-    for (stage, wanted) in TEXT_SIZES {
+    for &(stage, wanted) in &TEXT_SIZES {
         let (steps, _) = TextSteps::front_of(rt.alloc(), &[stage])?;
         assert!(rt; (steps.operation(), steps.size_after(Some(5))) == wanted);
     }
@@ -249,7 +249,7 @@ fn check_texts(rt: &(impl Abort + Alloc<A = Global>), rows: &[TextRow<'_>]) -> R
     Ok(())
 }
 
-const TEXT_BARRIERS: [TextStage<'_>; 5] = [
+static TEXT_BARRIERS: [TextStage<'_>; 5] = [
     TextStage::Distinct,
     TextStage::Limit(1),
     TextStage::Skip(1),
@@ -259,7 +259,7 @@ const TEXT_BARRIERS: [TextStage<'_>; 5] = [
 
 #[test]
 fn a_front_of_texts_ends_at_a_barrier(rt: HostRuntime) -> Result<(), Fail> {
-    for barrier in TEXT_BARRIERS {
+    for &barrier in &TEXT_BARRIERS {
         let stages = [TextStage::Words, barrier, TextStage::Words];
         check_texts(&rt, &[(&stages, &["a b"], &["a", "b"], 1)])?;
     }
@@ -269,7 +269,7 @@ fn a_front_of_texts_ends_at_a_barrier(rt: HostRuntime) -> Result<(), Fail> {
 const LONG: TextStage<'_> = TextStage::Filter(TextTest::Longer(1));
 
 /// A text is cut at its spaces.
-const CUT: [TextRow<'_>; 5] = [
+static CUT: [TextRow<'_>; 5] = [
     (&[TextStage::Words], &[""], &[""], 1),
     (&[TextStage::Words], &[" "], &["", ""], 1),
     (&[TextStage::Words], &["a b"], &["a", "b"], 1),
@@ -283,7 +283,7 @@ const CUT: [TextRow<'_>; 5] = [
 ];
 
 /// A text walks through its steps.
-const WALKED: [TextRow<'_>; 6] = [
+static WALKED: [TextRow<'_>; 6] = [
     (&[], &["a", ""], &["a", ""], 0),
     (
         &[TextStage::MapItself, LONG],

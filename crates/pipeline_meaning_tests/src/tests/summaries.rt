@@ -32,7 +32,7 @@ where
 }
 
 /// The summary, the items, and the text of what is made of these.
-const OF_NUMBERS: [(NumberBase, &[i64], &str); 8] = [
+static OF_NUMBERS: [(NumberBase, &[i64], &str); 8] = [
     (NumberBase::Count, &[2, 5, 3], "3"),
     (NumberBase::Sum, &[2, 5, 3], "10"),
     (NumberBase::Max, &[2, 5, 3], "Optional[5]"),
@@ -46,7 +46,7 @@ const OF_NUMBERS: [(NumberBase, &[i64], &str); 8] = [
 #[test]
 fn summaries_of_numbers(rt: HostRuntime) -> Result<(), Fail> {
     let hashes = SeededHashes::of(Seed::draw(&rt));
-    for (base, items, wanted) in OF_NUMBERS {
+    for &(base, items, wanted) in &OF_NUMBERS {
         let summary = number_summary(rt.alloc(), hashes, NumberSummary::Base(base));
         check(&rt, &summary, items, wanted)?;
     }
@@ -56,7 +56,7 @@ fn summaries_of_numbers(rt: HostRuntime) -> Result<(), Fail> {
 const COUNT: NumberInner = NumberInner::Base(NumberBase::Count);
 
 /// What is made of the numbers of each parity, the items, and the text of the groups.
-const OF_GROUPS: [(NumberSummary, &[i64], &str); 3] = [
+static OF_GROUPS: [(NumberSummary, &[i64], &str); 3] = [
     (
         NumberSummary::GroupBy(NumberFunction::Mod(3), COUNT),
         &[1, 2, 3, 4, 5, 6],
@@ -77,7 +77,7 @@ const OF_GROUPS: [(NumberSummary, &[i64], &str); 3] = [
 #[test]
 fn nested_groups(rt: HostRuntime) -> Result<(), Fail> {
     let hashes = SeededHashes::of(Seed::draw(&rt));
-    for (summary, items, wanted) in OF_GROUPS {
+    for &(summary, items, wanted) in &OF_GROUPS {
         let key = NumberMapping::of(NumberFunction::Mod(2));
         let inner = number_summary(rt.alloc(), hashes, summary);
         let groups = GroupingBy::with_hasher(rt.alloc(), key, inner, hashes);
@@ -119,7 +119,7 @@ fn a_map(rt: HostRuntime) -> Result<(), Fail> {
 /// The summary, the items, and the text of what is made of these.
 type TextRow<'a> = (TextSummary<'a>, &'a [&'a str], &'a str);
 
-const OF_TEXTS: [TextRow<'_>; 4] = [
+static OF_TEXTS: [TextRow<'_>; 4] = [
     (
         TextSummary::Base(TextBase::Joining("+")),
         &["a", "", "bb"],
@@ -145,7 +145,7 @@ const OF_TEXTS: [TextRow<'_>; 4] = [
 #[test]
 fn summaries_of_texts(rt: HostRuntime) -> Result<(), Fail> {
     let hashes = SeededHashes::of(Seed::draw(&rt));
-    for (summary, items, wanted) in OF_TEXTS {
+    for &(summary, items, wanted) in &OF_TEXTS {
         let collector = text_summary(rt.alloc(), hashes, summary);
         check(&rt, &collector, items, wanted)?;
     }
