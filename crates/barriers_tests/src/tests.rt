@@ -67,43 +67,61 @@ fn check<B: Barrier<i64>>(
     Ok(())
 }
 
+/// How many items are kept at most, items, and those that are kept.
+static LIMITS: [(u64, &[i64], &[i64]); 4] = [
+    (3, &[5, 2, 7, 4, 5], &[5, 2, 7]),
+    (5, &[5, 2, 7, 4, 5], &[5, 2, 7, 4, 5]),
+    (9_223_372_036_854_775_807, &[5, 2], &[5, 2]),
+    (0, &[0, 1, 2, 3, 4, 5, 6, 7, 8, 9], &[]),
+];
+
+/// How many items are dropped, and those of the numbers 1 to 3 that are kept.
+static SKIPS: [(u64, &[i64]); 4] = [
+    (0, &[1, 2, 3]),
+    (2, &[3]),
+    (10, &[]),
+    (9_223_372_036_854_775_807, &[]),
+];
+
 #[test]
-fn a_limit_keeps_the_first_items(rt: HostRuntime) -> Result<(), Fail> {
-    check(&rt, &Limit::new(3), &[5, 2, 7, 4, 5], &[5, 2, 7])?;
-    check(&rt, &Limit::new(5), &[5, 2, 7, 4, 5], &[5, 2, 7, 4, 5])?;
-    check(&rt, &Limit::new(i64::MAX as u64), &[5, 2], &[5, 2])?;
-    check(&rt, &Limit::new(0), &[0, 1, 2, 3, 4, 5, 6, 7, 8, 9], &[])?;
+fn a_limit_keeps_the_first_items_and_a_skip_drops_them(rt: HostRuntime) -> Result<(), Fail> {
+    for &(most, items, kept) in &LIMITS {
+        assert!(rt; most <= 9_223_372_036_854_775_807);
+        check(&rt, &Limit::new(most), items, kept)?;
+    }
+    for &(number, kept) in &SKIPS {
+        assert!(rt; number <= 9_223_372_036_854_775_807);
+        check(&rt, &Skip::new(number), &[1, 2, 3], kept)?;
+    }
     Ok(())
 }
 
-#[test]
-fn a_skip_drops_the_first_items(rt: HostRuntime) -> Result<(), Fail> {
-    check(&rt, &Skip::new(0), &[1, 2, 3], &[1, 2, 3])?;
-    check(&rt, &Skip::new(2), &[1, 2, 3], &[3])?;
-    check(&rt, &Skip::new(10), &[1, 2, 3], &[])?;
-    check(&rt, &Skip::new(i64::MAX as u64), &[1, 2, 3], &[])?;
-    Ok(())
-}
+/// Items, and those of them that differ.
+static APART: [(&[i64], &[i64]); 2] = [(&[3, 1, 3, 2, 1], &[3, 1, 2]), (&[], &[])];
 
 #[test]
 fn equal_items_stand_once(rt: HostRuntime) -> Result<(), Fail> {
-    check(&rt, &Distinct, &[3, 1, 3, 2, 1], &[3, 1, 2])?;
-    check(&rt, &Distinct, &[], &[])?;
+    for &(items, kept) in &APART {
+        check(&rt, &Distinct, items, kept)?;
+    }
     let texts = value_of(rt.alloc(), &Distinct, &["b", "a", "b", "", "a", ""])?;
     assert!(rt; texts.as_slice() == ["b", "a", ""].as_slice());
     Ok(())
 }
 
+/// Items, those before the first that is not below 3, and the rest.
+static FRONTS: [(&[i64], &[i64], &[i64]); 3] = [
+    (&[1, 2, 5, 1], &[1, 2], &[5, 1]),
+    (&[1, 2, 1], &[1, 2, 1], &[]),
+    (&[4, 1], &[], &[4, 1]),
+];
+
 #[test]
 fn a_front_ends_at_the_first_item_that_fails(rt: HostRuntime) -> Result<(), Fail> {
-    let below_three = TakeWhile::new(Below { limit: 3 });
-    check(&rt, &below_three, &[1, 2, 5, 1], &[1, 2])?;
-    check(&rt, &below_three, &[1, 2, 1], &[1, 2, 1])?;
-    check(&rt, &below_three, &[4, 1], &[])?;
-    let from_three = DropWhile::new(Below { limit: 3 });
-    check(&rt, &from_three, &[1, 2, 5, 1], &[5, 1])?;
-    check(&rt, &from_three, &[1, 2, 1], &[])?;
-    check(&rt, &from_three, &[4, 1], &[4, 1])?;
+    for &(items, front, rest) in &FRONTS {
+        check(&rt, &TakeWhile::new(Below { limit: 3 }), items, front)?;
+        check(&rt, &DropWhile::new(Below { limit: 3 }), items, rest)?;
+    }
     Ok(())
 }
 
@@ -132,23 +150,32 @@ fn barriers_and_stages_follow_one_another(rt: HostRuntime) -> Result<(), Fail> {
     for item in one {
         Map::new(Next).push(item, &mut items)?;
     }
-    assert_eq!(rt; items.as_slice(), [9].as_slice());
+    assert!(rt; items.as_slice() == [9].as_slice());
     Ok(())
 }
 
 #[test]
 fn barriers_tell_their_rows_and_sizes(rt: HostRuntime) {
-    assert!(rt; row_of(&Limit::new(3)) == (Operation::Limit, Some(3), None));
-    assert!(rt; row_of(&Limit::new(5)) == (Operation::Limit, Some(5), None));
-    assert!(rt; row_of(&Limit::new(9)) == (Operation::Limit, Some(5), None));
-    assert!(rt; row_of(&Limit::new(0)) == (Operation::Limit, Some(0), None));
-    assert!(rt; row_of(&Skip::new(3)) == (Operation::Skip, Some(2), None));
-    assert!(rt; row_of(&Skip::new(9)) == (Operation::Skip, Some(0), None));
-    assert!(rt; row_of(&Distinct) == (Operation::Distinct, None, None));
-    let take_while = TakeWhile::new(Below { limit: 3 });
-    assert!(rt; row_of(&take_while) == (Operation::TakeWhile, None, None));
-    let drop_while = DropWhile::new(Below { limit: 3 });
-    assert!(rt; row_of(&drop_while) == (Operation::DropWhile, None, None));
+    let rows = [
+        (row_of(&Limit::new(3)), (Operation::Limit, Some(3), None)),
+        (row_of(&Limit::new(5)), (Operation::Limit, Some(5), None)),
+        (row_of(&Limit::new(9)), (Operation::Limit, Some(5), None)),
+        (row_of(&Limit::new(0)), (Operation::Limit, Some(0), None)),
+        (row_of(&Skip::new(3)), (Operation::Skip, Some(2), None)),
+        (row_of(&Skip::new(9)), (Operation::Skip, Some(0), None)),
+        (row_of(&Distinct), (Operation::Distinct, None, None)),
+        (
+            row_of(&TakeWhile::new(Below { limit: 3 })),
+            (Operation::TakeWhile, None, None),
+        ),
+        (
+            row_of(&DropWhile::new(Below { limit: 3 })),
+            (Operation::DropWhile, None, None),
+        ),
+    ];
+    for (found, wanted) in rows {
+        assert!(rt; found == wanted, "{wanted:?}");
+    }
 }
 
 #[test]
@@ -156,31 +183,45 @@ fn demands_say_how_much_is_enough(rt: HostRuntime) {
     let none = [false; 3];
     let all = [true; 3];
     let below_three = Below { limit: 3 };
-    assert!(rt; demand_of(&Whole) == (Need::Never, none));
-    assert!(rt; demand_of(&Total::new(4)) == (Need::Reach(4), all));
-    assert!(rt; demand_of(&Limit::new(4)) == (Need::Reach(4), all));
-    assert!(rt; demand_of(&FirstHit::new(&below_three)) == (Need::Reach(1), [true, false, false]));
-    assert!(rt; demand_of(&TakeWhile::new(&below_three)) == (Need::Reach(1), [false, true, true]));
-    assert!(rt; demand_of(&DropWhile::new(&below_three)) == (Need::Never, none));
-    assert!(rt; demand_of(&Skip::new(4)) == (Need::Never, none));
-    assert!(rt; demand_of(&Distinct) == (Need::Never, none));
+    let rows = [
+        (demand_of(&Whole), (Need::Never, none)),
+        (demand_of(&Total::new(4)), (Need::Reach(4), all)),
+        (demand_of(&Limit::new(4)), (Need::Reach(4), all)),
+        (
+            demand_of(&FirstHit::new(&below_three)),
+            (Need::Reach(1), [true, false, false]),
+        ),
+        (
+            demand_of(&TakeWhile::new(&below_three)),
+            (Need::Reach(1), [false, true, true]),
+        ),
+        (
+            demand_of(&DropWhile::new(&below_three)),
+            (Need::Never, none),
+        ),
+        (demand_of(&Skip::new(4)), (Need::Never, none)),
+        (demand_of(&Distinct), (Need::Never, none)),
+    ];
+    for (found, wanted) in rows {
+        assert!(rt; found == wanted, "{:?}", wanted.1);
+    }
 }
 
 #[test]
 fn a_front_ends_where_enough_items_count(rt: HostRuntime) {
     let hit = FirstHit::new(Below { limit: 3 });
     let items = [5, 1, 2, 7, 0, 9];
-    let rows: [(u64, (usize, u64)); 5] = [
-        (0, (0, 0)),
-        (1, (2, 1)),
-        (2, (3, 2)),
-        (3, (5, 3)),
-        (4, (6, 3)),
+    let rows: [((usize, u64), (usize, u64)); 8] = [
+        (hit.front(&items, 0), (0, 0)),
+        (hit.front(&items, 1), (2, 1)),
+        (hit.front(&items, 2), (3, 2)),
+        (hit.front(&items, 3), (5, 3)),
+        (hit.front(&items, 4), (6, 3)),
+        (hit.front(&[5, 7], 1), (2, 0)),
+        (Total::new(9).front(&items, 2), (2, 2)),
+        (Whole.front(&items, 1), (6, 0)),
     ];
-    for (wanted, front) in rows {
-        assert!(rt; hit.front(&items, wanted) == front);
+    for (found, wanted) in rows {
+        assert!(rt; found == wanted, "{wanted:?}");
     }
-    assert!(rt; hit.front(&[5, 7], 1) == (2, 0));
-    assert!(rt; Total::new(9).front(&items, 2) == (2, 2));
-    assert!(rt; Whole.front(&items, 1) == (6, 0));
 }

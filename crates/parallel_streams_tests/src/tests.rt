@@ -26,7 +26,7 @@ use stealing_pool::NoGate;
 
 /// The workers and the target of each row: at target 1 there is a leaf an item, and 0 is the default. Requests for memory are refused in turn by
 /// checks/refused_tests.py, which stops at a test's first 1,000: mostly those of the first setting.
-const SETTINGS: [(u32, u64); 8] = [
+static SETTINGS: [(u32, u64); 8] = [
     (1, 1),
     (7, 1),
     (2, 1),

@@ -48,7 +48,7 @@ fn plan(alloc: Global, end: i64, target: u64) -> Result<Plan<RangeSplit>, Fail> 
 }
 
 /// Targets, and the leaves of the integers up to 10.
-const LEAVES: [(u64, &str); 4] = [
+static LEAVES: [(u64, &str); 4] = [
     (3, "[[0, 1], [2, 3, 4], [5, 6], [7, 8, 9]]"),
     (0, "[[0, 1], [2], [3, 4], [5, 6], [7], [8, 9]]"),
     (10, "[[0, 1, 2, 3, 4, 5, 6, 7, 8, 9]]"),
@@ -60,7 +60,7 @@ const LEAVES: [(u64, &str); 4] = [
 
 #[test]
 fn a_source_is_split_to_the_target(rt: HostRuntime) -> Result<(), Fail> {
-    for (target, wanted) in LEAVES {
+    for &(target, wanted) in &LEAVES {
         let plan = plan(rt.alloc(), 10, target)?;
         assert!(rt;
             has_leaves(rt.alloc(), &plan, wanted)?,
@@ -92,17 +92,38 @@ fn the_default_target_is_four_leaves_a_worker(rt: HostRuntime) -> Result<(), Fai
     check_default(&rt, rt.alloc(), 1024, 64, 256)
 }
 
+/// The end of the integers, a target, the leaves, and the tree. No integers are one leaf.
+static TREES: [(i64, u64, &str, &str); 2] = [
+    (
+        5,
+        1,
+        "[[0], [1], [2], [3], [4]]",
+        "Node(Node(Leaf(0), Leaf(1)), Node(Leaf(2), Node(Leaf(3), Leaf(4))))",
+    ),
+    (0, 0, "[[]]", "Leaf(0)"),
+];
+
+/// Whether a tree is a node whose sides have these first and last leaves.
+fn is_node_of(tree: &Tree, left: (usize, usize), right: (usize, usize)) -> bool {
+    match tree {
+        Tree::Node(a, b) => {
+            (a.first_leaf(), a.last_leaf()) == left && (b.first_leaf(), b.last_leaf()) == right
+        }
+        Tree::Leaf(_) => false,
+    }
+}
+
 #[test]
 fn the_tree_is_that_of_the_splits(rt: HostRuntime) -> Result<(), Fail> {
-    let plan = plan(rt.alloc(), 5, 1)?;
-    let tree = "Node(Node(Leaf(0), Leaf(1)), Node(Leaf(2), Node(Leaf(3), Leaf(4))))";
-    assert!(rt; has_leaves(rt.alloc(), &plan, "[[0], [1], [2], [3], [4]]")?);
-    assert!(rt; has_text(rt.alloc(), plan.tree(), tree)?);
-    let Tree::Node(left, right) = plan.tree() else {
-        return Err(Fail::from("a node was split"));
-    };
-    assert!(rt; (left.first_leaf(), left.last_leaf()) == (0, 1));
-    assert!(rt; (right.first_leaf(), right.last_leaf()) == (2, 4));
+    for &(end, target, leaves, tree) in &TREES {
+        let plan = plan(rt.alloc(), end, target)?;
+        let has_tree = has_text(rt.alloc(), plan.tree(), tree)?;
+        let is_told = end == 0 || is_node_of(plan.tree(), (0, 1), (2, 4));
+        assert!(rt;
+            has_tree && is_told && has_leaves(rt.alloc(), &plan, leaves)?,
+            "{end} integers"
+        );
+    }
     Ok(())
 }
 
@@ -123,15 +144,8 @@ fn a_concatenation_is_split_between_its_sides(rt: HostRuntime) -> Result<(), Fai
     Ok(())
 }
 
-#[test]
-fn a_source_without_items_is_one_leaf(rt: HostRuntime) -> Result<(), Fail> {
-    let plan = plan(rt.alloc(), 0, 0)?;
-    assert!(rt; has_leaves(rt.alloc(), &plan, "[[]]")? && matches!(plan.tree(), Tree::Leaf(0)));
-    Ok(())
-}
-
 /// The end of the integers, a target, the number of leaves, and how many integers the first leaf has.
-const COUNTS: [(i64, u64, usize, usize); 4] = [
+static COUNTS: [(i64, u64, usize, usize); 4] = [
     (1_000_000, 1, 65_536, 15),
     (1_000_000, 100, 16_384, 61),
     (1_000_000, 1000, 1_024, 976),
@@ -141,7 +155,7 @@ const COUNTS: [(i64, u64, usize, usize); 4] = [
 #[test]
 fn the_depth_is_limited(rt: HostRuntime) -> Result<(), Fail> {
     assert!(rt; 1_usize << DEPTH_LIMIT == 65_536);
-    for (end, target, leaves, size) in COUNTS {
+    for &(end, target, leaves, size) in &COUNTS {
         let plan = plan(rt.alloc(), end, target)?;
         let first = read(rt.alloc(), plan.leaf(0))?;
         assert!(rt;
@@ -157,8 +171,8 @@ fn a_great_target_is_refused(rt: HostRuntime) -> Result<(), Fail> {
     let split = RangeSplit::range(0, 10)?;
     let refused = Plan::make(rt.alloc(), split, 1, 4_611_686_018_427_387_905);
     let texts = format!(in rt.alloc(); "{}; {}", PlanError::BadTarget, PlanError::NoMemory)?;
-    assert!(rt; matches!(refused, Err(PlanError::BadTarget)));
-    assert!(rt; MAX_TARGET == 4_611_686_018_427_387_904);
+    let is_refused = matches!(refused, Err(PlanError::BadTarget));
+    assert!(rt; is_refused && MAX_TARGET == 4_611_686_018_427_387_904);
     assert!(rt; texts.as_str() == "the target is above 2^62; out of memory");
     Ok(())
 }

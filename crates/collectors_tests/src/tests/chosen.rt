@@ -19,18 +19,18 @@ fn choose(alloc: Global, number: u8) -> Chosen {
 }
 
 /// The number of a collector, and lists with the texts of their results.
-const CHOSEN: [(u8, &[(&[i64], &str)]); 3] = [
+static CHOSEN: [(u8, &[(&[i64], &str)]); 3] = [
     (0, &[(&[5, 2, 7], "3")]),
     (1, &[(&[5, 2, 7], "14")]),
     (2, &[(&[5, 2, 7], "[5, 2, 7]"), (&[], "[]")]),
 ];
 
-const GROUPED: [(&[i64], &str); 1] = [(&[5, 2, 7, 4, 5], "{1=17, 0=6}")];
+static GROUPED: [(&[i64], &str); 1] = [(&[5, 2, 7, 4, 5], "{1=17, 0=6}")];
 
 #[test]
 fn collects_on_the_chosen_side(rt: HostRuntime) -> Result<(), Fail> {
     let alloc = rt.alloc();
-    for (number, rows) in CHOSEN {
+    for &(number, rows) in &CHOSEN {
         check(&rt, alloc, choose(alloc, number), rows)?;
     }
     let groups = GroupingBy::new(alloc, Modulo::new(2), choose(alloc, 1));

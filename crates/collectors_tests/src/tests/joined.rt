@@ -11,7 +11,7 @@ use std::process::Abort;
 use std::test::Fail;
 
 /// What stands between, before and after the texts, and rows. An empty text is an item like any other.
-const JOINED: [(&str, &str, &str, &[(&[&str], &str)]); 3] = [
+static JOINED: [(&str, &str, &str, &[(&[&str], &str)]); 3] = [
     (",", "<", ">", &[(&["", "", ""], "<,,>"), (&[], "<>")]),
     (",", "", "", &[(&["", "a", ""], ",a,")]),
     ("-", "<", ">", &[(&["a", "b", "c"], "<a-b-c>")]),
@@ -20,16 +20,16 @@ const JOINED: [(&str, &str, &str, &[(&[&str], &str)]); 3] = [
 #[test]
 fn joins_empty_texts_as_items(rt: HostRuntime) -> Result<(), Fail> {
     let alloc = rt.alloc();
-    for (between, before, after, rows) in JOINED {
+    for &(between, before, after, rows) in &JOINED {
         let joining = Joining::<&str>::new(alloc, between, before, after);
         check(&rt, alloc, joining, rows)?;
     }
     Ok(())
 }
 
-const BY_LENGTH: [(&[&str], &str); 1] = [(&["bb", "a", "cc"], "{2=bb+cc, 1=a}")];
+static BY_LENGTH: [(&[&str], &str); 1] = [(&["bb", "a", "cc"], "{2=bb+cc, 1=a}")];
 
-const COUNTS: [(&[&str], &str); 1] = [(&["b", "", "b", "a"], "{b=2, =1, a=1}")];
+static COUNTS: [(&[&str], &str); 1] = [(&["b", "", "b", "a"], "{b=2, =1, a=1}")];
 
 #[test]
 fn groups_of_texts(rt: HostRuntime) -> Result<(), Fail> {
@@ -45,9 +45,9 @@ fn groups_of_texts(rt: HostRuntime) -> Result<(), Fail> {
     check(&rt, alloc, counts, &COUNTS)
 }
 
-const LAST_BY_LENGTH: [(&[&str], &str); 1] = [(&["bb", "a", "cc"], "{2=cc, 1=a}")];
+static LAST_BY_LENGTH: [(&[&str], &str); 1] = [(&["bb", "a", "cc"], "{2=cc, 1=a}")];
 
-const LENGTHS_BY_TEXT: [(&[&str], &str); 1] = [(&["bb", "a"], "{bb=2, a=1}")];
+static LENGTHS_BY_TEXT: [(&[&str], &str); 1] = [(&["bb", "a"], "{bb=2, a=1}")];
 
 #[test]
 fn maps_of_texts(rt: HostRuntime) -> Result<(), Fail> {
@@ -58,13 +58,13 @@ fn maps_of_texts(rt: HostRuntime) -> Result<(), Fail> {
     check(&rt, alloc, lengths, &LENGTHS_BY_TEXT)
 }
 
-const LISTS: [(&[&str], &str); 1] = [(&["b", "a"], "[b, a]")];
+static LISTS: [(&[&str], &str); 1] = [(&["b", "a"], "[b, a]")];
 
-const FIRSTS: [(&[&str], &str); 1] = [(&["b", "a"], "Optional[b]")];
+static FIRSTS: [(&[&str], &str); 1] = [(&["b", "a"], "Optional[b]")];
 
-const SUMS: [(&[&str], &str); 1] = [(&["bb", "", "a"], "3")];
+static SUMS: [(&[&str], &str); 1] = [(&["bb", "", "a"], "3")];
 
-const LENGTHS: [(&[&str], &str); 1] = [(&["bb", "", "a"], "[2, 0, 1]")];
+static LENGTHS: [(&[&str], &str); 1] = [(&["bb", "", "a"], "[2, 0, 1]")];
 
 #[test]
 fn lists_and_sums_texts(rt: HostRuntime) -> Result<(), Fail> {

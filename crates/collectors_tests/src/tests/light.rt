@@ -21,14 +21,14 @@ fn is_light<C: Collector<Item = i64>>(collector: &C, count: i64) -> Result<bool,
 }
 
 /// How many numbers a container has, and whether it is light: a number always is.
-const ALWAYS: [(i64, bool); 1] = [(100, true)];
+static ALWAYS: [(i64, bool); 1] = [(100, true)];
 
 /// Containers of up to 64 numbers alone are light.
 const UP_TO_64: [(i64, bool); 3] = [(0, true), (64, true), (65, false)];
 
 /// By which number the keys are remainders, and containers of so many numbers: each has a key of its own, or there are few keys, however many
 /// items.
-const BY_KEYS: [(i64, &[(i64, bool)]); 2] = [(1_000_000, &UP_TO_64), (64, &[(1000, true)])];
+static BY_KEYS: [(i64, &[(i64, bool)]); 2] = [(1_000_000, &UP_TO_64), (64, &[(1000, true)])];
 
 /// Checks whether the containers of the first numbers, so many, are light.
 fn check<C: Collector<Item = i64> + Drop>(
@@ -61,7 +61,7 @@ fn numbers_are_light_and_lists_and_maps_up_to_64_entries(rt: HostRuntime) -> Res
 #[test]
 fn groups_are_light_up_to_64_and_where_all_inner_ones_are(rt: HostRuntime) -> Result<(), Fail> {
     let alloc = rt.alloc();
-    for (number, rows) in BY_KEYS {
+    for &(number, rows) in &BY_KEYS {
         assert!(rt; number > 0);
         let counts = GroupingBy::new(alloc, Modulo::new(number), Counting::<i64>::new());
         check(&rt, counts, rows)?;

@@ -14,9 +14,9 @@ use collectors::{
 use spliterator::NoMemory;
 use std::test::Fail;
 
-const SUM_AND_COUNT: [(&[i64], &str); 1] = [(&[1, 2, 3, 4], "(10, 4)")];
+static SUM_AND_COUNT: [(&[i64], &str); 1] = [(&[1, 2, 3, 4], "(10, 4)")];
 
-const GROUPED_TOTALS: [(&[i64], &str); 1] = [(&[5, 2, 7, 4, 5], "{1=(3, 17), 0=(2, 6)}")];
+static GROUPED_TOTALS: [(&[i64], &str); 1] = [(&[5, 2, 7, 4, 5], "{1=(3, 17), 0=(2, 6)}")];
 
 #[test]
 fn teeing_feeds_both(rt: HostRuntime) -> Result<(), Fail> {
@@ -28,7 +28,7 @@ fn teeing_feeds_both(rt: HostRuntime) -> Result<(), Fail> {
     check(&rt, alloc, groups, &GROUPED_TOTALS)
 }
 
-const PARTS_OF_GROUPS: [(&[i64], &str); 1] = [(
+static PARTS_OF_GROUPS: [(&[i64], &str); 1] = [(
     &[5, 2, 7, 4, 5],
     "{false={0=[2]}, true={1=[5, 7, 5], 0=[4]}}",
 )];
@@ -41,7 +41,7 @@ fn parts_of_groups(rt: HostRuntime) -> Result<(), Fail> {
     check(&rt, alloc, parts, &PARTS_OF_GROUPS)
 }
 
-const GROUPS_OF_PARTS: [(&[i64], &str); 1] = [(
+static GROUPS_OF_PARTS: [(&[i64], &str); 1] = [(
     &[5, 2, 1, 7],
     "{1={false=[10], true=[50, 70]}, 0={false=[20], true=[]}}",
 )];
@@ -55,9 +55,9 @@ fn groups_of_parts(rt: HostRuntime) -> Result<(), Fail> {
     check(&rt, alloc, groups, &GROUPS_OF_PARTS)
 }
 
-const TEXTS: [(&[&str], &str); 1] = [(&["bb", "a", "cc", "bb"], "{2={bb=bb+bb, cc=cc}, 1={a=a}}")];
+static TEXTS: [(&[&str], &str); 1] = [(&["bb", "a", "cc", "bb"], "{2={bb=bb+bb, cc=cc}, 1={a=a}}")];
 
-const NUMBERS: [(&[i64], &str); 1] = [(&[1, 101, 2, 200], "{1={1=[], 5=[101]}, 0={2=[200]}}")];
+static NUMBERS: [(&[i64], &str); 1] = [(&[1, 101, 2, 200], "{1={1=[], 5=[101]}, 0={2=[200]}}")];
 
 #[test]
 fn groups_of_groups(rt: HostRuntime) -> Result<(), Fail> {
@@ -96,7 +96,7 @@ fn plus(a: i64, b: i64) -> i64
     a.wrapping_add(b)
 }
 
-const CLOSURES: [(&[i64], &str); 1] = [(&[5, -2, 9], "(3, 12)")];
+static CLOSURES: [(&[i64], &str); 1] = [(&[5, -2, 9], "(3, 12)")];
 
 #[test]
 fn by_closures(rt: HostRuntime) -> Result<(), Fail> {

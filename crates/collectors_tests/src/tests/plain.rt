@@ -9,10 +9,10 @@ use stages::{FirstOf, LastOf, Max, Min, WrapAdd, WrapMul};
 use std::hash::RandomState;
 use std::test::Fail;
 
-const COUNTS: [(&[i64], &str); 2] = [(&[], "0"), (&[7, 7, 7], "3")];
+static COUNTS: [(&[i64], &str); 2] = [(&[], "0"), (&[7, 7, 7], "3")];
 
 /// Sums wrap, as a `long` does.
-const SUMS: [(&[i64], &str); 2] = [
+static SUMS: [(&[i64], &str); 2] = [
     (&[1, 2, 3, 4, 5], "15"),
     (&[9223372036854775806, 9223372036854775807], "-3"),
 ];
@@ -24,11 +24,11 @@ fn counts_and_sums(rt: HostRuntime) -> Result<(), Fail> {
     check(&rt, alloc, SummingLong::new(Itself), &SUMS)
 }
 
-const LISTS: [(&[i64], &str); 1] = [(&[3, 1, 2], "[3, 1, 2]")];
+static LISTS: [(&[i64], &str); 1] = [(&[3, 1, 2], "[3, 1, 2]")];
 
-const NONE: [(&[i64], &str); 1] = [(&[], "Optional.empty")];
+static NONE: [(&[i64], &str); 1] = [(&[], "Optional.empty")];
 
-const FIRST_TENS: [(&[i64], &str); 1] = [(&[4, 5], "Optional[40]")];
+static FIRST_TENS: [(&[i64], &str); 1] = [(&[4, 5], "Optional[40]")];
 
 #[test]
 fn lists_and_first_items(rt: HostRuntime) -> Result<(), Fail> {
@@ -39,12 +39,12 @@ fn lists_and_first_items(rt: HostRuntime) -> Result<(), Fail> {
     check(&rt, alloc, tens, &FIRST_TENS)
 }
 
-const LEAST: [(&[i64], &str); 1] = [(&[2, 5, 3], "Optional[2]")];
+static LEAST: [(&[i64], &str); 1] = [(&[2, 5, 3], "Optional[2]")];
 
-const GREATEST: [(&[i64], &str); 2] = [(&[], "Optional.empty"), (&[2, 5, 3], "Optional[5]")];
+static GREATEST: [(&[i64], &str); 2] = [(&[], "Optional.empty"), (&[2, 5, 3], "Optional[5]")];
 
 /// A part without items adds nothing.
-const LAST_BELOW_TEN: [(&[i64], &str); 1] = [(&[4, 9, 50, 60], "Optional[9]")];
+static LAST_BELOW_TEN: [(&[i64], &str); 1] = [(&[4, 9, 50, 60], "Optional[9]")];
 
 #[test]
 fn least_greatest_and_last(rt: HostRuntime) -> Result<(), Fail> {
@@ -62,9 +62,9 @@ fn least_greatest_and_last(rt: HostRuntime) -> Result<(), Fail> {
     )
 }
 
-const PRODUCTS: [(&[i64], &str); 2] = [(&[], "Optional.empty"), (&[2, 5, 3], "Optional[30]")];
+static PRODUCTS: [(&[i64], &str); 2] = [(&[], "Optional.empty"), (&[2, 5, 3], "Optional[30]")];
 
-const WRAPPED_SUMS: [(&[i64], &str); 1] = [(
+static WRAPPED_SUMS: [(&[i64], &str); 1] = [(
     &[9223372036854775807, 1],
     "Optional[-9223372036854775808]",
 )];
@@ -84,7 +84,7 @@ fn products_and_sums(rt: HostRuntime) -> Result<(), Fail> {
     Ok(())
 }
 
-const PARTS: [(&[i64], &str); 3] = [
+static PARTS: [(&[i64], &str); 3] = [
     (&[1, 3], "{false=[1, 3], true=[]}"),
     (&[5, 2, 7, 4, 5], "{false=[2], true=[5, 7, 4, 5]}"),
     (&[], "{false=[], true=[]}"),
@@ -97,10 +97,10 @@ fn partitions_have_both_sides(rt: HostRuntime) -> Result<(), Fail> {
     check(&rt, alloc, parts, &PARTS)
 }
 
-const GROUPS: [(&[i64], &str); 2] = [(&[5, 2, 7, 4, 5], "{1=3, 0=2}"), (&[], "{}")];
+static GROUPS: [(&[i64], &str); 2] = [(&[5, 2, 7, 4, 5], "{1=3, 0=2}"), (&[], "{}")];
 
 /// A group whose items are all filtered away keeps its key.
-const FILTERED: [(&[i64], &str); 1] = [(&[1, 2], "{1=0, 0=0}")];
+static FILTERED: [(&[i64], &str); 1] = [(&[1, 2], "{1=0, 0=0}")];
 
 #[test]
 fn groups_stand_by_their_first_item(rt: HostRuntime) -> Result<(), Fail> {
@@ -113,7 +113,7 @@ fn groups_stand_by_their_first_item(rt: HostRuntime) -> Result<(), Fail> {
 }
 
 /// Keys that repeat, sorted and shuffled.
-const BY_KEYS: [(&[i64], &str); 3] = [
+static BY_KEYS: [(&[i64], &str); 3] = [
     (&[1, 2, 3, 4, 5, 6, 7], "{1=[1, 4, 7], 2=[2, 5], 0=[3, 6]}"),
     (&[0, 3, 6, 1, 4, 2, 5], "{0=[0, 3, 6], 1=[1, 4], 2=[2, 5]}"),
     (
@@ -129,11 +129,11 @@ fn groups_of_repeated_sorted_and_shuffled_keys(rt: HostRuntime) -> Result<(), Fa
     check(&rt, alloc, lists, &BY_KEYS)
 }
 
-const COUNTS_BY_HASHES: [(&[i64], &str); 1] = [(&[5, 2, 7, 4, 5], "{1=3, 0=2}")];
+static COUNTS_BY_HASHES: [(&[i64], &str); 1] = [(&[5, 2, 7, 4, 5], "{1=3, 0=2}")];
 
-const LAST: [(&[i64], &str); 1] = [(&[1, 2, 3, 4], "{1=3, 0=4}")];
+static LAST: [(&[i64], &str); 1] = [(&[1, 2, 3, 4], "{1=3, 0=4}")];
 
-const FIRST: [(&[i64], &str); 1] = [(&[1, 2, 3, 4], "{1=1, 0=2}")];
+static FIRST: [(&[i64], &str); 1] = [(&[1, 2, 3, 4], "{1=1, 0=2}")];
 
 #[test]
 fn groups_by_random_hashes(rt: HostRuntime) -> Result<(), Fail> {

@@ -7,7 +7,7 @@ use std::test::Fail;
 
 /// The number by which the keys are remainders, that by which the values are products, and rows. 1 is the first key that is there twice, and 2
 /// the first that comes again.
-const NUMBERS: [(i64, i64, &[(&[i64], &str)]); 3] = [
+static NUMBERS: [(i64, i64, &[(&[i64], &str)]); 3] = [
     (
         1000,
         1,
@@ -24,7 +24,7 @@ const NUMBERS: [(i64, i64, &[(&[i64], &str)]); 3] = [
 #[test]
 fn strict_maps_of_numbers(rt: HostRuntime) -> Result<(), Fail> {
     let alloc = rt.alloc();
-    for (number, factor, rows) in NUMBERS {
+    for &(number, factor, rows) in &NUMBERS {
         assert!(rt; number > 0);
         let strict = ToMapStrict::<i64, _, _>::new(alloc, Modulo::new(number), Times(factor));
         check(&rt, alloc, strict, rows)?;
@@ -32,12 +32,12 @@ fn strict_maps_of_numbers(rt: HostRuntime) -> Result<(), Fail> {
     Ok(())
 }
 
-const BY_LENGTH: [(&[&str], &str); 2] = [
+static BY_LENGTH: [(&[&str], &str); 2] = [
     (&["ab", "cd"], "duplicate key 2"),
     (&["ab", "c"], "{2=ab, 1=c}"),
 ];
 
-const LENGTHS: [(&[&str], &str); 1] = [(&["ab", "c", "ab"], "duplicate key ab")];
+static LENGTHS: [(&[&str], &str); 1] = [(&["ab", "c", "ab"], "duplicate key ab")];
 
 #[test]
 fn strict_maps_of_texts(rt: HostRuntime) -> Result<(), Fail> {
@@ -49,7 +49,7 @@ fn strict_maps_of_texts(rt: HostRuntime) -> Result<(), Fail> {
     check(&rt, alloc, lengths, &LENGTHS)
 }
 
-const GROUPS: [(&[i64], &str); 1] = [(&[1, 2, 13, 12, 22], "{1={1=1, 3=13}, 0=duplicate key 2}")];
+static GROUPS: [(&[i64], &str); 1] = [(&[1, 2, 13, 12, 22], "{1={1=1, 3=13}, 0=duplicate key 2}")];
 
 #[test]
 fn strict_maps_of_groups(rt: HostRuntime) -> Result<(), Fail> {

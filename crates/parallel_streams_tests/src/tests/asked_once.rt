@@ -51,7 +51,7 @@ fn times(asked: &AtomicU64) -> u64 {
 // Of five items, and of the three behind a barrier.
 #[test]
 fn functions_are_asked_once_an_item(rt: HostRuntime) -> Result<(), Fail> {
-    for setting in SETTINGS {
+    for &setting in &SETTINGS {
         let mapped = AtomicU64::new(0);
         let tested = AtomicU64::new(0);
         let behind = AtomicU64::new(0);

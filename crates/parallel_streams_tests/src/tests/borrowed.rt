@@ -31,7 +31,7 @@ fn count_of_words<'a, R: Threads + Alloc<A = Global> + Sync>(
 
 #[test]
 fn barriers_behind_what_is_borrowed(rt: HostRuntime) -> Result<(), Fail> {
-    for setting in SETTINGS {
+    for &setting in &SETTINGS {
         let run = at(setting);
         let pair = second_and_third(&rt, &run, &[4, 15, 8, 16, 2, 3])?;
         check_list(&rt, &pair, &[8, 2]);

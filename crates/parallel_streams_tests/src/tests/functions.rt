@@ -94,25 +94,6 @@ impl Mapping<i64> for Copies {
     }
 }
 
-/// Some copies of each number.
-#[derive(Drop)]
-pub struct Repeat {
-    pub alloc: Global,
-    pub number: usize,
-}
-
-impl Mapping<i64> for Repeat {
-    type Out = Vec<i64>;
-
-    ghost image = { λ f x. replicate f.number x };
-
-    ghost images_are_values = { λ f x. All-replicate IsI64 f.number x };
-
-    fn image(&self, x: &i64) -> Result<Vec<i64>, NoMemory> {
-        Ok(vec![in self.alloc; *x; self.number]?)
-    }
-}
-
 /// The numbers below a limit.
 #[derive(Drop)]
 pub struct Below(pub i64);

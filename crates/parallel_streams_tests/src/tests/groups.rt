@@ -60,7 +60,7 @@ where
 
 /// Numbers, a limit, and of the numbers of each parity how many are above it and their sum. A group whose items are all filtered away keeps its
 /// key.
-const TOTALS: [(&[i64], i64, &[(i64, (i64, i64))]); 2] = [
+static TOTALS: [(&[i64], i64, &[(i64, (i64, i64))]); 2] = [
     (&[5, 2, 7, 4, 5], 0, &[(1, (3, 17)), (0, (2, 6))]),
     (&[1, 2, 2, 1, 1], 100, &[(1, (0, 0)), (0, (0, 0))]),
 ];
@@ -69,7 +69,7 @@ fn totals<R: Threads + Abort + Alloc<A = Global> + Sync>(
     rt: &R,
     run: &Run<'_, NoGate>,
 ) -> Result<(), StreamError> {
-    for (numbers, limit, expected) in TOTALS {
+    for &(numbers, limit, expected) in &TOTALS {
         let totals = Teeing::new(Counting::<i64>::new(), SummingLong::new(Itself), Both);
         let above = FilteringTo::new(Above(limit), totals);
         let found = by_parity(rt, run, numbers, above)?;
@@ -90,7 +90,7 @@ fn parts<R: Threads + Alloc<A = Global> + Sync>(
 }
 
 /// Numbers, and the lists of each parity of those that are not above 3 and of those that are. Both parts are always there.
-const PARTS: [(&[i64], &[(i64, &[i64])], &[(i64, &[i64])]); 2] = [
+static PARTS: [(&[i64], &[(i64, &[i64])], &[(i64, &[i64])]); 2] = [
     (
         &[5, 2, 7, 4, 5],
         &[(0, &[2])],
@@ -103,7 +103,7 @@ fn check_parts<R: Threads + Abort + Alloc<A = Global> + Sync>(
     rt: &R,
     run: &Run<'_, NoGate>,
 ) -> Result<(), StreamError> {
-    for (numbers, no, yes) in PARTS {
+    for &(numbers, no, yes) in &PARTS {
         let found = parts(rt, run, numbers)?;
         assert!(rt;
             has_lists(&found.no, no) && has_lists(&found.yes, yes),
@@ -151,7 +151,7 @@ fn sum_and_list<R: Threads + Abort + Alloc<A = Global> + Sync>(
 }
 
 /// Numbers, ten times the first of them, and the product of all.
-const PRODUCTS: [(&[i64], (Option<i64>, Option<i64>)); 3] = [
+static PRODUCTS: [(&[i64], (Option<i64>, Option<i64>)); 3] = [
     (&[], (None, None)),
     (&[4, 5], (Some(40), Some(20))),
     (&[2, 5, 3], (Some(20), Some(30))),
@@ -163,7 +163,7 @@ fn first_and_product<R: Threads + Abort + Alloc<A = Global> + Sync>(
 ) -> Result<(), StreamError> {
     let tens = MappingTo::<i64, _, _>::new(Times(10), First::<i64>::new());
     let both = Teeing::new(tens, Reducing::<i64, _>::new(WrapMul::new()), Both);
-    for (numbers, wanted) in PRODUCTS {
+    for &(numbers, wanted) in &PRODUCTS {
         assert!(rt;
             collected(rt, run, numbers, &both)? == wanted,
             "{numbers:?}"
@@ -174,7 +174,7 @@ fn first_and_product<R: Threads + Abort + Alloc<A = Global> + Sync>(
 
 #[test]
 fn groups_at_each_number_of_workers(rt: HostRuntime) -> Result<(), Fail> {
-    for setting in SETTINGS {
+    for &setting in &SETTINGS {
         let run = at(setting);
         totals(&rt, &run)?;
         check_parts(&rt, &run)?;

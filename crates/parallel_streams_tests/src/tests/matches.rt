@@ -10,7 +10,7 @@ use std::thread::Threads;
 use stealing_pool::NoGate;
 
 /// A number of items from 0 on, a limit, and whether all, any and none of the items are below it.
-const MATCHES: [(i64, i64, [bool; 3]); 4] = [
+static MATCHES: [(i64, i64, [bool; 3]); 4] = [
     (0, 0, [true, false, true]),
     (10, 10, [true, true, false]),
     (10, 9, [false, true, false]),
@@ -31,8 +31,8 @@ fn matches_of<R: Threads + Alloc<A = Global> + Sync>(
 
 #[test]
 fn matches_at_each_number_of_workers(rt: HostRuntime) -> Result<(), Fail> {
-    for setting in SETTINGS {
-        for (end, limit, wanted) in MATCHES {
+    for &setting in &SETTINGS {
+        for &(end, limit, wanted) in &MATCHES {
             let numbers = of(RangeSplit::range(0, end)?);
             let found = matches_of(&rt, &at(setting), &numbers, &Below(limit))?;
             assert!(rt; found == wanted, "{end} numbers below {limit}");

@@ -62,7 +62,7 @@ fn count_and_sum<R: Threads + Alloc<A = Global> + Sync>(
 
 #[test]
 fn a_collector_of_the_callers_own(rt: HostRuntime) -> Result<(), Fail> {
-    for setting in SETTINGS {
+    for &setting in &SETTINGS {
         let run = at(setting);
         let found = count_and_sum(&rt, &run, &[5, -2, 9])?;
         assert!(rt; found == (3, 12));

@@ -66,7 +66,7 @@ fn total<R: Threads + Alloc<A = Global> + Sync>(
 
 #[test]
 fn functions_of_the_callers_own(rt: HostRuntime) -> Result<(), Fail> {
-    for setting in SETTINGS {
+    for &setting in &SETTINGS {
         let run = at(setting);
         let items = ten_more(&rt, &run, RangeSplit::range(1, 6)?)?;
         check_list(&rt, &items, &[11, 12]);

@@ -69,7 +69,7 @@ fn sevens() -> Source<Again> {
 fn a_source_of_the_callers_own(rt: HostRuntime) -> Result<(), Fail> {
     let three = sevens();
     assert!(rt; three.known_size().is_none());
-    for setting in SETTINGS {
+    for &setting in &SETTINGS {
         let run = at(setting);
         let count = counted(&rt, &run, &three)?;
         let sum = reduced(&rt, &run, &three, 0, &WrapAdd::new())?;

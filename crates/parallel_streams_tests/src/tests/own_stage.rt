@@ -48,7 +48,7 @@ impl Stage for WithNext {
 
 #[test]
 fn a_stage_of_the_callers_own(rt: HostRuntime) -> Result<(), Fail> {
-    for setting in SETTINGS {
+    for &setting in &SETTINGS {
         let run = at(setting);
         let pairs = of(RangeSplit::range(0, 3)?).then(WithNext);
         check_list(&rt, &listed(&rt, &run, &pairs)?, &[0, 1, 1, 2, 2, 3]);

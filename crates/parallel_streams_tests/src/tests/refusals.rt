@@ -29,7 +29,7 @@ impl Mapping<i64> for RefusesAt {
 }
 
 /// Targets, and the first number that is met.
-const FIRSTS: &[(u64, i64)] = &[(1, 0), (1, 4), (16, 0), (16, 4), (0, 0), (0, 4)];
+static FIRSTS: [(u64, i64); 6] = [(1, 0), (1, 4), (16, 0), (16, 4), (0, 0), (0, 4)];
 
 // The first of some numbers that is met, and whether one is. Memory is refused at the number behind it.
 fn met<R: Threads + Alloc<A = Global> + Sync>(
@@ -48,7 +48,7 @@ fn met<R: Threads + Alloc<A = Global> + Sync>(
 #[test]
 fn one_worker_reads_nothing_behind_the_first_item_or_hit(rt: HostRuntime) -> Result<(), Fail> {
     let ten = RangeSplit::range(0, 10)?;
-    for (target, first) in FIRSTS {
+    for (target, first) in &FIRSTS {
         let found = met(&rt, &at((1, *target)), ten, *first)?;
         assert!(rt; found == (Some(*first), true), "{first} at target {target}");
     }

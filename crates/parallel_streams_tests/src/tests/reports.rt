@@ -57,12 +57,12 @@ pub fn check_report(
     assert!(rt; found.0.as_slice() == items && all_tell(&found.1, entries));
 }
 
-const OF_A_LIMIT: [Entry<'_>; 2] = [(4, Some(1), &[(0, 2), (1, 3)]), (1, None, &[(0, 0)])];
+static OF_A_LIMIT: [Entry<'_>; 2] = [(4, Some(1), &[(0, 2), (1, 3)]), (1, None, &[(0, 0)])];
 
-const OF_A_FRONT: [Entry<'_>; 2] = [(16, Some(0), &[(0, 1)]), (1, None, &[(0, 0)])];
+static OF_A_FRONT: [Entry<'_>; 2] = [(16, Some(0), &[(0, 1)]), (1, None, &[(0, 0)])];
 
 /// One entry a barrier, and one for the terminal operation. A barrier whose items all count for nothing cuts nowhere.
-const OF_EACH_BARRIER: [Entry<'_>; 3] = [
+static OF_EACH_BARRIER: [Entry<'_>; 3] = [
     (3, None, &[(0, 0), (1, 0), (2, 0)]),
     (2, Some(0), &[(0, 1)]),
     (1, None, &[(0, 0)]),

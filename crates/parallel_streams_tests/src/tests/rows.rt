@@ -105,13 +105,13 @@ fn fronts<R: Threads + Abort + Alloc<A = Global> + Sync>(
 }
 
 /// Numbers, the most of those that differ that are wanted, and these.
-const APART: [(&[i64], u32, &[i64]); 2] = [
+static APART: [(&[i64], u32, &[i64]); 2] = [
     (&[3, 1, 3, 2, 1], 9, &[3, 1, 2]),
     (&[3, 3, 3, 1, 2], 2, &[3, 1]),
 ];
 
 /// Numbers, the most of their copies that are wanted, these, and how many copies there are.
-const COPIES: [(&[i64], u32, &[i64], i64); 3] = [
+static COPIES: [(&[i64], u32, &[i64], i64); 3] = [
     (&[2, 0, 3], 9, &[2, 2, 3, 3, 3], 5),
     (&[1, 2, 3], 4, &[1, 2, 2, 3], 6),
     (&[0, 0, 0], 9, &[], 0),
@@ -121,11 +121,11 @@ fn firsts<R: Threads + Abort + Alloc<A = Global> + Sync>(
     rt: &R,
     run: &Run<'_, NoGate>,
 ) -> Result<(), StreamError> {
-    for (numbers, most, wanted) in APART {
+    for &(numbers, most, wanted) in &APART {
         let found = first_apart(rt, run, of(SliceSplit::new(numbers)), most)?;
         check_list(rt, &found, wanted);
     }
-    for (numbers, most, wanted, number) in COPIES {
+    for &(numbers, most, wanted, number) in &COPIES {
         let found = copies(rt, run, of(SliceSplit::new(numbers)), most)?;
         check_list(rt, &found.0, wanted);
         check_value(rt, Some(found.1), Some(number));
@@ -140,7 +140,7 @@ fn reductions<R: Threads + Abort + Alloc<A = Global> + Sync>(
     check_value(rt, joined(rt, run, &[], &Max::new())?, None);
     check_value(rt, joined(rt, run, &[2, 5, 3], &Min::new())?, Some(2));
     check_value(rt, joined(rt, run, &[2, 5, 3], &WrapMul::new())?, Some(30));
-    for (numbers, identity) in LASTS {
+    for &(numbers, identity) in &LASTS {
         let last = last_below(rt, run, of(SliceSplit::new(numbers)), identity)?;
         check_value(rt, Some(last), Some(9));
     }
@@ -148,7 +148,7 @@ fn reductions<R: Threads + Abort + Alloc<A = Global> + Sync>(
 }
 
 /// Numbers of which the last below 10 is 9, in the last leaves or left of them, and an identity.
-const LASTS: [(&[i64], i64); 4] = [
+static LASTS: [(&[i64], i64); 4] = [
     (&[4, 9], 0),
     (&[4, 9], 7),
     (&[4, 9, 50, 60], 0),
@@ -209,7 +209,7 @@ where
 
 #[test]
 fn rows_at_each_number_of_workers(rt: HostRuntime) -> Result<(), Fail> {
-    for setting in SETTINGS {
+    for &setting in &SETTINGS {
         let run = at(setting);
         fronts(&rt, &run)?;
         firsts(&rt, &run)?;

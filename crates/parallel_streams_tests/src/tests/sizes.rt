@@ -15,7 +15,7 @@ use std::thread::Threads;
 const GREAT: i64 = 4_611_686_018_427_387_904;
 
 /// The end of a range from 0 on, how many of its items are skipped, how many of the rest are taken at most, and how many these are.
-const KNOWN: [(i64, u64, u64, i64); 5] = [
+static KNOWN: [(i64, u64, u64, i64); 5] = [
     (10, 3, 5, 5),
     (10, 0, 3, 3),
     (10, 0, 0, 0),
@@ -61,14 +61,14 @@ fn a_count_of_a_known_size_runs_no_leaf(rt: HostRuntime) -> Result<(), Fail> {
     let great = of(RangeSplit::range(0, GREAT)?);
     let flags = great.flags();
     assert!(rt; flags.is_distinct() && flags.is_sorted() && flags.is_sized());
-    for (workers, target) in SETTINGS {
+    for &(workers, target) in &SETTINGS {
         let run = Run {
             workers,
             target,
             gate: &gate,
         };
         assert!(rt; counted(&rt, &run, &great) == Ok(GREAT));
-        for row in KNOWN {
+        for &row in &KNOWN {
             assert!(rt; is_known(&rt, &run, row)?, "{row:?}");
         }
     }
@@ -80,7 +80,7 @@ fn a_count_of_a_known_size_runs_no_leaf(rt: HostRuntime) -> Result<(), Fail> {
 fn a_filter_clears_the_known_size(rt: HostRuntime) -> Result<(), Fail> {
     let gate = Watch::until(0, 0);
     let ten = RangeSplit::range(0, 10)?;
-    for (workers, target) in SETTINGS {
+    for &(workers, target) in &SETTINGS {
         let run = Run {
             workers,
             target,

@@ -27,7 +27,7 @@ fn answers<V: PartialEq + Drop>(
 }
 
 /// Numbers, and each to the next one, or the key that comes again. 1 is the first key that is there twice, and 2 the first that comes again.
-const NUMBERS: [(&[i64], Result<&[(i64, i64)], i64>); 4] = [
+static NUMBERS: [(&[i64], Result<&[(i64, i64)], i64>); 4] = [
     (&[1, 2, 2, 1], Err(2)),
     (&[2, 2, 1, 1], Err(2)),
     (&[3, 4], Ok(&[(3, 4), (4, 5)])),
@@ -35,7 +35,7 @@ const NUMBERS: [(&[i64], Result<&[(i64, i64)], i64>); 4] = [
 ];
 
 /// Lines, and the length of each to the line, or the key that comes again.
-const LINES: [(&str, Result<&[(i64, &str)], i64>); 2] = [
+static LINES: [(&str, Result<&[(i64, &str)], i64>); 2] = [
     ("ab\ncd\n", Err(2)),
     ("ab\nc\n", Ok(&[(2, "ab"), (1, "c")])),
 ];
@@ -44,12 +44,12 @@ fn strict_maps<R: Threads + Abort + Alloc<A = Global> + Sync>(
     rt: &R,
     run: &Run<'_, NoGate>,
 ) -> Result<(), MapError<i64>> {
-    for (numbers, expected) in NUMBERS {
+    for &(numbers, expected) in &NUMBERS {
         let stream = of(SliceSplit::new(numbers));
         let answer = stream.to_map_strict(rt, rt.alloc(), run, &Itself, &Plus(1));
         assert!(rt; answers(answer, expected)?, "{numbers:?}");
     }
-    for (lines, expected) in LINES {
+    for &(lines, expected) in &LINES {
         let stream = of(LinesSplit::new(lines));
         let answer = stream.to_map_strict(rt, rt.alloc(), run, &Length, &Text);
         assert!(rt; answers(answer, expected)?, "{lines:?}");
@@ -59,7 +59,7 @@ fn strict_maps<R: Threads + Abort + Alloc<A = Global> + Sync>(
 
 #[test]
 fn strict_maps_at_each_number_of_workers(rt: HostRuntime) -> Result<(), Fail> {
-    for setting in SETTINGS {
+    for &setting in &SETTINGS {
         strict_maps(&rt, &at(setting))?;
     }
     Ok(())

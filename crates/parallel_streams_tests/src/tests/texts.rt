@@ -14,14 +14,14 @@ use std::thread::Threads;
 use stealing_pool::NoGate;
 
 /// Lines, what stands between, before and after their words, and the whole. An empty text is an item like any other.
-const JOINED: [(&str, &str, &str, &str, &str); 3] = [
+static JOINED: [(&str, &str, &str, &str, &str); 3] = [
     ("\na\n\n", ",", "", "", ",a,"),
     ("\n\n\n", ",", "<", ">", "<,,>"),
     ("a b\nc\n", "-", "<", ">", "<a-b-c>"),
 ];
 
 /// Lines, and of each length of a line the length, the lines joined, and the sum of the lengths.
-const BY_LENGTH: [(&str, &[(i64, &str, i64)]); 2] = [
+static BY_LENGTH: [(&str, &[(i64, &str, i64)]); 2] = [
     ("bb\na\ncc\n", &[(2, "bb+cc", 4), (1, "a", 1)]),
     ("a b\nc\na\n", &[(3, "a b", 3), (1, "c+a", 2)]),
 ];
@@ -69,11 +69,11 @@ fn texts<R: Threads + Abort + Alloc<A = Global> + Sync>(
     rt: &R,
     run: &Run<'_, NoGate>,
 ) -> Result<(), StreamError> {
-    for (lines, between, before, after, wanted) in JOINED {
+    for &(lines, between, before, after, wanted) in &JOINED {
         let text = joined(rt, run, lines, between, before, after)?;
         assert!(rt; text.as_str() == wanted, "{text}");
     }
-    for (lines, expected) in BY_LENGTH {
+    for &(lines, expected) in &BY_LENGTH {
         assert!(rt; has(&by_length(rt, run, lines)?, expected), "{lines:?}");
     }
     Ok(())
@@ -81,7 +81,7 @@ fn texts<R: Threads + Abort + Alloc<A = Global> + Sync>(
 
 #[test]
 fn texts_at_each_number_of_workers(rt: HostRuntime) -> Result<(), Fail> {
-    for setting in SETTINGS {
+    for &setting in &SETTINGS {
         let run = at(setting);
         texts(&rt, &run)?;
     }

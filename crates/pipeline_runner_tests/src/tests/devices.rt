@@ -13,7 +13,7 @@ const FAULTY: &[u8] = b"pipeline 1\nlines 1\nx\nsum\n";
 const UNENDED: &[u8] = b"pipeline 1\nlines 1\nx\n";
 
 /// The input's file, how often it is read, and what is told and written where no read fails.
-const READ: &[(&[u8], u64, &str, &str)] = &[
+static READ: [(&[u8], u64, &str, &str); 4] = [
     (LIST, 13, "", "[3, 1, 2]\n"),
     (FAULTY, 8, "line 4: WRONG_KIND", ""),
     (UNENDED, 7, "line 4: MISSING_TERMINAL", ""),
@@ -22,7 +22,7 @@ const READ: &[(&[u8], u64, &str, &str)] = &[
 
 #[test]
 fn tells_each_failed_read(rt: HostRuntime) -> Result<(), Fail> {
-    for &(file, reads, told, written) in READ {
+    for &(file, reads, told, written) in &READ {
         for read_fails in 0..=reads {
             let case = Case {
                 read_step: 4,
@@ -41,7 +41,7 @@ fn tells_each_failed_read(rt: HostRuntime) -> Result<(), Fail> {
 }
 
 /// The input's file, the bytes of a write, the write or flush that fails, and what is told and written.
-const WRITTEN: &[(&[u8], usize, u64, &str, &str)] = &[
+static WRITTEN: [(&[u8], usize, u64, &str, &str); 11] = [
     (LIST, 3, 1, "write failed", ""),
     (LIST, 3, 2, "write failed", "[3,"),
     (LIST, 3, 3, "write failed", "[3, 1,"),
@@ -60,7 +60,7 @@ const WRITTEN: &[(&[u8], usize, u64, &str, &str)] = &[
 
 #[test]
 fn tells_each_failed_write(rt: HostRuntime) -> Result<(), Fail> {
-    for &(file, write_step, write_fails, told, written) in WRITTEN {
+    for &(file, write_step, write_fails, told, written) in &WRITTEN {
         let case = Case {
             write_step,
             write_fails,

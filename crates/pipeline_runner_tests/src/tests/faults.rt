@@ -4,7 +4,7 @@ use super::rows::{ONE, Row, TWO, all_right};
 use std::test::Fail;
 
 /// Faults of a whole file, by its lines behind the first one.
-const OF_FILES: &[Row<'_>] = &[
+static OF_FILES: [Row<'_>; 11] = [
     (b"", "line 2: MISSING_TERMINAL"),
     (b"range 0 3\n", "line 3: MISSING_TERMINAL"),
     (b"lines 1\nx\n", "line 4: MISSING_TERMINAL"),
@@ -19,7 +19,7 @@ const OF_FILES: &[Row<'_>] = &[
 ];
 
 /// Faults of the source's line.
-const OF_SOURCES: &[Row<'_>] = &[
+static OF_SOURCES: [Row<'_>; 7] = [
     (
         b"range 0 4611686018427387905\ncount\n",
         "line 2: RANGE_TOO_LONG",
@@ -36,7 +36,7 @@ const OF_SOURCES: &[Row<'_>] = &[
 ];
 
 /// Faults of the lines behind the source.
-const OF_LINES: &[Row<'_>] = &[
+static OF_LINES: [Row<'_>; 9] = [
     (b"range 0 10\nmap mull 3\nsum\n", "line 3: UNKNOWN_WORD"),
     (b"range 0 10\nmap mul\nsum\n", "line 3: BAD_ARITY"),
     (b"range 0 10\nmap mul 03\nsum\n", "line 3: BAD_NUMBER"),
@@ -55,7 +55,7 @@ const OF_LINES: &[Row<'_>] = &[
 ];
 
 /// Words of the second version, which the first has not.
-const NOT_IN_THE_FIRST: &[Row<'_>] = &[
+static NOT_IN_THE_FIRST: [Row<'_>; 3] = [
     (
         b"numbers 1\ntomapstrict self self\n",
         "line 3: UNKNOWN_WORD",
@@ -71,7 +71,7 @@ const NOT_IN_THE_FIRST: &[Row<'_>] = &[
 ];
 
 /// Collectors of the second version, nested too deep or of the wrong items.
-const NOT_IN_THE_SECOND: &[Row<'_>] = &[
+static NOT_IN_THE_SECOND: [Row<'_>; 2] = [
     (
         b"numbers 1\ngroupby mod 2 groupby mod 3 groupby mod 5 count\n",
         "line 3: UNKNOWN_WORD",
@@ -83,7 +83,7 @@ const NOT_IN_THE_SECOND: &[Row<'_>] = &[
 ];
 
 /// Whole files: bad first lines, and beginnings of a file of 25 bytes.
-const WHOLE: &[Row<'_>] = &[
+static WHOLE: [Row<'_>; 11] = [
     (b"", "line 1: BAD_VERSION"),
     (b"pipeline 1\r\nrange 1 6\nsum\n", "line 1: BAD_VERSION"),
     (b"pipeline 3\nrange 1 6\nsum\n", "line 1: BAD_VERSION"),
@@ -100,10 +100,19 @@ const WHOLE: &[Row<'_>] = &[
 #[test]
 fn are_told(rt: HostRuntime) -> Result<(), Fail> {
     let both = [ONE, TWO];
-    all_right(&rt, rt.alloc(), &both, &[OF_FILES, OF_SOURCES, OF_LINES])?;
-    all_right(&rt, rt.alloc(), &[ONE], &[NOT_IN_THE_FIRST])?;
-    all_right(&rt, rt.alloc(), &[TWO], &[NOT_IN_THE_SECOND])?;
-    all_right(&rt, rt.alloc(), &[b""], &[WHOLE])
+    all_right(
+        &rt,
+        rt.alloc(),
+        &both,
+        &[
+            OF_FILES.as_slice(),
+            OF_SOURCES.as_slice(),
+            OF_LINES.as_slice(),
+        ],
+    )?;
+    all_right(&rt, rt.alloc(), &[ONE], &[NOT_IN_THE_FIRST.as_slice()])?;
+    all_right(&rt, rt.alloc(), &[TWO], &[NOT_IN_THE_SECOND.as_slice()])?;
+    all_right(&rt, rt.alloc(), &[b""], &[WHOLE.as_slice()])
 }
 
 #[test]

@@ -28,7 +28,7 @@ type LeafRow<'a> = (&'a [u8], u32, u64, u64);
 
 const TEN: &[u8] = b"pipeline 1\nrange 0 10\nsum\n";
 
-const SUMS: &[LeafRow<'_>] = &[
+static SUMS: [LeafRow<'_>; 10] = [
     (TEN, 1, 3, 4),
     (TEN, 1, 0, 6),
     // one worker runs them, and they are those of the workers that are wanted
@@ -57,7 +57,7 @@ const CUT: &[u8] =
 const LENGTHS: &[u8] = b"pipeline 1\nlines 2\na\nb\nmap self\nmap length\ncount\n";
 
 /// A count of a known size runs no leaf.
-const COUNTS: &[LeafRow<'_>] = &[
+static COUNTS: [LeafRow<'_>; 12] = [
     (LONG_RANGE, 4, 0, 0),
     (LONG_RANGE, 4, 1, 0),
     (SKIPPED, 4, 0, 0),
@@ -74,7 +74,7 @@ const COUNTS: &[LeafRow<'_>] = &[
 
 #[test]
 fn are_those_of_the_split_rule(rt: HostRuntime) -> Result<(), Fail> {
-    for rows in [SUMS, COUNTS] {
+    for rows in [SUMS.as_slice(), COUNTS.as_slice()] {
         for &(file, workers, target, leaves) in rows {
             let gate = Watch::new(false);
             watch(&rt, rt.alloc(), &Case::of(file, workers, target), &gate)?;
@@ -89,7 +89,7 @@ fn are_those_of_the_split_rule(rt: HostRuntime) -> Result<(), Fail> {
 type WorkerRow<'a> = (&'a [u8], u32, u64, u32, &'a str);
 
 /// A small run takes one worker.
-const SMALL: &[WorkerRow<'_>] = &[
+static SMALL: [WorkerRow<'_>; 6] = [
     (b"pipeline 1\nrange 0 10\nsum\n", 64, 0, 1, "45\n"),
     (b"pipeline 1\nrange 10 0\nsum\n", 64, 0, 1, "0\n"),
     (
@@ -124,7 +124,7 @@ const SMALL: &[WorkerRow<'_>] = &[
 ];
 
 /// Other runs take the workers that are wanted.
-const LARGE: &[WorkerRow<'_>] = &[
+static LARGE: [WorkerRow<'_>; 6] = [
     // one step more than a small run has
     (
         b"pipeline 1\nclosed 0 262144\nsum\n",
@@ -168,7 +168,7 @@ const LARGE: &[WorkerRow<'_>] = &[
 
 #[test]
 fn are_run_by_as_many_workers(rt: HostRuntime) -> Result<(), Fail> {
-    for rows in [SMALL, LARGE] {
+    for rows in [SMALL.as_slice(), LARGE.as_slice()] {
         for &(file, wanted, target, workers, text) in rows {
             let gate = Watch::new(workers > 1);
             let written = watch(&rt, rt.alloc(), &Case::of(file, wanted, target), &gate)?;

@@ -7,7 +7,7 @@ use std::test::Fail;
 const FILE: &[u8] = b"pipeline 1\nlines 2\na b\nc\nflatmap words\njoining - < >\n";
 
 /// The file's beginnings by their least and most bytes, and what is written or told of each.
-const BEGINNINGS: &[(usize, usize, &str)] = &[
+static BEGINNINGS: [(usize, usize, &str); 19] = [
     (0, 9, "line 1: BAD_VERSION"),
     (10, 11, "line 2: MISSING_TERMINAL"),
     (12, 15, "line 2: UNKNOWN_WORD"),
@@ -31,7 +31,7 @@ const BEGINNINGS: &[(usize, usize, &str)] = &[
 
 #[test]
 fn answers_each_beginning(rt: HostRuntime) -> Result<(), Fail> {
-    for &(least, most, wanted) in BEGINNINGS {
+    for &(least, most, wanted) in &BEGINNINGS {
         for size in least..=most {
             assert!(rt; size <= FILE.len());
             all_right(&rt, rt.alloc(), &[b""], &[&[(&FILE[..size], wanted)]])?;
@@ -41,14 +41,14 @@ fn answers_each_beginning(rt: HostRuntime) -> Result<(), Fail> {
 }
 
 /// The bytes of a file of line ends, and what is told of it.
-const AROUND_THE_LIMIT: &[(usize, &str)] = &[
+static AROUND_THE_LIMIT: [(usize, &str); 2] = [
     (1_048_576, "line 1: BAD_VERSION"),
     (1_048_577, "line 0: TOO_LARGE"),
 ];
 
 #[test]
 fn reads_to_the_limit(rt: HostRuntime) -> Result<(), Fail> {
-    for &(size, told) in AROUND_THE_LIMIT {
+    for &(size, told) in &AROUND_THE_LIMIT {
         let file = "\n".repeat(rt.alloc(), size)?;
         all_right(&rt, rt.alloc(), &[b""], &[&[(file.as_bytes(), told)]])?;
     }
@@ -56,7 +56,7 @@ fn reads_to_the_limit(rt: HostRuntime) -> Result<(), Fail> {
 }
 
 /// The bytes of line ends that are given before a read fails, how many reads give them, and what is told.
-const CUT_OFF: &[(usize, u64, &str)] = &[
+static CUT_OFF: [(usize, u64, &str); 4] = [
     (1_048_575, 16, "read failed"),
     (1_048_576, 16, "read failed"),
     (1_048_577, 17, "line 0: TOO_LARGE"),
@@ -65,7 +65,7 @@ const CUT_OFF: &[(usize, u64, &str)] = &[
 
 #[test]
 fn reads_no_further(rt: HostRuntime) -> Result<(), Fail> {
-    for &(size, reads, told) in CUT_OFF {
+    for &(size, reads, told) in &CUT_OFF {
         let file = "\n".repeat(rt.alloc(), size)?;
         let case = Case {
             read_fails: reads + 1,

@@ -133,7 +133,7 @@ fn check<R: Threads + RandomSource + Abort + Sync>(
 /// The words, the write that fails, and the status, what is written and what is told.
 type Row<'a> = (&'a [&'a str], u64, (u8, &'a str, &'a str));
 
-const RUNS: &[Row<'_>] = &[
+static RUNS: [Row<'_>; 13] = [
     (&["row"], 0, (0, "15\n", "")),
     (
         &["row", "--workers", "64", "--target", "1"],
@@ -159,14 +159,14 @@ const RUNS: &[Row<'_>] = &[
 
 #[test]
 fn ends_as_the_run_or_with_its_help(rt: HostRuntime) -> Result<(), Fail> {
-    for &(words, write_fails, wanted) in RUNS {
+    for &(words, write_fails, wanted) in &RUNS {
         check(&rt, rt.alloc(), words, write_fails, wanted)?;
     }
     Ok(())
 }
 
 /// The words, and the beginning of what is told.
-const FAULTS: &[(&[&str], &str)] = &[
+static FAULTS: [(&[&str], &str); 6] = [
     (
         &[],
         "error: the following required arguments were not provided:\n  <FILE>\n\nUsage: pstream <FILE>",
@@ -195,7 +195,7 @@ const FAULTS: &[(&[&str], &str)] = &[
 
 #[test]
 fn tells_a_fault_of_the_command_line(rt: HostRuntime) -> Result<(), Fail> {
-    for &(words, fault) in FAULTS {
+    for &(words, fault) in &FAULTS {
         let told = format!(in rt.alloc(); "{fault}\n\nFor more information, try '--help'.\n")?;
         check(&rt, rt.alloc(), words, 0, (2, "", told.as_str()))?;
     }

@@ -4,7 +4,7 @@ use super::rows::{ONE, Row, TWO, all_right, right_at};
 use std::test::Fail;
 
 /// Sums, products and the like of numbers, which need no list.
-const REDUCTIONS: &[Row<'_>] = &[
+static REDUCTIONS: [Row<'_>; 18] = [
     (b"range 1 6\nsum\n", "15\n"),
     (b"range 1 6\nmap self\nsum\n", "15\n"),
     (b"range 5 5\nsum\n", "0\n"),
@@ -29,7 +29,7 @@ const REDUCTIONS: &[Row<'_>] = &[
 ];
 
 /// Lists of numbers behind stages.
-const LISTS: &[Row<'_>] = &[
+static LISTS: [Row<'_>; 13] = [
     (b"range 0 10\nlimit 0\ntolist\n", "[]\n"),
     (b"range 0 10\nlimit 3\ntolist\n", "[0, 1, 2]\n"),
     // no run over so many numbers would end
@@ -62,7 +62,7 @@ const LISTS: &[Row<'_>] = &[
 ];
 
 /// Counts, with sizes that are known and that aren't.
-const COUNTS: &[Row<'_>] = &[
+static COUNTS: [Row<'_>; 10] = [
     (
         b"closed 9223372036854775807 9223372036854775807\ncount\n",
         "1\n",
@@ -85,7 +85,7 @@ const COUNTS: &[Row<'_>] = &[
 ];
 
 /// Values of texts.
-const TEXTS: &[Row<'_>] = &[
+static TEXTS: [Row<'_>; 8] = [
     (b"lines 3\n\na\n\njoining ,\n", ",a,\n"),
     (b"lines 3\n\n\n\njoining , < >\n", "<,,>\n"),
     (
@@ -100,7 +100,7 @@ const TEXTS: &[Row<'_>] = &[
 ];
 
 /// Maps, partitions and pairs.
-const GROUPS: &[Row<'_>] = &[
+static GROUPS: [Row<'_>; 8] = [
     (
         b"numbers 5 2 7 4 5\ngroupby mod 2 counting\n",
         "{1=3, 0=2}\n",
@@ -124,7 +124,7 @@ const GROUPS: &[Row<'_>] = &[
 ];
 
 /// Collectors within collectors, which the second version has.
-const NESTED: &[Row<'_>] = &[
+static NESTED: [Row<'_>; 8] = [
     (
         b"numbers 1 2 3 4 5 6\ngroupby mod 2 groupby mod 3 counting\n",
         "{1={1=1, 0=1, 2=1}, 0={2=1, 1=1, 0=1}}\n",
@@ -160,7 +160,7 @@ const NESTED: &[Row<'_>] = &[
 ];
 
 /// Maps in which no key may repeat, which the second version has.
-const STRICT: &[Row<'_>] = &[
+static STRICT: [Row<'_>; 5] = [
     (b"numbers 1 2\ntomapstrict self negate\n", "{1=-1, 2=-2}\n"),
     (
         b"numbers 1 2 3 4 3 1\ntomapstrict mod 10 self\n",
@@ -182,13 +182,24 @@ const STRICT: &[Row<'_>] = &[
 
 #[test]
 fn are_written(rt: HostRuntime) -> Result<(), Fail> {
-    let of_both = [REDUCTIONS, COUNTS, LISTS, TEXTS, GROUPS];
+    let of_both = [
+        REDUCTIONS.as_slice(),
+        COUNTS.as_slice(),
+        LISTS.as_slice(),
+        TEXTS.as_slice(),
+        GROUPS.as_slice(),
+    ];
     all_right(&rt, rt.alloc(), &[ONE, TWO], &of_both)?;
-    all_right(&rt, rt.alloc(), &[TWO], &[NESTED, STRICT])
+    all_right(
+        &rt,
+        rt.alloc(),
+        &[TWO],
+        &[NESTED.as_slice(), STRICT.as_slice()],
+    )
 }
 
 /// First items far within a range, for leaves of 1,000 items.
-const FAR_WITHIN: &[Row<'_>] = &[
+static FAR_WITHIN: [Row<'_>; 2] = [
     (
         b"range 0 1000000\nmap mul 3\nfilter greater 100\nfindfirst\n",
         "Optional[102]\n",
@@ -200,10 +211,10 @@ const FAR_WITHIN: &[Row<'_>] = &[
 ];
 
 /// The first item of a range, for leaves of 4,096 items.
-const AT_THE_FRONT: &[Row<'_>] = &[(b"range 0 8192\nfilter less 1\nlimit 1\ntolist\n", "[0]\n")];
+static AT_THE_FRONT: [Row<'_>; 1] = [(b"range 0 8192\nfilter less 1\nlimit 1\ntolist\n", "[0]\n")];
 
 #[test]
 fn of_a_first_item(rt: HostRuntime) -> Result<(), Fail> {
-    right_at(&rt, rt.alloc(), ONE, FAR_WITHIN, 1000)?;
-    right_at(&rt, rt.alloc(), ONE, AT_THE_FRONT, 4096)
+    right_at(&rt, rt.alloc(), ONE, &FAR_WITHIN, 1000)?;
+    right_at(&rt, rt.alloc(), ONE, &AT_THE_FRONT, 4096)
 }

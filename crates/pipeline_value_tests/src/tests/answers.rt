@@ -16,10 +16,10 @@ use std::thread::Threads;
 use stealing_pool::Gate;
 
 /// The targets that each row runs at: a leaf an item, and the default.
-const TARGETS: [u64; 2] = [1, 0];
+static TARGETS: [u64; 2] = [1, 0];
 
 /// The numbers of workers that each row runs with at each target.
-const WORKERS: [u32; 4] = [1, 7, 2, 64];
+static WORKERS: [u32; 4] = [1, 7, 2, 64];
 
 /// Counts the leaves that are entered.
 #[derive(Drop)]
@@ -102,8 +102,8 @@ pub fn all_told<R: Threads + RandomSource + Abort + Sync>(
         least: u64::MAX,
         most: 0,
     };
-    for target in TARGETS {
-        for workers in WORKERS {
+    for &target in &TARGETS {
+        for &workers in &WORKERS {
             assert!(rt; workers >= 1 && workers <= 64 && target <= 1);
             let gate = Counts::new();
             let run = Run {

@@ -4,7 +4,7 @@ use super::answers::all_told;
 use std::test::Fail;
 
 // At target 1 each item is a leaf's, at the default a leaf has several: with one worker 25 of these hundred.
-const RANGES: [(&str, &str); 10] = [
+static RANGES: [(&str, &str); 10] = [
     (
         "range 0 100\nmap mod 7\ndistinct\ntolist",
         "[0, 1, 2, 3, 4, 5, 6]",
@@ -36,7 +36,7 @@ const RANGES: [(&str, &str); 10] = [
 ];
 
 // What comes to a `distinct` differs anyway, or not quite.
-const DIFFERING: [(&str, &str); 12] = [
+static DIFFERING: [(&str, &str); 12] = [
     (
         "range 0 30\nfilter divisible 7\ndistinct\nskip 2\ntolist",
         "[14, 21, 28]",
@@ -84,7 +84,7 @@ const DIFFERING: [(&str, &str); 12] = [
     ("numbers 1 2 1 3 1\nskip 1\ndistinct\ntolist", "[2, 1, 3]"),
 ];
 
-const LISTS: [(&str, &str); 4] = [
+static LISTS: [(&str, &str); 4] = [
     (
         "numbers 3 1 3 2 1 -9223372036854775808 2 9223372036854775807 -9223372036854775808 3\n\
          distinct\ntolist",
@@ -95,7 +95,7 @@ const LISTS: [(&str, &str); 4] = [
     ("numbers 4 5 4\nfilter less 0\ndistinct\ntolist", "[]"),
 ];
 
-const TEXTS: [(&str, &str); 5] = [
+static TEXTS: [(&str, &str); 5] = [
     (
         "lines 8\nb\na\nb\n\nab\na\n\nb\ndistinct\ntolist",
         "[b, a, , ab]",

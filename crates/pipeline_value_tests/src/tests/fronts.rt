@@ -4,7 +4,7 @@ use super::answers::all_told;
 use std::test::Fail;
 
 /// A front decides these. At target 1 the whole range has 65,536 leaves, and the fronts of all rows and the lists behind them fewer.
-const BY_FRONT: [(&str, &str); 6] = [
+static BY_FRONT: [(&str, &str); 6] = [
     (
         "range 0 1000000\nfilter divisible 3\ndistinct\nfindfirst",
         "Optional[0]",
@@ -32,7 +32,7 @@ const BY_FRONT: [(&str, &str); 6] = [
 ];
 
 /// The first front doesn't decide these; the second decides one of them.
-const BEHIND_FRONT: [(&str, &str); 3] = [
+static BEHIND_FRONT: [(&str, &str); 3] = [
     (
         "range 0 9000000\ndropwhile less 5000\nfindfirst",
         "Optional[5000]",

@@ -4,7 +4,7 @@ use super::answers::all_told;
 use std::test::Fail;
 
 // Groups of numbers, version by version.
-const NUMBER_GROUPS: [(&str, &str); 4] = [
+static NUMBER_GROUPS: [(&str, &str); 4] = [
     ("numbers 5 2 7 4 5\ngroupby mod 2 count", "{1=3, 0=2}"),
     (
         "numbers 1 2 3 4 5 6\ngroupby mod 2 groupby mod 3 count",
@@ -18,7 +18,7 @@ const NUMBER_GROUPS: [(&str, &str); 4] = [
 ];
 
 // Parts of numbers, and two results at once.
-const NUMBER_PARTS: [(&str, &str); 4] = [
+static NUMBER_PARTS: [(&str, &str); 4] = [
     (
         "numbers 1 3\npartition divisible 2 tolist",
         "{false=[1, 3], true=[]}",
@@ -35,7 +35,7 @@ const NUMBER_PARTS: [(&str, &str); 4] = [
 ];
 
 // Maps of numbers, and keys that come again.
-const NUMBER_MAPS: [(&str, &str); 4] = [
+static NUMBER_MAPS: [(&str, &str); 4] = [
     ("numbers 1 2 3 4\ntomap mod 2 self last", "{1=3, 0=4}"),
     ("numbers 1 2\ntomapstrict self negate", "{1=-1, 2=-2}"),
     ("numbers 1 2 2 1\ntomapstrict self self", "repeated 2"),
@@ -43,7 +43,7 @@ const NUMBER_MAPS: [(&str, &str); 4] = [
 ];
 
 // Groups and parts of texts, and two results at once.
-const TEXT_GROUPS: [(&str, &str); 7] = [
+static TEXT_GROUPS: [(&str, &str); 7] = [
     (
         "lines 3\nbb\na\ncc\ngroupby length joining +",
         "{2=bb+cc, 1=a}",
@@ -66,7 +66,7 @@ const TEXT_GROUPS: [(&str, &str); 7] = [
 ];
 
 // Maps of texts, and keys that come again.
-const TEXT_MAPS: [(&str, &str); 5] = [
+static TEXT_MAPS: [(&str, &str); 5] = [
     ("lines 3\nbb\na\ncc\ntomap length self last", "{2=cc, 1=a}"),
     ("lines 3\nbb\na\nbb\ntomap self length sum", "{bb=4, a=1}"),
     ("lines 2\nab\nc\ntomapstrict length self", "{2=ab, 1=c}"),

@@ -8,7 +8,7 @@ use pipeline_value::source_size;
 use std::process::Abort;
 use std::test::Fail;
 
-const RANGES: [(&str, &str); 9] = [
+static RANGES: [(&str, &str); 9] = [
     ("range 0 4611686018427387904\ncount", "4611686018427387904"),
     ("range 7 3\ncount", "0"),
     ("range -4 0\nskip 2\ncount", "2"),
@@ -26,7 +26,7 @@ const RANGES: [(&str, &str); 9] = [
     ("range 0 100\nlimit 0\ncount", "0"),
 ];
 
-const LISTS: [(&str, &str); 7] = [
+static LISTS: [(&str, &str); 7] = [
     ("closed 1 5\ncount", "5"),
     ("closed 5 4\ncount", "0"),
     ("numbers 4 4 4\nskip 1\ncount", "2"),
@@ -42,7 +42,7 @@ const LISTS: [(&str, &str); 7] = [
     ),
 ];
 
-const NOT_KNOWN: [(&str, &str); 1] = [("range 0 10\nskip 1\nfilter less 4\ncount", "3")];
+static NOT_KNOWN: [(&str, &str); 1] = [("range 0 10\nskip 1\nfilter less 4\ncount", "3")];
 
 fn has_size<R: Abort>(rt: &R, source: &NumberSource, wanted: u64) -> Result<(), Fail>
     requires { NumberSourceFits source.now }

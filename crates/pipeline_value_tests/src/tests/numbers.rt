@@ -3,7 +3,7 @@
 use super::answers::all_told;
 use std::test::Fail;
 
-const LISTS: [(&str, &str); 8] = [
+static LISTS: [(&str, &str); 8] = [
     ("numbers 5 2 7 4 5\ntolist", "[5, 2, 7, 4, 5]"),
     ("numbers 5 2 7 4 5\ndistinct\ntolist", "[5, 2, 7, 4]"),
     (
@@ -28,7 +28,7 @@ const LISTS: [(&str, &str); 8] = [
     ("numbers 5 2 7 4 5\ndropwhile less 7\ntolist", "[7, 4, 5]"),
 ];
 
-const ENDS: [(&str, &str); 8] = [
+static ENDS: [(&str, &str); 8] = [
     ("numbers 5 2 7 4 5\nsum", "23"),
     ("numbers 5 2 7 4 5\nproduct", "1400"),
     ("numbers 5 2 7 4 5\nmax", "Optional[7]"),
@@ -39,7 +39,7 @@ const ENDS: [(&str, &str); 8] = [
     ("numbers 5 2 7 4 5\nskip 2\nfindfirst", "Optional[7]"),
 ];
 
-const ENDS_OF_NOTHING: [(&str, &str); 5] = [
+static ENDS_OF_NOTHING: [(&str, &str); 5] = [
     ("numbers 5 2 7 4 5\nskip 5\nfindfirst", "Optional.empty"),
     ("numbers 5 2 7 4 5\nskip 5\nmax", "Optional.empty"),
     ("numbers 5 2 7 4 5\nskip 5\nsum", "0"),
@@ -48,7 +48,7 @@ const ENDS_OF_NOTHING: [(&str, &str); 5] = [
 ];
 
 // Numbers of 32 bits and others, by divisors at the ends of both kinds.
-const REMAINDERS: [(&str, &str); 8] = [
+static REMAINDERS: [(&str, &str); 8] = [
     (
         "numbers -2147483648 -7 -1 0 1 6 7 2147483647\nmap mod 1\ntolist",
         "[0, 0, 0, 0, 0, 0, 0, 0]",

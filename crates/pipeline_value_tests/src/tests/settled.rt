@@ -5,7 +5,7 @@ use std::process::Abort;
 use std::test::Fail;
 
 /// The places are near the front, far behind it, at an end of the parts that are counted, and nowhere.
-const RANGES: [(&str, &str); 16] = [
+static RANGES: [(&str, &str); 16] = [
     (
         "range 0 300000\nfilter divisible 3\nlimit 5000\nsum",
         "37492500",
@@ -69,7 +69,7 @@ const RANGES: [(&str, &str); 16] = [
     ),
 ];
 
-const LISTS: [(&str, &str); 6] = [
+static LISTS: [(&str, &str); 6] = [
     (
         "numbers 5 3 8 1 9 2\nfilter greater 2\nlimit 2\ntolist",
         "[5, 3]",

@@ -3,7 +3,7 @@
 use super::answers::all_told;
 use std::test::Fail;
 
-const LISTS: [(&str, &str); 7] = [
+static LISTS: [(&str, &str); 7] = [
     (
         "lines 4\na bc\n\nd\na\nflatmap words\ntolist",
         "[a, bc, , d, a]",
@@ -36,7 +36,7 @@ const LISTS: [(&str, &str); 7] = [
     ),
 ];
 
-const ENDS: [(&str, &str); 6] = [
+static ENDS: [(&str, &str); 6] = [
     ("lines 4\na bc\n\nd\na\nfindfirst", "Optional[a bc]"),
     ("lines 4\na bc\n\nd\na\njoining ,", "a bc,,d,a"),
     ("lines 4\na bc\n\nd\na\njoining , < >", "<a bc,,d,a>"),
@@ -45,7 +45,7 @@ const ENDS: [(&str, &str); 6] = [
     ("lines 4\na bc\n\nd\na\nnonematch starts d", "false"),
 ];
 
-const LENGTHS: [(&str, &str); 3] = [
+static LENGTHS: [(&str, &str); 3] = [
     ("lines 4\na bc\n\nd\na\nmap length\ntolist", "[4, 0, 1, 1]"),
     ("lines 1\né\nmap length\nsum", "2"),
     (

@@ -258,9 +258,12 @@ fn stages_tell_their_rows(rt: HostRuntime) {
     let map = Map::new(Times { factor: 2 });
     let filter = Filter::new(Above { limit: 2 });
     let flat_map = FlatMap::new(Copies { alloc: rt.alloc() });
-    assert!(rt; tells(&map, Operation::Map, Some(5)));
-    assert!(rt; tells(&filter, Operation::Filter, None));
-    assert!(rt; tells(&flat_map, Operation::FlatMap, None));
-    assert!(rt; tells(&Nothing::<i64>::new(), Operation::Map, Some(5)));
-    assert!(rt; tells(&Then::new(&map, &map), Operation::FlatMap, None));
+    let told = [
+        tells(&map, Operation::Map, Some(5)),
+        tells(&filter, Operation::Filter, None),
+        tells(&flat_map, Operation::FlatMap, None),
+        tells(&Nothing::<i64>::new(), Operation::Map, Some(5)),
+        tells(&Then::new(&map, &map), Operation::FlatMap, None),
+    ];
+    assert!(rt; told == [true; 5], "{told:?}");
 }

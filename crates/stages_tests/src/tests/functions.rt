@@ -81,8 +81,8 @@ fn is_below_five(x: i64) -> bool
 
 #[test]
 fn closures_answer_as_their_definitions(rt: HostRuntime) -> Result<(), Fail> {
-    assert!(rt; ten_times(4)? == 40 && added(2, 5)? == 7);
-    assert!(rt; is_below_five(4) && !is_below_five(5));
+    let numbers = [ten_times(4)?, added(2, 5)?];
+    assert!(rt; numbers == [40, 7] && is_below_five(4) && !is_below_five(5));
     Ok(())
 }
 
@@ -104,12 +104,16 @@ fn joins<T: Value + Drop, O: Operator<T>>(
 #[test]
 fn operators_join_two_values(rt: HostRuntime) -> Result<(), Fail> {
     let (least, most) = (i64::MIN, i64::MAX);
-    assert!(rt; joins(&WrapAdd::new(), &[(&2, &5, &7), (&most, &1, &least)])?);
-    assert!(rt; joins(&WrapMul::new(), &[(&-3, &5, &-15), (&least, &-1, &least)])?);
-    assert!(rt; joins(&Max::new(), &[(&-3, &5, &5)])? && joins(&&Max::new(), &[(&5, &-3, &5)])?);
-    assert!(rt; joins(&Min::new(), &[(&-3, &5, &-3)])?);
-    assert!(rt; joins(&FirstOf::new(), &[(&-3, &5, &-3)])?);
-    assert!(rt; joins(&LastOf::new(), &[(&-3, &5, &5)])?);
+    let joined = [
+        joins(&WrapAdd::new(), &[(&2, &5, &7), (&most, &1, &least)])?,
+        joins(&WrapMul::new(), &[(&-3, &5, &-15), (&least, &-1, &least)])?,
+        joins(&Max::new(), &[(&-3, &5, &5)])?,
+        joins(&&Max::new(), &[(&5, &-3, &5)])?,
+        joins(&Min::new(), &[(&-3, &5, &-3)])?,
+        joins(&FirstOf::new(), &[(&-3, &5, &-3)])?,
+        joins(&LastOf::new(), &[(&-3, &5, &5)])?,
+    ];
+    assert!(rt; joined == [true; 7], "{joined:?}");
     Ok(())
 }
 
@@ -117,9 +121,12 @@ fn operators_join_two_values(rt: HostRuntime) -> Result<(), Fail> {
 fn operators_join_two_texts(rt: HostRuntime) -> Result<(), Fail> {
     let first = String::from_str(rt.alloc(), "ab")?;
     let second = String::from_str(rt.alloc(), "b")?;
-    assert!(rt; joins(&Max::new(), &[(&first, &second, &second)])?);
-    assert!(rt; joins(&Min::new(), &[(&first, &second, &first)])?);
-    assert!(rt; joins(&FirstOf::new(), &[(&second, &first, &second)])?);
-    assert!(rt; joins(&LastOf::new(), &[(&second, &first, &first)])?);
+    let joined = [
+        joins(&Max::new(), &[(&first, &second, &second)])?,
+        joins(&Min::new(), &[(&first, &second, &first)])?,
+        joins(&FirstOf::new(), &[(&second, &first, &second)])?,
+        joins(&LastOf::new(), &[(&second, &first, &first)])?,
+    ];
+    assert!(rt; joined == [true; 4], "{joined:?}");
     Ok(())
 }

@@ -17,7 +17,7 @@ fn told(flags: StreamFlags) -> [bool; 4] {
 }
 
 /// What a source tells, and the flags.
-const TOLD: [(u32, [bool; 4]); 5] = [
+static TOLD: [(u32, [bool; 4]); 5] = [
     (SORTED_SET, [true, true, true, false]),
     (TOLD_NOTHING, [false, false, false, false]),
     (0x1, [true, false, false, false]),
@@ -27,7 +27,7 @@ const TOLD: [(u32, [bool; 4]); 5] = [
 
 #[test]
 fn a_source_tells_its_characteristics(rt: HostRuntime) {
-    for (characteristics, row) in TOLD {
+    for &(characteristics, row) in &TOLD {
         assert!(rt;
             told(StreamFlags::of(characteristics)) == row,
             "{characteristics}"
@@ -36,8 +36,10 @@ fn a_source_tells_its_characteristics(rt: HostRuntime) {
     let limited = StreamFlags::of(SORTED_SET)
         .after(Operation::Filter)
         .after(Operation::Limit);
-    assert!(rt; told(limited) == [true, true, false, true]);
-    assert!(rt; told(limited.after(Operation::Map)) == [false, false, false, true]);
+    let mapped = told(limited.after(Operation::Map));
+    assert!(rt;
+        told(limited) == [true, true, false, true] && mapped == [false, false, false, true]
+    );
 }
 
 /// Checks a row of the table: K for a flag that is kept, C for one that is cleared, S for one that is set.
