@@ -1,4 +1,4 @@
-use Rattle.std.proofs.Common.{◌≡◌, ◌<◌, ◌∙◌, fold, map, length, arith}
+use Rattle.std.proofs.Common.{◌<◌, ◌∙◌, fold, map, length, arith}
 use Rattle.collectors.proofs.StrandLaws.{is-some, folded-value, first-strand, strand-next, four-slices}
 use Rattle.collectors.proofs.strands.join_slices.Goals as goal
 

@@ -1,6 +1,5 @@
 use Rattle.std.proofs.Common.{◌≡◌, Some, option_map, map, fold, ap, sym, ◌∙◌}
 use Rattle.collectors.specs.Reductions.{reduce_add, reduced_from}
-use Rattle.stages.specs.Operators.{associative-tested}
 use Rattle.collectors.proofs.reducing.ReducingCollector.accumulate_all.Goals as goal
 
 pub returns : goal.returns

@@ -1,5 +1,4 @@
 use Rattle.std.proofs.Common.{rules, sym, map}
-use Rattle.std.proofs.lemmas.Grind.{common_steps}
 use Rattle.stages.specs.Passing.{flat_map-flat_map}
 use Rattle.stages.proofs.stateless.ThenStage.feed_all.Goals as goal
 
