@@ -1,4 +1,4 @@
-use Rattle.std.proofs.Common.{◌≡◌, ◌∙◌, sym, ap, length, arith}
+use Rattle.std.proofs.Common.{◌≡◌, ◌∙◌, sym, ap, arith}
 use Rattle.std.specs.Prelude.{count_by}
 use Rattle.pipeline_meaning.proofs.Blocks.{kept-all, kept-none}
 use Rattle.pipeline_meaning.proofs.number_blocks.keep_runs.Goals as goal
