@@ -8,9 +8,6 @@ this script was started; the first that fails ends the run. Last come a table of
 each second of the running checks), the wall and processor minutes of each part, its sum, how loaded the machine was, and alone on the last
 line the sum of all. A processor second of a loaded machine does less: the load is told by the share of time that the machine's host took
 away, and by a short fixed loop, which is timed again and again beside the least that it took.
-
-`rt ci` proves a crate anew for its must-fail edits, and removes that work in the end. Where KEPT_WORK names a folder, the work is linked into
-a folder NAME of it meanwhile, so that `checks/wrong_bodies.py` need not do it again.
 """
 
 import collections
@@ -25,13 +22,10 @@ import sys
 import threading
 import time
 
-from kept_work import link_all
-
 CLOSING = re.compile(r"(\d+) passed, (\d+) failed")
 KINDS = ("proof", "tests", "must-fail", "wrong bodies")
 TICKS = os.sysconf("SC_CLK_TCK")
 READ_EACH = 1
-LINK_EACH = 5
 SPEED_EACH = 20
 
 
@@ -44,11 +38,11 @@ def parents_of(number):
     return above
 
 
-Check = collections.namedtuple("Check", "crate kind kept seconds")
+Check = collections.namedtuple("Check", "crate kind seconds")
 
 
 def check_of(process):
-    """The check of this run that a process is, with the folder of its kept work and the seconds that it took until now; None of any other process."""
+    """The check of this run that a process is, with the seconds that it took until now; None of any other process."""
     words = (process / "cmdline").read_bytes().decode(errors="replace").split("\0")
     if not words[0].endswith("/rattle") or "--crate-name" not in words:
         return None
@@ -60,14 +54,14 @@ def check_of(process):
     folder = os.path.basename(os.readlink(process / "cwd"))
     kept = words[words.index("--incremental") + 1] if "--incremental" in words else ""
     kind = "wrong bodies" if "/wrong-bodies-" in kept else "must-fail" if folder.startswith("rt-edit-") else "tests" if "--test" in words else "proof"
-    return Check(words[words.index("--crate-name") + 1], kind, kept, sum(map(int, stat[11:15])) / TICKS)
+    return Check(words[words.index("--crate-name") + 1], kind, sum(map(int, stat[11:15])) / TICKS)
 
 
 class Checks:
     """Reads of the running checks, until told to end, how many seconds of a processor each took."""
 
     def __init__(self):
-        self.seconds, self.linked, self.over = {}, {}, threading.Event()
+        self.seconds, self.over = {}, threading.Event()
         self.reader = threading.Thread(target=self.read, daemon=True)
 
     def read(self):
@@ -78,17 +72,6 @@ class Checks:
                     found = check_of(process)
                     if found:
                         self.seconds[process.name, found.crate, found.kind] = found.seconds
-                        self.keep(found)
-
-    def keep(self, check):
-        """Links what a crate's must-fail edits begin with, every few seconds while they run. A kit that proves the crate beside its edits keeps that
-        in a folder of its own; with any other the work of the edits is linked, the last of which is the crate as it stands."""
-        to, now = os.environ.get("KEPT_WORK"), time.monotonic()
-        if to and check.kind == "must-fail" and check.kept and now >= self.linked.get(check.crate, 0) + LINK_EACH:
-            kept = pathlib.Path(check.kept)
-            seed = kept.with_name("seed")
-            link_all(seed if seed.is_dir() else kept, pathlib.Path(to, check.crate))
-            self.linked[check.crate] = time.monotonic()
 
     def table(self):
         """A line a crate, with its minutes of each kind, the dearest first."""

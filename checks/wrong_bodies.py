@@ -5,8 +5,8 @@
 
 Run it at the top of the repository, once the libraries are built (`rt ci`, or `rt all check`). An edit has the form of a must-fail edit:
 a line `file: src/..`, then pairs of lines `old: TEXT` and `new: TEXT`. One check tries as many edits of a crate as touch different
-functions, and reads no others than these and those that they call, over the work that earlier checks of the crate kept. An edit passes where
-the check says of the edited function itself that a goal isn't proved. That the function calls one that was refused, that a proof file names what
+functions, and proves no others than these: the proof of each other function is a hole, which stands for what its contract says. An edit passes
+where the check says of the edited function itself that a goal isn't proved. That the function calls one that was refused, that a proof file names what
 the edit took away, or that the text can't be read is no refusal. What a pack doesn't show so is tried alone. An edit outside functions, of a constant say, has a line
 `function: NAME` with the check's name of the function that has to be refused; without one it is tried alone, on the whole crate, and passes
 where any function is refused so.
@@ -19,6 +19,8 @@ Prints a line an edit, and last `N passed, M failed`.
 
 import collections
 import concurrent.futures
+import contextlib
+import copy
 import hashlib
 import importlib.machinery
 import importlib.util
@@ -30,8 +32,6 @@ import subprocess
 import sys
 import tempfile
 
-from kept_work import link_all
-
 FOLDER = "wrong-bodies"
 FUNCTION = re.compile(r"^( *)(?:pub(?:\([a-z]+\))? )?(?:(?:final|const|unsafe) )*fn (\w+)")
 OWNER = re.compile(r"^(?:pub )?(?:unsafe )?(impl\b.*|trait \w+)")
@@ -40,7 +40,13 @@ TOLD = re.compile(r"fn (\S+?): (.*)")
 UNPROVED_NOTE = re.compile(r"note: (src/\S+?):(\d+):\d+: it is not proved that ")
 PROOF_ERROR = re.compile(r"(?:\./)?proofs/(\S+?)/\w+\.antt:\d+:\d+: error: (.*)")
 GONE = re.compile(r"has no field|is not in scope|has no `|was not admitted")
-UNKNOWN = re.compile(r"rattle: error: `\w+` has ")
+UNKNOWN = re.compile(r"rattle: error: `\w+` has |\./proofs/\S+/Proof\.antt: error")
+SOUND = re.compile(r"proved|no holes|depends on a hole in .*")
+HOLE = """use Rattle.{module}.Statement.{{statement}}
+
+pub {name}_spec : {{M : Type 1}} → statement M
+{name}_spec = ?
+"""
 
 Function = collections.namedtuple("Function", "file module owner name folders first last")
 Told = collections.namedtuple("Told", "reasons notes errors")
@@ -149,6 +155,34 @@ def names_of(crate, function, told):
     named = [name for name in told if name.startswith(path) and name.endswith("::" + function.name)]
     owners = {name: name[len(path) : -len(function.name) - 2] for name in named}
     return [it for it in named if owners[it] == wanted] or [it for it in named if owners[it].startswith(wanted)] or named
+
+
+def is_called_by_itself(function, lines):
+    """Whether a function is in a cycle of calls: then one proof stands for the whole cycle."""
+    inside = "\n".join(lines[function.first + 1 : function.last + 1])
+    return len(function.folders) > 2 or re.search(rf"\b{function.name}\(", inside) is not None
+
+
+@contextlib.contextmanager
+def with_holes(crate, proved):
+    """A copy of a crate in which a function's proof is a hole, unless it is one of these, or in a cycle of calls."""
+    with tempfile.TemporaryDirectory(prefix="wrong-bodies-crate-") as room:
+        for part in RT.rtlib.PARTS:
+            if os.path.isdir(f"{crate.folder}/{part}"):
+                shutil.copytree(f"{crate.folder}/{part}", f"{room}/{part}")
+        for function in functions_in(crate):
+            lines = pathlib.Path(room, function.file).read_text(encoding="utf-8").split("\n")
+            path = path_of(function)
+            if path in proved or lines[function.last].endswith(";") or is_called_by_itself(function, lines):
+                continue
+            folder = pathlib.Path(room, "proofs", *path.split("::"))
+            shutil.rmtree(folder, ignore_errors=True)
+            folder.mkdir(parents=True)
+            module = ".".join([crate.name, "proofs", *path.split("::")])
+            (folder / "Proof.antt").write_text(HOLE.format(module=module, name=function.name), encoding="utf-8")
+        holed = copy.copy(crate)
+        holed.folder = room
+        yield holed
 
 
 class Edit:
@@ -260,9 +294,9 @@ def own_goal_of_any(crate, told):
 def why_not(edit, crate, told):
     """Says why an edit that was tried alone is no refused wrong body."""
     reasons = [told.reasons[name] for function in edit.functions for name in names_of(crate, function, told.reasons)]
-    shown = next((it for it in reasons if it != "proved"), None)
+    shown = next((it for it in reasons if not SOUND.fullmatch(it)), None)
     if not shown and not (edit.is_inside or told.errors):
-        shown = next((it for it in told.reasons.values() if it != "proved"), None)
+        shown = next((it for it in told.reasons.values() if not SOUND.fullmatch(it)), None)
     if not shown:
         return "NOT REFUSED: the function is proved with this edit"
     if told.errors:
@@ -275,7 +309,7 @@ class Passed:
 
     def __init__(self, crates, anew):
         self.store = RT.Kept(crates, anew)
-        self.script = b"".join(pathlib.Path(__file__).with_name(it).read_bytes() for it in ("wrong_bodies.py", "kept_work.py"))
+        self.script = pathlib.Path(__file__).read_bytes()
 
     def name(self, crate, edit):
         """The sum of all that an edit's result rests on."""
@@ -297,8 +331,8 @@ class Passed:
 class Trial:
     """The edits of one crate, each tried until it is shown as refused or has failed."""
 
-    def __init__(self, crate, edits, begun, kept):
-        self.crate, self.edits, self.begun, self.kept, self.told = crate, edits, begun, kept, {}
+    def __init__(self, crate, edits, kept):
+        self.crate, self.edits, self.kept, self.told = crate, edits, kept, {}
 
     def run(self):
         """What came of each edit: whether it passed, and what is told of it."""
@@ -332,14 +366,11 @@ class Trial:
     def check(self, texts, paths):
         """The lines of a check of these functions, or of the whole crate where there are none."""
         only = [word for it in dict.fromkeys(paths) for word in ("--only", it)]
-        if self.begun:
-            # (what an earlier check kept of its edits is no use to this one)
-            shutil.rmtree(self.kept)
-            link_all(self.begun, pathlib.Path(self.kept))
-        ran = RT.checked(self.crate, texts, ["--jobs", "1", *only], self.kept)
+        with with_holes(self.crate, paths) if only else contextlib.nullcontext(self.crate) as crate:
+            ran = RT.checked(crate, texts, ["--jobs", "1", *(only and ["--allow-holes"]), *only], self.kept)
         said = ran.stdout.rstrip("\n").split("\n")
         # (a name that the check has not, or has twice, is left to a check of the whole)
-        return self.check(texts, []) if only and any(map(UNKNOWN.search, said)) else said
+        return self.check(texts, []) if only and any(map(UNKNOWN.match, said)) else said
 
     def divide(self, pack, unread):
         """Tries the halves of a pack whose text can't be read."""
@@ -359,16 +390,10 @@ def try_crate(crate, passed):
     if lacking and len(known) < len(edits):
         return [(False, f"{crate.name}: its library {lacking[0]} is not built: `rt all check` builds it")]
     with tempfile.TemporaryDirectory(prefix="wrong-bodies-", ignore_cleanup_errors=True) as kept:
-        told = Trial(crate, [it for it in edits if it not in known], proved_work(crate), kept).run()
+        told = Trial(crate, [it for it in edits if it not in known], kept).run()
     passed.keep(crate, {it: text for it, (well, text) in told.items() if well})
     told |= {it: (True, f"{text} (by an earlier run of the same)") for it, text in known.items()}
     return [(told[it][0], f"{crate.name}/{it.name}: {told[it][1]}") for it in edits]
-
-
-def proved_work(crate):
-    """The folder with the proof of the crate as it stands, if there is one: what the gate linked (checks/timed.py), or the crate's own."""
-    folders = [pathlib.Path(os.environ["KEPT_WORK"], crate.name)] if "KEPT_WORK" in os.environ else []
-    return next((it for it in [*folders, pathlib.Path(crate.folder, "out", "incremental")] if it.is_dir()), None)
 
 
 def jobs():

@@ -1,3 +1,4 @@
+use Rattle.std.proofs.Common.{rules}
 -- The first item is what keeping the earlier of two leaves.
 use Rattle.std.proofs.Common.{ap, sym, ◌∙◌}
 use Rattle.std.specs.Fmt.{signed_decimal}
@@ -13,3 +14,7 @@ returns-in-First-clause-summary c = λ l.
     ap (λ merge. optional_text signed_decimal (reduced (number_join merge) l)) (ap (λ operator. operator.merge) c.new-in-First.ensures ∙ c.of-in-First.ensures.merge)
     ∙ ap (optional_text signed_decimal) (reduced-first_of l)
     ∙ ap (λ base. number_base_text base l) (sym c.in-First.is)
+
+-- bounded: a wrong body would search to its limit
+pub returns-in-Max-clause-summary : goal.returns-in-Max-clause-summary
+returns-in-Max-clause-summary c = search rules fits 60 depth 3

@@ -1,3 +1,4 @@
+use Rattle.std.proofs.Common.{rules}
 use Rattle.std.proofs.Common.{◌≡◌, ◌+◌, ap, subst, sym, map, drop, length, arith, ℕ, List, [], ◌∷◌, Err, Vec, Global, Bor}
 use Rattle.std.proofs.lemmas.List.{length-append}
 use Rattle.std.proofs.lemmas.Str.{is_utf8-from_IsUtf8}
@@ -35,3 +36,7 @@ returns-clause-texts c =
     let index : ℕ = c.loop-index.index in
     let same : index ≡ c.args.count = omega (arith, c.loop-index-test.false, c.loop-index.invariant.within) in
     texts_end (map (λ text. text.now) c.loop-index.texts.items) c.args.count index (index + 3) (lines_of c.loop-index.rest.now) _ same c.loop-index.invariant.read
+
+-- bounded: a wrong body would search to its limit
+pub loop-index-init : goal.loop-index-init
+loop-index-init c = search rules fits 60 depth 3

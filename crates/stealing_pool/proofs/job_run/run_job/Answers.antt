@@ -1,3 +1,4 @@
+use Rattle.std.proofs.Common.{rules}
 use Rattle.std.proofs.Common.{◌≡◌, ◌∙◌, ap, length, arith}
 use Rattle.split_tree.specs.SplitTree.{leaf_numbers}
 use Rattle.split_tree.specs.TreeLaws.{some_leaf, length-numbers_from}
@@ -10,3 +11,10 @@ seat_count-seats-requires g c =
     let some = some_leaf c.args.tree.now in
     let all = c.leaves.ensures in
     (c.requires.workers.0, omega arith)
+
+-- bounded: a wrong body would search to its limit
+pub run_case-requires-clause-seats : goal.run_case-requires-clause-seats
+run_case-requires-clause-seats g c κs within = search rules fits 60 depth 3
+
+pub run_case-requires-clause-lesser : goal.run_case-requires-clause-lesser
+run_case-requires-clause-lesser g c κs within = search rules fits 60 depth 3

@@ -1,3 +1,5 @@
+use Rattle.std.proofs.Common.{rules}
+use Rattle.std.proofs.lemmas.Grind.{common_steps}
 use Rattle.std.proofs.Common.{◌≡◌, ◌≤◌, ◌-◌, cond, length, map, take, ap, ◌∙◌, arith}
 use Rattle.std.specs.Prelude.{count_by}
 use Rattle.std.proofs.lemmas.List.{take-map, take_all}
@@ -15,3 +17,13 @@ returns-then-all-wanted-clause-shortest g c = λ some.
     let all : c.loop-item.all ≡ count_by counted (map content items) =
     c.loop-item.invariant.0 ∙ ap (λ xs. count_by counted (map content xs)) (take_all c.loop-item.item-index items (omega (arith, c.loop-item-test.false))) in
     omega (arith, fewer, front, all, c.if-all-wanted.true)
+
+-- bounded: a wrong body would search to its limit
+pub returns-then-counting-wanted-clause-counting : goal.returns-then-counting-wanted-clause-counting
+returns-then-counting-wanted-clause-counting g c = search rules fits 60 depth 3
+
+pub returns-then-counting-wanted-clause-shortest : goal.returns-then-counting-wanted-clause-shortest
+returns-then-counting-wanted-clause-shortest g c = search rules fits 60 depth 3
+
+pub loop-taken-preserved : goal.loop-taken-preserved
+loop-taken-preserved g c = grind (arith, common_steps) steps 400000

@@ -1,3 +1,4 @@
+use Rattle.std.proofs.Common.{rules}
 use Rattle.std.proofs.Common.{List, length, subst, refl}
 use Rattle.parallel_streams.specs.Cuts.{Ascends}
 use Rattle.parallel_streams.specs.Ends.{ends_of}
@@ -41,3 +42,7 @@ returns-clause-entries g c = λ left planned entries told.
       of_barriers = g.met.U.Stream.reported_law s.upstream workers target p entries made.0 before;
       of_run = made.2;
     }
+
+-- bounded: a wrong body would search to its limit
+pub returns-clause-planned : goal.returns-clause-planned
+returns-clause-planned g c = search rules fits 200 depth 4

@@ -10,3 +10,7 @@ invariant_of-result-clause-twos_most c = let n = c.unsigned_abs-number.result in
 
 pub invariant_of-result-clause-twos_divide : goal.invariant_of-result-clause-twos_divide
 invariant_of-result-clause-twos_divide c = let n = c.unsigned_abs-number.result in (twos n (search rules) (search rules)).2
+
+-- bounded: a wrong body would search to its limit
+pub returns : goal.returns
+returns c = search rules fits 60 depth 3
