@@ -2,9 +2,9 @@
 ghost use Rattle.spliterator.specs.Values.{IsI64};
 ghost use Rattle.stages.specs.Operators.{IsAssociative};
 
-use super::answers::collected;
+use super::answers::{check, check_list, collected, same};
 use super::functions::{Above, Both, Itself, Parity, Times};
-use super::{SETTINGS, at};
+use super::{Suite, at_each_setting};
 use collectors::{
     Collector, Counting, FilteringTo, First, GroupingBy, MappingTo, Partition, PartitioningBy,
     Reducing, SummingLong, Teeing, ToList, ToMap,
@@ -14,7 +14,6 @@ use parallel_streams::{Run, StreamError};
 use stages::{FirstOf, LastOf, Operator, WrapMul};
 use std::alloc::Global;
 use std::process::Abort;
-use std::test::Fail;
 use std::thread::Threads;
 use stealing_pool::NoGate;
 
@@ -28,6 +27,16 @@ pub fn has_entries<V: PartialEq>(found: &IndexMap<i64, V>, expected: &[(i64, V)]
         }
     }
     entries.next().is_none()
+}
+
+/// Checks the entries of a map, and their order.
+fn check_entries<V: PartialEq + Drop>(
+    rt: &impl Abort,
+    found: Result<IndexMap<i64, V>, StreamError>,
+    expected: &[(i64, V)],
+) -> Result<(), StreamError> {
+    same(rt, has_entries(&found?, expected), true);
+    Ok(())
 }
 
 /// Whether a map has these lists, in the order of their keys.
@@ -72,8 +81,7 @@ fn totals<R: Threads + Abort + Alloc<A = Global> + Sync>(
     for &(numbers, limit, expected) in &TOTALS {
         let totals = Teeing::new(Counting::<i64>::new(), SummingLong::new(Itself), Both);
         let above = FilteringTo::new(Above(limit), totals);
-        let found = by_parity(rt, run, numbers, above)?;
-        assert!(rt; has_entries(&found, expected), "above {limit}");
+        check_entries(rt, by_parity(rt, run, numbers, above), expected)?;
     }
     Ok(())
 }
@@ -105,10 +113,8 @@ fn check_parts<R: Threads + Abort + Alloc<A = Global> + Sync>(
 ) -> Result<(), StreamError> {
     for &(numbers, no, yes) in &PARTS {
         let found = parts(rt, run, numbers)?;
-        assert!(rt;
-            has_lists(&found.no, no) && has_lists(&found.yes, yes),
-            "{numbers:?}"
-        );
+        let are_wanted = (has_lists(&found.no, no), has_lists(&found.yes, yes));
+        same(rt, are_wanted, (true, true));
     }
     Ok(())
 }
@@ -130,24 +136,29 @@ fn maps<R: Threads + Abort + Alloc<A = Global> + Sync>(
     rt: &R,
     run: &Run<'_, NoGate>,
 ) -> Result<(), StreamError> {
-    let last = merged(rt, run, LastOf::<i64>::new())?;
-    assert!(rt; has_entries(&last, &[(1, 3), (0, 4)]));
-    let first = merged(rt, run, FirstOf::<i64>::new())?;
-    assert!(rt; has_entries(&first, &[(1, 1), (0, 2)]));
-    Ok(())
+    let last = merged(rt, run, LastOf::<i64>::new());
+    let first = merged(rt, run, FirstOf::<i64>::new());
+    check_entries(rt, last, &[(1, 3), (0, 4)]).and(check_entries(rt, first, &[(1, 1), (0, 2)]))
 }
 
-// The sum of the numbers doubled, and the numbers above 2.
-fn sum_and_list<R: Threads + Abort + Alloc<A = Global> + Sync>(
+// The sum of the numbers 1 to 4 doubled, and those above 2.
+fn sum_and_list<R: Threads + Alloc<A = Global> + Sync>(
     rt: &R,
     run: &Run<'_, NoGate>,
-) -> Result<(), StreamError> {
+) -> Result<(i64, Vec<i64>), StreamError> {
     let doubled = MappingTo::<i64, _, _>::new(Times(2), SummingLong::new(Itself));
     let large = FilteringTo::new(Above(2), ToList::<i64>::new(rt.alloc()));
     let both = Teeing::new(doubled, large, Both);
-    let (sum, list) = collected(rt, run, &[1, 2, 3, 4], &both)?;
-    assert!(rt; sum == 20 && list.as_slice() == [3, 4].as_slice());
-    Ok(())
+    collected(rt, run, &[1, 2, 3, 4], &both)
+}
+
+fn check_sum_and_list(
+    rt: &impl Abort,
+    found: Result<(i64, Vec<i64>), StreamError>,
+) -> Result<(), StreamError> {
+    let (sum, list) = found?;
+    same(rt, sum, 20);
+    check_list(rt, Ok(list), &[3, 4])
 }
 
 /// Numbers, ten times the first of them, and the product of all.
@@ -164,23 +175,24 @@ fn first_and_product<R: Threads + Abort + Alloc<A = Global> + Sync>(
     let tens = MappingTo::<i64, _, _>::new(Times(10), First::<i64>::new());
     let both = Teeing::new(tens, Reducing::<i64, _>::new(WrapMul::new()), Both);
     for &(numbers, wanted) in &PRODUCTS {
-        assert!(rt;
-            collected(rt, run, numbers, &both)? == wanted,
-            "{numbers:?}"
-        );
+        check(rt, collected(rt, run, numbers, &both), wanted)?;
     }
     Ok(())
 }
 
+/// Rows of one setting.
+pub fn rows<R: Threads + Abort + Alloc<A = Global> + Sync>(
+    rt: &R,
+    run: &Run<'_, NoGate>,
+) -> Result<(), StreamError> {
+    totals(rt, run)
+        .and(check_parts(rt, run))
+        .and(maps(rt, run))
+        .and(check_sum_and_list(rt, sum_and_list(rt, run)))
+        .and(first_and_product(rt, run))
+}
+
 #[test]
-fn groups_at_each_number_of_workers(rt: HostRuntime) -> Result<(), Fail> {
-    for &setting in &SETTINGS {
-        let run = at(setting);
-        totals(&rt, &run)?;
-        check_parts(&rt, &run)?;
-        maps(&rt, &run)?;
-        sum_and_list(&rt, &run)?;
-        first_and_product(&rt, &run)?;
-    }
-    Ok(())
+fn groups_at_each_number_of_workers(rt: HostRuntime) -> Result<(), StreamError> {
+    at_each_setting(&rt, Suite::Groups)
 }

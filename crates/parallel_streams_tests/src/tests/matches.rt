@@ -1,11 +1,12 @@
 //! Matches.
 
+use super::answers::{check, numbers};
 use super::functions::Below;
-use super::{SETTINGS, at};
-use parallel_streams::{Run, Source, Stream, StreamError, of};
+use super::{Suite, at_each_setting};
+use parallel_streams::{Run, Source, Stream, StreamError};
 use sources::RangeSplit;
 use std::alloc::Global;
-use std::test::Fail;
+use std::process::Abort;
 use std::thread::Threads;
 use stealing_pool::NoGate;
 
@@ -29,14 +30,19 @@ fn matches_of<R: Threads + Alloc<A = Global> + Sync>(
     Ok([all, any, none])
 }
 
-#[test]
-fn matches_at_each_number_of_workers(rt: HostRuntime) -> Result<(), Fail> {
-    for &setting in &SETTINGS {
-        for &(end, limit, wanted) in &MATCHES {
-            let numbers = of(RangeSplit::range(0, end)?);
-            let found = matches_of(&rt, &at(setting), &numbers, &Below(limit))?;
-            assert!(rt; found == wanted, "{end} numbers below {limit}");
-        }
+/// Rows of one setting.
+pub fn rows<R: Threads + Abort + Alloc<A = Global> + Sync>(
+    rt: &R,
+    run: &Run<'_, NoGate>,
+) -> Result<(), StreamError> {
+    for &(end, limit, wanted) in &MATCHES {
+        let found = matches_of(rt, run, &numbers(rt, 0, end), &Below(limit));
+        check(rt, found, wanted)?;
     }
     Ok(())
+}
+
+#[test]
+fn matches_at_each_number_of_workers(rt: HostRuntime) -> Result<(), StreamError> {
+    at_each_setting(&rt, Suite::Matches)
 }

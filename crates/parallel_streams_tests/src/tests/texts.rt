@@ -1,15 +1,15 @@
 //! Streams of texts.
 
+use super::answers::same;
 use super::functions::{Both, Itself};
 use super::words::{Length, Words};
-use super::{SETTINGS, at};
+use super::{Suite, at_each_setting};
 use collectors::{GroupingBy, Joining, MappingTo, SummingLong, Teeing};
 use indexmap::IndexMap;
 use parallel_streams::{Run, Stream, StreamError, of};
 use sources::LinesSplit;
 use std::alloc::Global;
 use std::process::Abort;
-use std::test::Fail;
 use std::thread::Threads;
 use stealing_pool::NoGate;
 
@@ -65,25 +65,22 @@ fn has(found: &IndexMap<i64, (String, i64)>, expected: &[(i64, &str, i64)]) -> b
     groups.next().is_none()
 }
 
-fn texts<R: Threads + Abort + Alloc<A = Global> + Sync>(
+/// Rows of one setting.
+pub fn rows<R: Threads + Abort + Alloc<A = Global> + Sync>(
     rt: &R,
     run: &Run<'_, NoGate>,
 ) -> Result<(), StreamError> {
     for &(lines, between, before, after, wanted) in &JOINED {
         let text = joined(rt, run, lines, between, before, after)?;
-        assert!(rt; text.as_str() == wanted, "{text}");
+        same(rt, text.as_str(), wanted);
     }
     for &(lines, expected) in &BY_LENGTH {
-        assert!(rt; has(&by_length(rt, run, lines)?, expected), "{lines:?}");
+        same(rt, has(&by_length(rt, run, lines)?, expected), true);
     }
     Ok(())
 }
 
 #[test]
-fn texts_at_each_number_of_workers(rt: HostRuntime) -> Result<(), Fail> {
-    for &setting in &SETTINGS {
-        let run = at(setting);
-        texts(&rt, &run)?;
-    }
-    Ok(())
+fn texts_at_each_number_of_workers(rt: HostRuntime) -> Result<(), StreamError> {
+    at_each_setting(&rt, Suite::Texts)
 }
