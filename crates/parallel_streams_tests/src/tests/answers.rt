@@ -180,8 +180,7 @@ pub fn check_list(
     found: Result<Vec<i64>, StreamError>,
     wanted: &[i64],
 ) -> Result<(), StreamError> {
-    let found = found?;
-    assert!(rt; found.as_slice() == wanted, "{found:?}");
+    same(rt, found?.as_slice(), wanted);
     Ok(())
 }
 

@@ -46,34 +46,54 @@ impl Test<i64> for All<'_> {
     }
 }
 
-/// How often a function was asked since it was last told.
-fn times(asked: &AtomicU64) -> u64 {
-    asked.swap(0, Ordering::SeqCst)
+/// How often the functions before a barrier and the one behind it were asked.
+#[derive(Drop)]
+struct Asked {
+    mapped: AtomicU64,
+    tested: AtomicU64,
+    behind: AtomicU64,
+}
+
+/// These numbers, which begin anew.
+fn times(asked: &Asked) -> [u64; 3] {
+    [
+        asked.mapped.swap(0, Ordering::SeqCst),
+        asked.tested.swap(0, Ordering::SeqCst),
+        asked.behind.swap(0, Ordering::SeqCst),
+    ]
 }
 
 // The numbers 2, 3 and 4 of five, behind two functions, a barrier and another function.
 fn three_of_five<R: Threads + Abort + Alloc<A = Global> + Sync>(
     rt: &R,
     run: &Run<'_, NoGate>,
-    [mapped, tested, behind]: [&AtomicU64; 3],
+    asked: &Asked,
 ) -> Result<Vec<i64>, StreamError> {
     let items = numbers(rt, 0, 5)
-        .map(Itself { asked: mapped })
-        .filter(All { asked: tested })
+        .map(Itself {
+            asked: &asked.mapped,
+        })
+        .filter(All {
+            asked: &asked.tested,
+        })
         .skip(2)
-        .map(Itself { asked: behind });
+        .map(Itself {
+            asked: &asked.behind,
+        });
     listed(rt, run, &items)
 }
 
 // Of five items, and of the three behind a barrier.
 #[test]
 fn functions_are_asked_once_an_item(rt: HostRuntime) -> Result<(), StreamError> {
-    let (mapped, tested, behind) = (AtomicU64::new(0), AtomicU64::new(0), AtomicU64::new(0));
+    let asked = Asked {
+        mapped: AtomicU64::new(0),
+        tested: AtomicU64::new(0),
+        behind: AtomicU64::new(0),
+    };
     for &setting in &SETTINGS {
-        let found = three_of_five(&rt, &at(setting), [&mapped, &tested, &behind]);
-        check_list(&rt, found, &[2, 3, 4])?;
-        let asked = [times(&mapped), times(&tested), times(&behind)];
-        same(&rt, asked, [5, 5, 3]);
+        check_list(&rt, three_of_five(&rt, &at(setting), &asked), &[2, 3, 4])?;
+        same(&rt, times(&asked), [5, 5, 3]);
     }
     Ok(())
 }

@@ -18,16 +18,19 @@ static MATCHES: [(i64, i64, [bool; 3]); 4] = [
     (10, 1, [false, true, false]),
 ];
 
-fn matches_of<R: Threads + Alloc<A = Global> + Sync>(
+fn check_matches<R: Threads + Abort + Alloc<A = Global> + Sync>(
     rt: &R,
     run: &Run<'_, NoGate>,
     numbers: &Source<RangeSplit>,
     below: &Below,
-) -> Result<[bool; 3], StreamError> {
-    let all = numbers.all_match(rt, rt.alloc(), run, below)?;
-    let any = numbers.any_match(rt, rt.alloc(), run, below)?;
-    let none = numbers.none_match(rt, rt.alloc(), run, below)?;
-    Ok([all, any, none])
+    [all, any, none]: [bool; 3],
+) -> Result<(), StreamError> {
+    let are_all = numbers.all_match(rt, rt.alloc(), run, below);
+    let are_any = numbers.any_match(rt, rt.alloc(), run, below);
+    let are_none = numbers.none_match(rt, rt.alloc(), run, below);
+    check(rt, are_all, all)
+        .and(check(rt, are_any, any))
+        .and(check(rt, are_none, none))
 }
 
 /// Rows of one setting.
@@ -36,8 +39,7 @@ pub fn rows<R: Threads + Abort + Alloc<A = Global> + Sync>(
     run: &Run<'_, NoGate>,
 ) -> Result<(), StreamError> {
     for &(end, limit, wanted) in &MATCHES {
-        let found = matches_of(rt, run, &numbers(rt, 0, end), &Below(limit));
-        check(rt, found, wanted)?;
+        check_matches(rt, run, &numbers(rt, 0, end), &Below(limit), wanted)?;
     }
     Ok(())
 }

@@ -1,10 +1,12 @@
 //! Sizes that are known before anything runs, and the flags.
+ghost use Rattle.std.specs.Prelude.{◌<◌, ◌^◌};
 
 use super::SETTINGS;
 use super::answers::{check, counted, numbers, same};
 use super::functions::{Above, Itself};
 use super::gates::Watch;
 use parallel_streams::{Run, Stream, StreamError};
+use stages::StreamFlags;
 use std::alloc::Global;
 use std::process::Abort;
 use std::thread::Threads;
@@ -26,6 +28,24 @@ static KNOWN: [(i64, u64, u64, i64); 5] = [
     ),
 ];
 
+// What a stream tells behind a limit: its flags, its size where it is known, and its number of items.
+fn behind_limit<R: Threads + Alloc<A = Global> + Sync, X: Stream<Item = i64> + Drop + Sync>(
+    rt: &R,
+    run: &Run<'_, Watch>,
+    numbers: X,
+    most: u64,
+) -> (StreamFlags, Option<u64>, Result<i64, StreamError>)
+where
+    X::Progress: Send + Sync,
+    X::Part: Send,
+    requires ready { X.ready numbers }
+    requires within { most < 2 ^ 63 }
+{
+    let limited = numbers.limit(most);
+    let count = counted(rt, run, &limited);
+    (limited.flags(), limited.known_size(), count)
+}
+
 // Where memory is wanted the count is told all the same.
 fn check_known<R: Threads + Abort + Alloc<A = Global> + Sync>(
     rt: &R,
@@ -33,9 +53,9 @@ fn check_known<R: Threads + Abort + Alloc<A = Global> + Sync>(
     (end, skipped, most, size): (i64, u64, u64, i64),
 ) {
     assert!(rt; skipped < 9_223_372_036_854_775_808 && most < 9_223_372_036_854_775_808);
-    let middle = numbers(rt, 0, end).map(Itself).skip(skipped).limit(most);
-    same(rt, middle.known_size(), Some(size.unsigned_abs()));
-    same(rt, counted(rt, run, &middle), Ok(size));
+    let rest = numbers(rt, 0, end).map(Itself).skip(skipped);
+    let (_, known, count) = behind_limit(rt, run, rest, most);
+    same(rt, (known, count), (Some(size.unsigned_abs()), Ok(size)));
 }
 
 // A filter clears the size, whether it keeps more items than a limit or as many.
@@ -44,16 +64,16 @@ fn check_cleared<R: Threads + Abort + Alloc<A = Global> + Sync>(
     run: &Run<'_, Watch>,
     most: u32,
 ) -> Result<(), StreamError> {
-    let above = numbers(rt, 0, 10).filter(Above(4)).limit(u64::from(most));
-    let flags = above.flags();
+    let above = numbers(rt, 0, 10).filter(Above(4));
+    let (flags, known, count) = behind_limit(rt, run, above, u64::from(most));
     let told = [
         flags.is_distinct(),
         flags.is_sized(),
         flags.is_short_circuit(),
     ];
     same(rt, told, [true, false, true]);
-    same(rt, above.known_size(), None);
-    check(rt, counted(rt, run, &above), i64::from(most))
+    same(rt, known, None);
+    check(rt, count, i64::from(most))
 }
 
 #[test]

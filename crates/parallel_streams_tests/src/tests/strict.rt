@@ -2,47 +2,51 @@
 
 use super::answers::same;
 use super::functions::{Itself, Plus};
-use super::groups::has_entries;
+use super::groups::check_entries;
 use super::words::{Length, Text};
 use super::{Suite, at_each_setting};
 use indexmap::IndexMap;
 use parallel_streams::{MapError, Run, Stream, StreamError, of};
 use sources::{LinesSplit, SliceSplit};
 use std::alloc::Global;
+use std::fmt::Debug;
 use std::process::Abort;
 use std::thread::Threads;
 use stealing_pool::NoGate;
 
 /// Checks the entries of a map, or the key that repeats.
-fn check_map<V: PartialEq + Drop>(
+fn check_map<V: Debug + PartialEq + Drop>(
     rt: &impl Abort,
     answer: Result<IndexMap<i64, V>, MapError<i64>>,
-    expected: Result<&[(i64, V)], i64>,
+    (keys, values, repeated): (&[i64], &[V], Option<i64>),
 ) -> Result<(), StreamError> {
-    let is_wanted = match (answer, expected) {
-        (Ok(map), Ok(entries)) => has_entries(&map, entries),
-        (Err(MapError::DuplicateKey(key)), Err(wanted)) => key == wanted,
-        (Err(MapError::DuplicateKey(_)), Ok(_)) | (Ok(_), Err(_)) => false,
-        (Err(MapError::NoMemory), _) => return Err(StreamError::NoMemory),
-        (Err(MapError::BadWorkers), _) => return Err(StreamError::BadWorkers),
-        (Err(MapError::BadTarget), _) => return Err(StreamError::BadTarget),
+    let found = match answer {
+        Ok(map) => Ok(map),
+        Err(MapError::DuplicateKey(key)) => {
+            same(rt, Some(key), repeated);
+            return Ok(());
+        }
+        Err(MapError::NoMemory) => Err(StreamError::NoMemory),
+        Err(MapError::BadWorkers) => Err(StreamError::BadWorkers),
+        Err(MapError::BadTarget) => Err(StreamError::BadTarget),
     };
-    same(rt, is_wanted, true);
-    Ok(())
+    same(rt, None, repeated);
+    check_entries(rt, found, keys, values)
 }
 
-/// Numbers, and each to the next one, or the key that comes again. 1 is the first key that is there twice, and 2 the first that comes again.
-static NUMBERS: [(&[i64], Result<&[(i64, i64)], i64>); 4] = [
-    (&[1, 2, 2, 1], Err(2)),
-    (&[2, 2, 1, 1], Err(2)),
-    (&[3, 4], Ok(&[(3, 4), (4, 5)])),
-    (&[], Ok(&[])),
+/// Numbers, and each to the next one as keys and values, or the key that comes again. 1 is the first key that is there twice, and 2 the first that
+/// comes again.
+static NUMBERS: [(&[i64], (&[i64], &[i64], Option<i64>)); 4] = [
+    (&[1, 2, 2, 1], (&[], &[], Some(2))),
+    (&[2, 2, 1, 1], (&[], &[], Some(2))),
+    (&[3, 4], (&[3, 4], &[4, 5], None)),
+    (&[], (&[], &[], None)),
 ];
 
 /// Lines, and the length of each to the line, or the key that comes again.
-static LINES: [(&str, Result<&[(i64, &str)], i64>); 2] = [
-    ("ab\ncd\n", Err(2)),
-    ("ab\nc\n", Ok(&[(2, "ab"), (1, "c")])),
+static LINES: [(&str, (&[i64], &[&str], Option<i64>)); 2] = [
+    ("ab\ncd\n", (&[], &[], Some(2))),
+    ("ab\nc\n", (&[2, 1], &["ab", "c"], None)),
 ];
 
 /// Rows of one setting.

@@ -53,16 +53,15 @@ fn by_length<R: Threads + Alloc<A = Global> + Sync>(
 }
 
 // Whether a map has these lengths, joined lines and sums, in this order.
-fn has(found: &IndexMap<i64, (String, i64)>, expected: &[(i64, &str, i64)]) -> bool {
+fn has(found: IndexMap<i64, (String, i64)>, expected: &[(i64, &str, i64)]) -> bool {
     let mut groups = found.iter();
+    let mut is_so = found.len() == expected.len();
     for (length, text, sum) in expected {
-        match groups.next() {
-            Some((key, value)) if key == length && value.0.as_str() == *text && value.1 == *sum =>
-                {}
-            _ => return false,
+        if let Some((key, value)) = groups.next() {
+            is_so &= (*key, value.0.as_str(), value.1) == (*length, *text, *sum);
         }
     }
-    groups.next().is_none()
+    is_so
 }
 
 /// Rows of one setting.
@@ -75,7 +74,7 @@ pub fn rows<R: Threads + Abort + Alloc<A = Global> + Sync>(
         same(rt, text.as_str(), wanted);
     }
     for &(lines, expected) in &BY_LENGTH {
-        same(rt, has(&by_length(rt, run, lines)?, expected), true);
+        same(rt, has(by_length(rt, run, lines)?, expected), true);
     }
     Ok(())
 }
