@@ -21,7 +21,10 @@ mod strict;
 mod texts;
 mod words;
 
-use parallel_streams::Run;
+use parallel_streams::{Run, StreamError};
+use std::alloc::Global;
+use std::process::Abort;
+use std::thread::Threads;
 use stealing_pool::NoGate;
 
 /// The workers and the target of each row: at target 1 there is a leaf an item, and 0 is the default. Requests for memory are refused in turn by
@@ -44,4 +47,42 @@ fn at((workers, target): (u32, u64)) -> Run<'static, NoGate> {
         target,
         gate: &NoGate,
     }
+}
+
+/// The rows that are run at each setting: those of a module.
+#[derive(Clone, Copy)]
+enum Suite {
+    Borrowed,
+    Groups,
+    Matches,
+    Numbers,
+    OwnCollector,
+    OwnFunctions,
+    OwnSource,
+    OwnStage,
+    StrictMaps,
+    Texts,
+}
+
+fn at_each_setting<R: Threads + Abort + Alloc<A = Global> + Sync>(
+    rt: &R,
+    suite: Suite,
+) -> Result<(), StreamError> {
+    for &setting in &SETTINGS {
+        let run = &at(setting);
+        let told = match suite {
+            Suite::Borrowed => borrowed::rows(rt, run),
+            Suite::Groups => groups::rows(rt, run),
+            Suite::Matches => matches::rows(rt, run),
+            Suite::Numbers => rows::rows(rt, run),
+            Suite::OwnCollector => own_collector::rows(rt, run),
+            Suite::OwnFunctions => own_functions::rows(rt, run),
+            Suite::OwnSource => own_source::rows(rt, run),
+            Suite::OwnStage => own_stage::rows(rt, run),
+            Suite::StrictMaps => strict::rows(rt, run),
+            Suite::Texts => texts::rows(rt, run),
+        };
+        told?;
+    }
+    Ok(())
 }

@@ -1,17 +1,27 @@
-//! Terminal operations at the end of any stream, so that a row asks for little more than its stream's type.
+//! Terminal operations at the end of any stream, so that a row asks for little more than its stream's type, and the checks of what they answer. A check takes
+//! an answer as it comes, so that a row keeps nothing that it has to let go of.
 ghost use Rattle.parallel_streams.specs.Terminals.{IsLeftIdentity};
 ghost use Rattle.spliterator.specs.Values.{IsI64};
 ghost use Rattle.stages.specs.Operators.{IsAssociative};
 
 use super::functions::Itself;
 use collectors::{Collector, SummingLong, ToList};
-use parallel_streams::{Run, Stream, StreamError, of};
-use sources::SliceSplit;
+use parallel_streams::{Run, Source, Stream, StreamError, of};
+use sources::{RangeSplit, SliceSplit};
 use stages::Operator;
 use std::alloc::Global;
+use std::fmt::Debug;
 use std::process::Abort;
 use std::thread::Threads;
 use stealing_pool::{Gate, NoGate, RunReport};
+
+/// The items of a stream, and what each run tells of its leaves.
+pub type Reported = Result<(Vec<i64>, RunReport), StreamError>;
+
+/// The numbers from one up to another.
+pub fn numbers(rt: &impl Abort, start: i64, end: i64) -> Source<RangeSplit> {
+    of(RangeSplit::range(start, end).expect(rt, "a range"))
+}
 
 /// The items of a stream.
 pub fn listed<R: Threads + Alloc<A = Global> + Sync, H: Gate + Sync, X: Stream<Item = i64> + Sync>(
@@ -32,7 +42,7 @@ pub fn reported<
     R: Threads + Alloc<A = Global> + Sync,
     H: Gate + Sync,
     X: Stream<Item = i64> + Sync,
->(rt: &R, run: &Run<'_, H>, stream: &X) -> Result<(Vec<i64>, RunReport), StreamError>
+>(rt: &R, run: &Run<'_, H>, stream: &X) -> Reported
 where
     X::Progress: Send + Sync,
     X::Part: Send,
@@ -104,7 +114,7 @@ pub fn limited<
     R: Threads + Alloc<A = Global> + Sync,
     H: Gate + Sync,
     X: Stream<Item = i64> + Drop + Sync,
->(rt: &R, run: &Run<'_, H>, numbers: X, most: u32) -> Result<(Vec<i64>, RunReport), StreamError>
+>(rt: &R, run: &Run<'_, H>, numbers: X, most: u32) -> Reported
 where
     X::Progress: Send + Sync,
     X::Part: Send,
@@ -149,12 +159,32 @@ pub fn joined<R: Threads + Alloc<A = Global> + Sync, O: Operator<i64> + Sync>(
     of(SliceSplit::new(numbers)).reduce_optional(rt, rt.alloc(), run, operator)
 }
 
-/// Checks a list of numbers.
-pub fn check_list(rt: &impl Abort, found: &[i64], wanted: &[i64]) {
-    assert!(rt; found == wanted, "{found:?}");
+/// Checks a value.
+pub fn same<T: Copy + PartialEq + Debug>(rt: &impl Abort, found: T, wanted: T) {
+    assert!(rt; found == wanted, "{found:?} in the place of {wanted:?}");
 }
 
-/// Checks a number, or that there is none.
-pub fn check_value(rt: &impl Abort, found: Option<i64>, wanted: Option<i64>) {
-    assert!(rt; found == wanted, "{found:?}");
+/// Checks an answer.
+pub fn check<T: Copy + PartialEq + Debug>(
+    rt: &impl Abort,
+    found: Result<T, StreamError>,
+    wanted: T,
+) -> Result<(), StreamError> {
+    same(rt, found?, wanted);
+    Ok(())
+}
+
+/// Checks a list of numbers.
+pub fn check_list(
+    rt: &impl Abort,
+    found: Result<Vec<i64>, StreamError>,
+    wanted: &[i64],
+) -> Result<(), StreamError> {
+    same(rt, found?.as_slice(), wanted);
+    Ok(())
+}
+
+/// Checks the items that a report came with.
+pub fn check_items(rt: &impl Abort, found: Reported, wanted: &[i64]) -> Result<(), StreamError> {
+    check_list(rt, Ok(found?.0), wanted)
 }

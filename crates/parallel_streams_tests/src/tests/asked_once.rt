@@ -1,14 +1,16 @@
 //! How often a caller's functions are asked.
 ghost use Rattle.std.specs.Prelude.{true};
 
-use super::answers::{check_list, listed};
+use super::answers::{check_list, listed, numbers, same};
 use super::{SETTINGS, at};
-use parallel_streams::{Stream, of};
-use sources::RangeSplit;
+use parallel_streams::{Run, Stream, StreamError};
 use spliterator::NoMemory;
 use stages::{Mapping, Test};
+use std::alloc::Global;
+use std::process::Abort;
 use std::sync::atomic::{AtomicU64, Ordering};
-use std::test::Fail;
+use std::thread::Threads;
+use stealing_pool::NoGate;
 
 /// Each number as it is. It counts how often it was asked.
 #[derive(Drop)]
@@ -44,26 +46,54 @@ impl Test<i64> for All<'_> {
     }
 }
 
-fn times(asked: &AtomicU64) -> u64 {
-    asked.load(Ordering::SeqCst)
+/// How often the functions before a barrier and the one behind it were asked.
+#[derive(Drop)]
+struct Asked {
+    mapped: AtomicU64,
+    tested: AtomicU64,
+    behind: AtomicU64,
+}
+
+/// These numbers, which begin anew.
+fn times(asked: &Asked) -> [u64; 3] {
+    [
+        asked.mapped.swap(0, Ordering::SeqCst),
+        asked.tested.swap(0, Ordering::SeqCst),
+        asked.behind.swap(0, Ordering::SeqCst),
+    ]
+}
+
+// The numbers 2, 3 and 4 of five, behind two functions, a barrier and another function.
+fn three_of_five<R: Threads + Abort + Alloc<A = Global> + Sync>(
+    rt: &R,
+    run: &Run<'_, NoGate>,
+    asked: &Asked,
+) -> Result<Vec<i64>, StreamError> {
+    let items = numbers(rt, 0, 5)
+        .map(Itself {
+            asked: &asked.mapped,
+        })
+        .filter(All {
+            asked: &asked.tested,
+        })
+        .skip(2)
+        .map(Itself {
+            asked: &asked.behind,
+        });
+    listed(rt, run, &items)
 }
 
 // Of five items, and of the three behind a barrier.
 #[test]
-fn functions_are_asked_once_an_item(rt: HostRuntime) -> Result<(), Fail> {
+fn functions_are_asked_once_an_item(rt: HostRuntime) -> Result<(), StreamError> {
+    let asked = Asked {
+        mapped: AtomicU64::new(0),
+        tested: AtomicU64::new(0),
+        behind: AtomicU64::new(0),
+    };
     for &setting in &SETTINGS {
-        let mapped = AtomicU64::new(0);
-        let tested = AtomicU64::new(0);
-        let behind = AtomicU64::new(0);
-        let items = of(RangeSplit::range(0, 5)?)
-            .map(Itself { asked: &mapped })
-            .filter(All { asked: &tested })
-            .skip(2)
-            .map(Itself { asked: &behind });
-        let found = listed(&rt, &at(setting), &items)?;
-        check_list(&rt, &found, &[2, 3, 4]);
-        let asked = [times(&mapped), times(&tested), times(&behind)];
-        assert!(rt; asked == [5, 5, 3], "{asked:?}");
+        check_list(&rt, three_of_five(&rt, &at(setting), &asked), &[2, 3, 4])?;
+        same(&rt, times(&asked), [5, 5, 3]);
     }
     Ok(())
 }

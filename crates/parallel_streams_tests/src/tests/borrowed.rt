@@ -1,12 +1,12 @@
 //! Barriers behind a source that borrows, in a caller that names the borrow.
 
-use super::answers::{check_list, limited};
+use super::answers::{Reported, check, check_items, limited};
 use super::functions::Below;
-use super::{SETTINGS, at};
+use super::{Suite, at_each_setting};
 use parallel_streams::{Run, Stream, StreamError, of};
 use sources::SliceSplit;
 use std::alloc::Global;
-use std::test::Fail;
+use std::process::Abort;
 use std::thread::Threads;
 use stealing_pool::NoGate;
 
@@ -14,9 +14,9 @@ fn second_and_third<R: Threads + Alloc<A = Global> + Sync>(
     rt: &R,
     run: &Run<'_, NoGate>,
     numbers: &[i64],
-) -> Result<Vec<i64>, StreamError> {
+) -> Reported {
     let below = of(SliceSplit::new(numbers)).filter(Below(10));
-    Ok(limited(rt, run, below.skip(1), 2)?.0)
+    limited(rt, run, below.skip(1), 2)
 }
 
 fn count_of_words<'a, R: Threads + Alloc<A = Global> + Sync>(
@@ -29,15 +29,18 @@ fn count_of_words<'a, R: Threads + Alloc<A = Global> + Sync>(
         .count(rt, rt.alloc(), run)
 }
 
+/// Rows of one setting.
+pub fn rows<R: Threads + Abort + Alloc<A = Global> + Sync>(
+    rt: &R,
+    run: &Run<'_, NoGate>,
+) -> Result<(), StreamError> {
+    let pair = second_and_third(rt, run, &[4, 15, 8, 16, 2, 3]);
+    // the size of the source is known, and that of its words that differ is not
+    let words = count_of_words(rt, run, &["b", "a", "b", "c", "a"]);
+    check_items(rt, pair, &[8, 2]).and(check(rt, words, 3))
+}
+
 #[test]
-fn barriers_behind_what_is_borrowed(rt: HostRuntime) -> Result<(), Fail> {
-    for &setting in &SETTINGS {
-        let run = at(setting);
-        let pair = second_and_third(&rt, &run, &[4, 15, 8, 16, 2, 3])?;
-        check_list(&rt, &pair, &[8, 2]);
-        // the size of the source is known, and that of its words that differ is not
-        let words = count_of_words(&rt, &run, &["b", "a", "b", "c", "a"])?;
-        assert!(rt; words == 3);
-    }
-    Ok(())
+fn barriers_behind_what_is_borrowed(rt: HostRuntime) -> Result<(), StreamError> {
+    at_each_setting(&rt, Suite::Borrowed)
 }

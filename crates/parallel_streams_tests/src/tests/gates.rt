@@ -1,6 +1,6 @@
 //! The gate of the tests: each other type of gate would be one more copy of a run in the compiled tests.
 
-use spliterator::NoMemory;
+use parallel_streams::StreamError;
 use std::hint;
 use std::sync::atomic::{AtomicU64, Ordering};
 use stealing_pool::Gate;
@@ -64,11 +64,11 @@ impl Watch {
     }
 
     /// Whether nobody waited in vain. Where one did, no second thread came: its start wanted memory.
-    pub fn all_came(&self) -> Result<(), NoMemory> {
+    pub fn all_came(&self) -> Result<(), StreamError> {
         if self.missed.load(Ordering::SeqCst) == 0 {
             Ok(())
         } else {
-            Err(NoMemory)
+            Err(StreamError::NoMemory)
         }
     }
 }

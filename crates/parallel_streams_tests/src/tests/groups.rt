@@ -2,9 +2,9 @@
 ghost use Rattle.spliterator.specs.Values.{IsI64};
 ghost use Rattle.stages.specs.Operators.{IsAssociative};
 
-use super::answers::collected;
+use super::answers::{check, check_list, collected, same};
 use super::functions::{Above, Both, Itself, Parity, Times};
-use super::{SETTINGS, at};
+use super::{Suite, at_each_setting};
 use collectors::{
     Collector, Counting, FilteringTo, First, GroupingBy, MappingTo, Partition, PartitioningBy,
     Reducing, SummingLong, Teeing, ToList, ToMap,
@@ -13,21 +13,22 @@ use indexmap::IndexMap;
 use parallel_streams::{Run, StreamError};
 use stages::{FirstOf, LastOf, Operator, WrapMul};
 use std::alloc::Global;
+use std::fmt::Debug;
 use std::process::Abort;
-use std::test::Fail;
 use std::thread::Threads;
 use stealing_pool::NoGate;
 
-/// Whether a map has these entries, in this order.
-pub fn has_entries<V: PartialEq>(found: &IndexMap<i64, V>, expected: &[(i64, V)]) -> bool {
-    let mut entries = found.iter();
-    for (key, value) in expected {
-        match entries.next() {
-            Some((found, met)) if found == key && met == value => {}
-            _ => return false,
-        }
-    }
-    entries.next().is_none()
+/// Checks the keys of a map, and the value of each.
+pub fn check_entries<V: Debug + PartialEq + Drop>(
+    rt: &impl Abort,
+    found: Result<IndexMap<i64, V>, StreamError>,
+    keys: &[i64],
+    values: &[V],
+) -> Result<(), StreamError> {
+    let found = found?;
+    same(rt, found.keys().as_slice(), keys);
+    same(rt, found.values().as_slice(), values);
+    Ok(())
 }
 
 /// Whether a map has these lists, in the order of their keys.
@@ -58,11 +59,11 @@ where
     collected(rt, run, numbers, &groups)
 }
 
-/// Numbers, a limit, and of the numbers of each parity how many are above it and their sum. A group whose items are all filtered away keeps its
-/// key.
-static TOTALS: [(&[i64], i64, &[(i64, (i64, i64))]); 2] = [
-    (&[5, 2, 7, 4, 5], 0, &[(1, (3, 17)), (0, (2, 6))]),
-    (&[1, 2, 2, 1, 1], 100, &[(1, (0, 0)), (0, (0, 0))]),
+/// Numbers, a limit, and of the odd numbers, which come first, and of the even ones how many are above it and their sum. A group whose items are
+/// all filtered away keeps its key.
+static TOTALS: [(&[i64], i64, &[(i64, i64)]); 2] = [
+    (&[5, 2, 7, 4, 5], 0, &[(3, 17), (2, 6)]),
+    (&[1, 2, 2, 1, 1], 100, &[(0, 0), (0, 0)]),
 ];
 
 fn totals<R: Threads + Abort + Alloc<A = Global> + Sync>(
@@ -72,8 +73,7 @@ fn totals<R: Threads + Abort + Alloc<A = Global> + Sync>(
     for &(numbers, limit, expected) in &TOTALS {
         let totals = Teeing::new(Counting::<i64>::new(), SummingLong::new(Itself), Both);
         let above = FilteringTo::new(Above(limit), totals);
-        let found = by_parity(rt, run, numbers, above)?;
-        assert!(rt; has_entries(&found, expected), "above {limit}");
+        check_entries(rt, by_parity(rt, run, numbers, above), &[1, 0], expected)?;
     }
     Ok(())
 }
@@ -105,10 +105,8 @@ fn check_parts<R: Threads + Abort + Alloc<A = Global> + Sync>(
 ) -> Result<(), StreamError> {
     for &(numbers, no, yes) in &PARTS {
         let found = parts(rt, run, numbers)?;
-        assert!(rt;
-            has_lists(&found.no, no) && has_lists(&found.yes, yes),
-            "{numbers:?}"
-        );
+        let are_wanted = (has_lists(&found.no, no), has_lists(&found.yes, yes));
+        same(rt, are_wanted, (true, true));
     }
     Ok(())
 }
@@ -130,24 +128,29 @@ fn maps<R: Threads + Abort + Alloc<A = Global> + Sync>(
     rt: &R,
     run: &Run<'_, NoGate>,
 ) -> Result<(), StreamError> {
-    let last = merged(rt, run, LastOf::<i64>::new())?;
-    assert!(rt; has_entries(&last, &[(1, 3), (0, 4)]));
-    let first = merged(rt, run, FirstOf::<i64>::new())?;
-    assert!(rt; has_entries(&first, &[(1, 1), (0, 2)]));
-    Ok(())
+    let last = merged(rt, run, LastOf::<i64>::new());
+    let first = merged(rt, run, FirstOf::<i64>::new());
+    check_entries(rt, last, &[1, 0], &[3, 4]).and(check_entries(rt, first, &[1, 0], &[1, 2]))
 }
 
-// The sum of the numbers doubled, and the numbers above 2.
-fn sum_and_list<R: Threads + Abort + Alloc<A = Global> + Sync>(
+// The sum of the numbers 1 to 4 doubled, and those above 2.
+fn sum_and_list<R: Threads + Alloc<A = Global> + Sync>(
     rt: &R,
     run: &Run<'_, NoGate>,
-) -> Result<(), StreamError> {
+) -> Result<(i64, Vec<i64>), StreamError> {
     let doubled = MappingTo::<i64, _, _>::new(Times(2), SummingLong::new(Itself));
     let large = FilteringTo::new(Above(2), ToList::<i64>::new(rt.alloc()));
     let both = Teeing::new(doubled, large, Both);
-    let (sum, list) = collected(rt, run, &[1, 2, 3, 4], &both)?;
-    assert!(rt; sum == 20 && list.as_slice() == [3, 4].as_slice());
-    Ok(())
+    collected(rt, run, &[1, 2, 3, 4], &both)
+}
+
+fn check_sum_and_list(
+    rt: &impl Abort,
+    found: Result<(i64, Vec<i64>), StreamError>,
+) -> Result<(), StreamError> {
+    let (sum, list) = found?;
+    same(rt, sum, 20);
+    check_list(rt, Ok(list), &[3, 4])
 }
 
 /// Numbers, ten times the first of them, and the product of all.
@@ -164,23 +167,24 @@ fn first_and_product<R: Threads + Abort + Alloc<A = Global> + Sync>(
     let tens = MappingTo::<i64, _, _>::new(Times(10), First::<i64>::new());
     let both = Teeing::new(tens, Reducing::<i64, _>::new(WrapMul::new()), Both);
     for &(numbers, wanted) in &PRODUCTS {
-        assert!(rt;
-            collected(rt, run, numbers, &both)? == wanted,
-            "{numbers:?}"
-        );
+        check(rt, collected(rt, run, numbers, &both), wanted)?;
     }
     Ok(())
 }
 
+/// Rows of one setting.
+pub fn rows<R: Threads + Abort + Alloc<A = Global> + Sync>(
+    rt: &R,
+    run: &Run<'_, NoGate>,
+) -> Result<(), StreamError> {
+    totals(rt, run)
+        .and(check_parts(rt, run))
+        .and(maps(rt, run))
+        .and(check_sum_and_list(rt, sum_and_list(rt, run)))
+        .and(first_and_product(rt, run))
+}
+
 #[test]
-fn groups_at_each_number_of_workers(rt: HostRuntime) -> Result<(), Fail> {
-    for &setting in &SETTINGS {
-        let run = at(setting);
-        totals(&rt, &run)?;
-        check_parts(&rt, &run)?;
-        maps(&rt, &run)?;
-        sum_and_list(&rt, &run)?;
-        first_and_product(&rt, &run)?;
-    }
-    Ok(())
+fn groups_at_each_number_of_workers(rt: HostRuntime) -> Result<(), StreamError> {
+    at_each_setting(&rt, Suite::Groups)
 }

@@ -1,11 +1,12 @@
 //! Matches.
 
+use super::answers::{check, numbers};
 use super::functions::Below;
-use super::{SETTINGS, at};
-use parallel_streams::{Run, Source, Stream, StreamError, of};
+use super::{Suite, at_each_setting};
+use parallel_streams::{Run, Source, Stream, StreamError};
 use sources::RangeSplit;
 use std::alloc::Global;
-use std::test::Fail;
+use std::process::Abort;
 use std::thread::Threads;
 use stealing_pool::NoGate;
 
@@ -17,26 +18,33 @@ static MATCHES: [(i64, i64, [bool; 3]); 4] = [
     (10, 1, [false, true, false]),
 ];
 
-fn matches_of<R: Threads + Alloc<A = Global> + Sync>(
+fn check_matches<R: Threads + Abort + Alloc<A = Global> + Sync>(
     rt: &R,
     run: &Run<'_, NoGate>,
     numbers: &Source<RangeSplit>,
     below: &Below,
-) -> Result<[bool; 3], StreamError> {
-    let all = numbers.all_match(rt, rt.alloc(), run, below)?;
-    let any = numbers.any_match(rt, rt.alloc(), run, below)?;
-    let none = numbers.none_match(rt, rt.alloc(), run, below)?;
-    Ok([all, any, none])
+    [all, any, none]: [bool; 3],
+) -> Result<(), StreamError> {
+    let are_all = numbers.all_match(rt, rt.alloc(), run, below);
+    let are_any = numbers.any_match(rt, rt.alloc(), run, below);
+    let are_none = numbers.none_match(rt, rt.alloc(), run, below);
+    check(rt, are_all, all)
+        .and(check(rt, are_any, any))
+        .and(check(rt, are_none, none))
+}
+
+/// Rows of one setting.
+pub fn rows<R: Threads + Abort + Alloc<A = Global> + Sync>(
+    rt: &R,
+    run: &Run<'_, NoGate>,
+) -> Result<(), StreamError> {
+    for &(end, limit, wanted) in &MATCHES {
+        check_matches(rt, run, &numbers(rt, 0, end), &Below(limit), wanted)?;
+    }
+    Ok(())
 }
 
 #[test]
-fn matches_at_each_number_of_workers(rt: HostRuntime) -> Result<(), Fail> {
-    for &setting in &SETTINGS {
-        for &(end, limit, wanted) in &MATCHES {
-            let numbers = of(RangeSplit::range(0, end)?);
-            let found = matches_of(&rt, &at(setting), &numbers, &Below(limit))?;
-            assert!(rt; found == wanted, "{end} numbers below {limit}");
-        }
-    }
-    Ok(())
+fn matches_at_each_number_of_workers(rt: HostRuntime) -> Result<(), StreamError> {
+    at_each_setting(&rt, Suite::Matches)
 }

@@ -5,13 +5,13 @@ ghost use Rattle.stages.specs.Wrapping.{wrapped_sum};
 ghost use Rattle.collectors.specs.NestedLaws.{add_both, teeing_laws};
 ghost use Rattle.collectors.specs.Sums.{add_number, sum_laws};
 
-use super::answers::collected;
-use super::{SETTINGS, at};
+use super::answers::{check, collected};
+use super::{Suite, at_each_setting};
 use collectors::{CollectorDefinition, CollectorOf};
 use parallel_streams::{Run, StreamError};
 use spliterator::NoMemory;
 use std::alloc::Global;
-use std::test::Fail;
+use std::process::Abort;
 use std::thread::Threads;
 use stealing_pool::NoGate;
 
@@ -60,12 +60,15 @@ fn count_and_sum<R: Threads + Alloc<A = Global> + Sync>(
     collected(rt, run, numbers, &count_and_sum)
 }
 
+/// Rows of one setting.
+pub fn rows<R: Threads + Abort + Alloc<A = Global> + Sync>(
+    rt: &R,
+    run: &Run<'_, NoGate>,
+) -> Result<(), StreamError> {
+    check(rt, count_and_sum(rt, run, &[5, -2, 9]), (3, 12))
+}
+
 #[test]
-fn a_collector_of_the_callers_own(rt: HostRuntime) -> Result<(), Fail> {
-    for &setting in &SETTINGS {
-        let run = at(setting);
-        let found = count_and_sum(&rt, &run, &[5, -2, 9])?;
-        assert!(rt; found == (3, 12));
-    }
-    Ok(())
+fn a_collector_of_the_callers_own(rt: HostRuntime) -> Result<(), StreamError> {
+    at_each_setting(&rt, Suite::OwnCollector)
 }

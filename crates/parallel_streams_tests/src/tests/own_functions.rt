@@ -2,9 +2,9 @@
 ghost use Rattle.std.specs.Prelude.{pos, ◌+ℤ◌, int_lt};
 ghost use Rattle.stages.specs.Wrapping.{wrapped_sum, wrapped-value};
 
-use super::answers::{check_list, check_value, listed};
-use super::{SETTINGS, at};
-use parallel_streams::{Run, Stream, StreamError, of};
+use super::answers::{check, check_list, listed, numbers};
+use super::{Suite, at_each_setting};
+use parallel_streams::{Run, Source, Stream, StreamError};
 use sources::RangeSplit;
 use spliterator::NoMemory;
 use stages::{
@@ -12,7 +12,7 @@ use stages::{
     WrapAdd,
 };
 use std::alloc::Global;
-use std::test::Fail;
+use std::process::Abort;
 use std::thread::Threads;
 use stealing_pool::NoGate;
 
@@ -44,33 +44,37 @@ impl OperatorDefinition<i64> for Sum {
 fn ten_more<R: Threads + Alloc<A = Global> + Sync>(
     rt: &R,
     run: &Run<'_, NoGate>,
-    numbers: RangeSplit,
+    numbers: Source<RangeSplit>,
 ) -> Result<Vec<i64>, StreamError> {
     let ten_more: FromFn<i64, _, TenMore> = FromFn::new(|x: &i64| -> Result<i64, NoMemory> {
         WrapAdd::new().join(x, &10)
     });
     let below_thirteen: TestFn<_, BelowThirteen> = TestFn::new(|x: &i64| *x < 13);
-    listed(rt, run, &of(numbers).map(ten_more).filter(below_thirteen))
+    listed(rt, run, &numbers.map(ten_more).filter(below_thirteen))
 }
 
 fn total<R: Threads + Alloc<A = Global> + Sync>(
     rt: &R,
     run: &Run<'_, NoGate>,
-    numbers: RangeSplit,
+    numbers: &Source<RangeSplit>,
 ) -> Result<Option<i64>, StreamError> {
     let sum: OperatorFn<_, Sum> = OperatorFn::new(|a: &i64, b: &i64| -> Result<i64, NoMemory> {
         WrapAdd::new().join(a, b)
     });
-    of(numbers).reduce_optional(rt, rt.alloc(), run, &sum)
+    numbers.reduce_optional(rt, rt.alloc(), run, &sum)
+}
+
+/// Rows of one setting.
+pub fn rows<R: Threads + Abort + Alloc<A = Global> + Sync>(
+    rt: &R,
+    run: &Run<'_, NoGate>,
+) -> Result<(), StreamError> {
+    let total = total(rt, run, &numbers(rt, 1, 6));
+    let items = ten_more(rt, run, numbers(rt, 1, 6));
+    check_list(rt, items, &[11, 12]).and(check(rt, total, Some(15)))
 }
 
 #[test]
-fn functions_of_the_callers_own(rt: HostRuntime) -> Result<(), Fail> {
-    for &setting in &SETTINGS {
-        let run = at(setting);
-        let items = ten_more(&rt, &run, RangeSplit::range(1, 6)?)?;
-        check_list(&rt, &items, &[11, 12]);
-        check_value(&rt, total(&rt, &run, RangeSplit::range(1, 6)?)?, Some(15));
-    }
-    Ok(())
+fn functions_of_the_callers_own(rt: HostRuntime) -> Result<(), StreamError> {
+    at_each_setting(&rt, Suite::OwnFunctions)
 }

@@ -3,13 +3,16 @@ ghost use Rattle.std.proofs.Common.{sym, true≢false};
 ghost use Rattle.std.specs.Prelude.{◌<◌, ◌^◌, replicate};
 ghost use Rattle.spliterator.specs.Spliterator.{IsSplit};
 
-use super::answers::{check_list, counted, limited, reduced};
+use super::answers::{check, check_items, counted, limited, reduced, same};
 use super::rows::second_and_one;
-use super::{SETTINGS, at};
-use parallel_streams::{Source, Stream, of};
+use super::{Suite, at_each_setting};
+use parallel_streams::{Run, Source, Stream, StreamError, of};
 use spliterator::{NoMemory, Spliterator};
 use stages::WrapAdd;
-use std::test::Fail;
+use std::alloc::Global;
+use std::process::Abort;
+use std::thread::Threads;
+use stealing_pool::NoGate;
 
 /// One number again and again: a source that never splits, and tells nothing but its order.
 #[derive(Clone, Copy)]
@@ -65,19 +68,21 @@ fn sevens() -> Source<Again> {
     of(Again { number: 7, left: 3 })
 }
 
-#[test]
-fn a_source_of_the_callers_own(rt: HostRuntime) -> Result<(), Fail> {
+/// Rows of one setting.
+pub fn rows<R: Threads + Abort + Alloc<A = Global> + Sync>(
+    rt: &R,
+    run: &Run<'_, NoGate>,
+) -> Result<(), StreamError> {
     let three = sevens();
-    assert!(rt; three.known_size().is_none());
-    for &setting in &SETTINGS {
-        let run = at(setting);
-        let count = counted(&rt, &run, &three)?;
-        let sum = reduced(&rt, &run, &three, 0, &WrapAdd::new())?;
-        let two = limited(&rt, &run, sevens(), 2)?;
-        let eight = second_and_one(&rt, &run, sevens())?;
-        check_list(&rt, &[count, sum], &[3, 21]);
-        check_list(&rt, &two.0, &[7, 7]);
-        check_list(&rt, &eight.0, &[8]);
-    }
-    Ok(())
+    same(rt, three.known_size(), None);
+    let sum = reduced(rt, run, &three, 0, &WrapAdd::new());
+    check(rt, counted(rt, run, &three), 3)
+        .and(check(rt, sum, 21))
+        .and(check_items(rt, limited(rt, run, sevens(), 2), &[7, 7]))
+        .and(check_items(rt, second_and_one(rt, run, three), &[8]))
+}
+
+#[test]
+fn a_source_of_the_callers_own(rt: HostRuntime) -> Result<(), StreamError> {
+    at_each_setting(&rt, Suite::OwnSource)
 }

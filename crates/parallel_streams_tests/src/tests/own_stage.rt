@@ -5,14 +5,16 @@ ghost use Rattle.stages.specs.FlagLaws.{KeepsSound-flat_map};
 ghost use Rattle.stages.specs.Wrapping.{wrapped_sum};
 ghost use Rattle.std.specs.Ordering.{int_cmp};
 
-use super::answers::{check_list, listed};
+use super::answers::{check_items, check_list, listed, numbers};
 use super::rows::first_apart;
-use super::{SETTINGS, at};
-use parallel_streams::{Stream, of};
-use sources::RangeSplit;
+use super::{Suite, at_each_setting};
+use parallel_streams::{Run, Stream, StreamError};
 use spliterator::NoMemory;
 use stages::{Operation, Operator, Sink, Stage, WrapAdd};
-use std::test::Fail;
+use std::alloc::Global;
+use std::process::Abort;
+use std::thread::Threads;
+use stealing_pool::NoGate;
 
 /// Each number, and then the next one.
 #[derive(Drop)]
@@ -46,14 +48,18 @@ impl Stage for WithNext {
     }
 }
 
+/// Rows of one setting.
+pub fn rows<R: Threads + Abort + Alloc<A = Global> + Sync>(
+    rt: &R,
+    run: &Run<'_, NoGate>,
+) -> Result<(), StreamError> {
+    let pairs = numbers(rt, 0, 3).then(WithNext);
+    let listed = listed(rt, run, &pairs);
+    let apart = first_apart(rt, run, pairs, 9);
+    check_list(rt, listed, &[0, 1, 1, 2, 2, 3]).and(check_items(rt, apart, &[0, 1, 2, 3]))
+}
+
 #[test]
-fn a_stage_of_the_callers_own(rt: HostRuntime) -> Result<(), Fail> {
-    for &setting in &SETTINGS {
-        let run = at(setting);
-        let pairs = of(RangeSplit::range(0, 3)?).then(WithNext);
-        check_list(&rt, &listed(&rt, &run, &pairs)?, &[0, 1, 1, 2, 2, 3]);
-        let apart = first_apart(&rt, &run, pairs, 9)?;
-        check_list(&rt, &apart, &[0, 1, 2, 3]);
-    }
-    Ok(())
+fn a_stage_of_the_callers_own(rt: HostRuntime) -> Result<(), StreamError> {
+    at_each_setting(&rt, Suite::OwnStage)
 }

@@ -1,13 +1,11 @@
 //! What reports say: counts, cuts and skipped leaves.
 
-use super::answers::{limited, reported};
+use super::answers::{Reported, check, check_list, limited, numbers, reported, same};
 use super::at;
 use super::gates::{Watch, once};
 use super::rows::{front, second_and_one};
-use parallel_streams::{Run, Stream, of};
-use sources::RangeSplit;
+use parallel_streams::{Run, Stream, StreamError};
 use std::process::Abort;
-use std::test::Fail;
 use stealing_pool::{RunEntry, RunReport};
 
 /// How many leaves a run had, where it was cut, and the counts of leaves; all others were skipped.
@@ -50,11 +48,13 @@ fn all_tell(report: &RunReport, entries: &[Entry<'_>]) -> bool {
 /// Checks items, and the entries of the runs that they came from: one a barrier, and one for the terminal operation.
 pub fn check_report(
     rt: &impl Abort,
-    found: &(Vec<i64>, RunReport),
+    found: Reported,
     items: &[i64],
     entries: &[Entry<'_>],
-) {
-    assert!(rt; found.0.as_slice() == items && all_tell(&found.1, entries));
+) -> Result<(), StreamError> {
+    let (found, report) = found?;
+    same(rt, all_tell(&report, entries), true);
+    check_list(rt, Ok(found), items)
 }
 
 static OF_A_LIMIT: [Entry<'_>; 2] = [(4, Some(1), &[(0, 2), (1, 3)]), (1, None, &[(0, 0)])];
@@ -69,18 +69,20 @@ static OF_EACH_BARRIER: [Entry<'_>; 3] = [
 ];
 
 #[test]
-fn a_limit_and_a_take_while_cut_and_each_barrier_has_an_entry(rt: HostRuntime) -> Result<(), Fail> {
-    let found = limited(&rt, &at((1, 4)), of(RangeSplit::range(0, 10)?), 3)?;
-    check_report(&rt, &found, &[0, 1, 2], &OF_A_LIMIT);
-    let found = front(&rt, &at((1, 10)), of(RangeSplit::range(0, 100)?))?;
-    check_report(&rt, &found, &[0, 1, 2], &OF_A_FRONT);
-    let found = second_and_one(&rt, &at((1, 1)), of(RangeSplit::range(4, 7)?))?;
-    check_report(&rt, &found, &[6], &OF_EACH_BARRIER);
-    Ok(())
+fn a_limit_and_a_take_while_cut_and_each_barrier_has_an_entry(
+    rt: HostRuntime,
+) -> Result<(), StreamError> {
+    let three = limited(&rt, &at((1, 4)), numbers(&rt, 0, 10), 3);
+    let below = front(&rt, &at((1, 10)), numbers(&rt, 0, 100));
+    let six = second_and_one(&rt, &at((1, 1)), numbers(&rt, 4, 7));
+    check_report(&rt, three, &[0, 1, 2], &OF_A_LIMIT)
+        .and(check_report(&rt, below, &[0, 1, 2], &OF_A_FRONT))
+        .and(check_report(&rt, six, &[6], &OF_EACH_BARRIER))
 }
 
 /// The sum of `once` of the leaves that have a count, over all entries.
-fn by_number(report: &RunReport) -> u64 {
+fn by_number(found: Reported) -> Result<u64, StreamError> {
+    let report = found?.1;
     let mut sum: u64 = 0;
     for entry in report.entries() {
         for leaf in 0..entry.leaves() {
@@ -89,31 +91,31 @@ fn by_number(report: &RunReport) -> u64 {
             }
         }
     }
-    sum
+    Ok(sum)
 }
+
+/// Workers, targets, and how many leaves the gate is told of.
+static SEEN: [(u32, u64, u64); 3] = [(1, 1, 13), (7, 1, 13), (1, 4, 3)];
 
 // Run by run, the leaves with a count are those that the gate was told of: 10 leaves and then 3 where nothing is cut, 2 of 4 and then 1 where
 // one worker is cut.
 #[test]
-fn a_report_is_that_of_the_runs_that_the_gate_saw(rt: HostRuntime) -> Result<(), Fail> {
-    for (workers, target, wanted) in [(1u32, 1u64, 13), (7, 1, 13), (1, 4, 3)] {
-        let gate = Watch::until(0, 0);
+fn a_report_is_that_of_the_runs_that_the_gate_saw(rt: HostRuntime) -> Result<(), StreamError> {
+    for &(workers, target, wanted) in &SEEN {
+        let gate = &Watch::until(0, 0);
         let run = Run {
             workers,
             target,
-            gate: &gate,
+            gate,
         };
-        let ten = of(RangeSplit::range(0, 10)?);
-        let report = if target == 1 {
-            reported(&rt, &run, &ten.skip(7))?.1
+        let ten = numbers(&rt, 0, 10);
+        let found = if target == 1 {
+            reported(&rt, &run, &ten.skip(7))
         } else {
-            limited(&rt, &run, ten, 3)?.1
+            limited(&rt, &run, ten, 3)
         };
-        let is_of_the_runs = by_number(&report) == gate.by_number();
-        assert!(rt;
-            is_of_the_runs && gate.entered() == wanted,
-            "{workers} workers"
-        );
+        check(&rt, by_number(found), gate.by_number())?;
+        same(&rt, gate.entered(), wanted);
     }
     Ok(())
 }

@@ -1,25 +1,25 @@
 //! The worked rows over numbers, as calls.
 
 use super::answers::{
-    check_list, check_value, counted, first_of, joined, limited, listed, reduced, reported, sum_of,
+    Reported, check, check_items, check_list, counted, first_of, joined, limited, listed, numbers,
+    reduced, reported, sum_of,
 };
 use super::functions::{Above, Below, Copies, Plus, Times};
-use super::{SETTINGS, at};
-use parallel_streams::{Run, Stream, StreamError, of};
-use sources::{RangeSplit, SliceSplit};
-use stages::{LastOf, Max, Min, WrapAdd, WrapMul};
+use super::{Suite, at, at_each_setting};
+use parallel_streams::{Run, Source, Staged, Stream, StreamError, of};
+use sources::{RangeSplit, RangeTooLong, SliceSplit};
+use stages::{Filter, LastOf, Map, Max, Min, WrapAdd, WrapMul};
 use std::alloc::Global;
 use std::process::Abort;
-use std::test::Fail;
 use std::thread::Threads;
-use stealing_pool::{NoGate, RunReport};
+use stealing_pool::NoGate;
 
 /// The second of some numbers, and one.
 pub fn second_and_one<R: Threads + Alloc<A = Global> + Sync, X: Stream<Item = i64> + Drop + Sync>(
     rt: &R,
     run: &Run<'_, NoGate>,
     numbers: X,
-) -> Result<(Vec<i64>, RunReport), StreamError>
+) -> Reported
 where
     X::Progress: Send + Sync,
     X::Part: Send,
@@ -33,7 +33,7 @@ pub fn front<R: Threads + Alloc<A = Global> + Sync, X: Stream<Item = i64> + Drop
     rt: &R,
     run: &Run<'_, NoGate>,
     numbers: X,
-) -> Result<(Vec<i64>, RunReport), StreamError>
+) -> Reported
 where
     X::Progress: Send + Sync,
     X::Part: Send,
@@ -43,17 +43,12 @@ where
 }
 
 // What follows that front.
-fn rest<R: Threads + Alloc<A = Global> + Sync, X: Stream<Item = i64> + Drop + Sync>(
+fn rest<R: Threads + Alloc<A = Global> + Sync>(
     rt: &R,
     run: &Run<'_, NoGate>,
-    numbers: X,
-) -> Result<Vec<i64>, StreamError>
-where
-    X::Progress: Send + Sync,
-    X::Part: Send,
-    requires { X.ready numbers }
-{
-    listed(rt, run, &numbers.drop_while(Below(3)))
+    numbers: &[i64],
+) -> Result<Vec<i64>, StreamError> {
+    listed(rt, run, &of(SliceSplit::new(numbers)).drop_while(Below(3)))
 }
 
 /// The first of the numbers that differ. The limit stops no leaf before `distinct`.
@@ -62,30 +57,20 @@ pub fn first_apart<R: Threads + Alloc<A = Global> + Sync, X: Stream<Item = i64> 
     run: &Run<'_, NoGate>,
     numbers: X,
     most: u32,
-) -> Result<Vec<i64>, StreamError>
+) -> Reported
 where
     X::Progress: Send + Sync,
     X::Part: Send,
     requires { X.ready numbers }
 {
-    Ok(limited(rt, run, numbers.distinct(), most)?.0)
+    limited(rt, run, numbers.distinct(), most)
 }
 
-// The first of the copies of each number, and how many copies there are.
-fn copies<R: Threads + Alloc<A = Global> + Sync, X: Stream<Item = i64> + Drop + Sync>(
-    rt: &R,
-    run: &Run<'_, NoGate>,
-    numbers: X,
-    most: u32,
-) -> Result<(Vec<i64>, i64), StreamError>
-where
-    X::Progress: Send + Sync,
-    X::Part: Send,
-    requires { X.ready numbers }
-{
-    let copies = numbers.flat_map(Copies { alloc: rt.alloc() });
-    let count = counted(rt, run, &copies)?;
-    Ok((limited(rt, run, copies, most)?.0, count))
+/// The items that are above 100, of a million numbers times three.
+pub fn above_hundred(
+    rt: &impl Abort,
+) -> Staged<Staged<Source<RangeSplit>, Map<i64, Times>>, Filter<i64, Above>> {
+    numbers(rt, 0, 1_000_000).map(Times(3)).filter(Above(100))
 }
 
 // What stands before a number above 2, what follows, the second and one, and the first none.
@@ -93,15 +78,13 @@ fn fronts<R: Threads + Abort + Alloc<A = Global> + Sync>(
     rt: &R,
     run: &Run<'_, NoGate>,
 ) -> Result<(), StreamError> {
-    let found = front(rt, run, of(SliceSplit::new(&[1, 2, 5, 1])))?;
-    check_list(rt, &found.0, &[1, 2]);
-    let found = rest(rt, run, of(SliceSplit::new(&[1, 2, 5, 1])))?;
-    check_list(rt, &found, &[5, 1]);
-    let found = second_and_one(rt, run, of(SliceSplit::new(&[4, 8, 15])))?;
-    check_list(rt, &found.0, &[9]);
-    let found = limited(rt, run, of(SliceSplit::new(&[4, 8, 15])), 0)?;
-    check_list(rt, &found.0, &[]);
-    Ok(())
+    let below = front(rt, run, of(SliceSplit::new(&[1, 2, 5, 1])));
+    let nine = second_and_one(rt, run, of(SliceSplit::new(&[4, 8, 15])));
+    let none = limited(rt, run, of(SliceSplit::new(&[4, 8, 15])), 0);
+    check_items(rt, below, &[1, 2])
+        .and(check_list(rt, rest(rt, run, &[1, 2, 5, 1]), &[5, 1]))
+        .and(check_items(rt, nine, &[9]))
+        .and(check_items(rt, none, &[]))
 }
 
 /// Numbers, the most of those that differ that are wanted, and these.
@@ -117,18 +100,27 @@ static COPIES: [(&[i64], u32, &[i64], i64); 3] = [
     (&[0, 0, 0], 9, &[], 0),
 ];
 
+// How many copies of numbers there are, and the first of them.
+fn check_copies<R: Threads + Abort + Alloc<A = Global> + Sync>(
+    rt: &R,
+    run: &Run<'_, NoGate>,
+    (numbers, most, wanted, number): (&[i64], u32, &[i64], i64),
+) -> Result<(), StreamError> {
+    let copies = of(SliceSplit::new(numbers)).flat_map(Copies { alloc: rt.alloc() });
+    let count = counted(rt, run, &copies);
+    check(rt, count, number).and(check_items(rt, limited(rt, run, copies, most), wanted))
+}
+
 fn firsts<R: Threads + Abort + Alloc<A = Global> + Sync>(
     rt: &R,
     run: &Run<'_, NoGate>,
 ) -> Result<(), StreamError> {
     for &(numbers, most, wanted) in &APART {
-        let found = first_apart(rt, run, of(SliceSplit::new(numbers)), most)?;
-        check_list(rt, &found, wanted);
+        let found = first_apart(rt, run, of(SliceSplit::new(numbers)), most);
+        check_items(rt, found, wanted)?;
     }
-    for &(numbers, most, wanted, number) in &COPIES {
-        let found = copies(rt, run, of(SliceSplit::new(numbers)), most)?;
-        check_list(rt, &found.0, wanted);
-        check_value(rt, Some(found.1), Some(number));
+    for &row in &COPIES {
+        check_copies(rt, run, row)?;
     }
     Ok(())
 }
@@ -137,14 +129,13 @@ fn reductions<R: Threads + Abort + Alloc<A = Global> + Sync>(
     rt: &R,
     run: &Run<'_, NoGate>,
 ) -> Result<(), StreamError> {
-    check_value(rt, joined(rt, run, &[], &Max::new())?, None);
-    check_value(rt, joined(rt, run, &[2, 5, 3], &Min::new())?, Some(2));
-    check_value(rt, joined(rt, run, &[2, 5, 3], &WrapMul::new())?, Some(30));
     for &(numbers, identity) in &LASTS {
-        let last = last_below(rt, run, of(SliceSplit::new(numbers)), identity)?;
-        check_value(rt, Some(last), Some(9));
+        check(rt, last_below(rt, run, numbers, identity), 9)?;
     }
-    Ok(())
+    let product = joined(rt, run, &[2, 5, 3], &WrapMul::new());
+    check(rt, joined(rt, run, &[], &Max::new()), None)
+        .and(check(rt, joined(rt, run, &[2, 5, 3], &Min::new()), Some(2)))
+        .and(check(rt, product, Some(30)))
 }
 
 /// Numbers of which the last below 10 is 9, in the last leaves or left of them, and an identity.
@@ -156,77 +147,66 @@ static LASTS: [(&[i64], i64); 4] = [
 ];
 
 // The first number of a range, and its sum by an operator and by a collector.
-fn first_and_sums<R: Threads + Alloc<A = Global> + Sync>(
+fn check_range<R: Threads + Abort + Alloc<A = Global> + Sync>(
     rt: &R,
     run: &Run<'_, NoGate>,
-    numbers: RangeSplit,
-) -> Result<(Option<i64>, [i64; 2]), StreamError> {
-    let numbers = of(numbers);
-    let first = first_of(rt, run, &numbers)?;
-    let joined = reduced(rt, run, &numbers, 0, &WrapAdd::new())?;
-    Ok((first, [joined, sum_of(rt, run, &numbers)?]))
+    range: Result<RangeSplit, RangeTooLong>,
+    first: Option<i64>,
+    sum: i64,
+) -> Result<(), StreamError> {
+    let numbers = of(range.expect(rt, "a range"));
+    check(rt, first_of(rt, run, &numbers), first)
+        .and(check(rt, reduced(rt, run, &numbers, 0, &WrapAdd::new()), sum))
+        .and(check(rt, sum_of(rt, run, &numbers), sum))
 }
 
 fn ranges<R: Threads + Abort + Alloc<A = Global> + Sync>(
     rt: &R,
     run: &Run<'_, NoGate>,
-) -> Result<(), Fail> {
-    for (range, first, sum) in [
-        (RangeSplit::range(1, 6), Some(1), 15),
-        (RangeSplit::range(5, 5), None, 0),
-        (
-            RangeSplit::closed(i64::MAX - 1, i64::MAX),
-            Some(i64::MAX - 1),
-            -3,
-        ),
-    ] {
-        let found = first_and_sums(rt, run, range?)?;
-        assert!(rt; found == (first, [sum, sum]), "the sum {sum}");
-    }
-    Ok(())
+) -> Result<(), StreamError> {
+    let last = i64::MAX;
+    let last_two = RangeSplit::closed(last - 1, last);
+    check_range(rt, run, RangeSplit::range(1, 6), Some(1), 15)
+        .and(check_range(rt, run, RangeSplit::range(5, 5), None, 0))
+        .and(check_range(rt, run, last_two, Some(last - 1), -3))
 }
 
 // The last number below 10, or the identity.
-fn last_below<R: Threads + Alloc<A = Global> + Sync, X: Stream<Item = i64> + Drop + Sync>(
+fn last_below<R: Threads + Alloc<A = Global> + Sync>(
     rt: &R,
     run: &Run<'_, NoGate>,
-    numbers: X,
+    numbers: &[i64],
     identity: i64,
-) -> Result<i64, StreamError>
-where
-    X::Progress: Send + Sync,
-    X::Part: Send,
-    requires { X.ready numbers }
-{
-    reduced(
-        rt,
-        run,
-        &numbers.filter(Below(10)),
-        identity,
-        &LastOf::new(),
-    )
+) -> Result<i64, StreamError> {
+    let below = of(SliceSplit::new(numbers)).filter(Below(10));
+    reduced(rt, run, &below, identity, &LastOf::new())
+}
+
+/// Rows of one setting.
+pub fn rows<R: Threads + Abort + Alloc<A = Global> + Sync>(
+    rt: &R,
+    run: &Run<'_, NoGate>,
+) -> Result<(), StreamError> {
+    fronts(rt, run)
+        .and(firsts(rt, run))
+        .and(reductions(rt, run))
+        .and(ranges(rt, run))
 }
 
 #[test]
-fn rows_at_each_number_of_workers(rt: HostRuntime) -> Result<(), Fail> {
-    for &setting in &SETTINGS {
-        let run = at(setting);
-        fronts(&rt, &run)?;
-        firsts(&rt, &run)?;
-        reductions(&rt, &run)?;
-        ranges(&rt, &run)?;
-    }
-    Ok(())
+fn rows_at_each_number_of_workers(rt: HostRuntime) -> Result<(), StreamError> {
+    at_each_setting(&rt, Suite::Numbers)
 }
 
+/// Numbers of workers.
+static WORKERS: [u32; 4] = [1, 7, 2, 64];
+
 #[test]
-fn the_first_of_a_million(rt: HostRuntime) -> Result<(), Fail> {
-    for workers in [1, 7, 2, 64] {
-        let run = at((workers, 1000));
-        let million = of(RangeSplit::range(0, 1_000_000)?);
-        let above = million.map(Times(3)).filter(Above(100));
-        let first = first_of(&rt, &run, &above)?;
-        check_value(&rt, first, Some(102));
+fn the_first_of_a_million(rt: HostRuntime) -> Result<(), StreamError> {
+    let above = above_hundred(&rt);
+    for &workers in &WORKERS {
+        let first = first_of(&rt, &at((workers, 1000)), &above);
+        check(&rt, first, Some(102))?;
     }
     Ok(())
 }

@@ -1,38 +1,35 @@
 //! Settings that are refused before anything runs.
 
-use super::answers::{check_value, counted, first_of};
+use super::answers::{check, counted, first_of, numbers, same};
 use super::gates::Watch;
-use parallel_streams::{Run, StreamError, of};
-use sources::RangeSplit;
-use std::test::Fail;
+use parallel_streams::{Run, StreamError};
+
+/// Workers, targets, and what refuses them.
+static UNLAWFUL: [(u32, u64, StreamError); 4] = [
+    (0, 0, StreamError::BadWorkers),
+    (65, 0, StreamError::BadWorkers),
+    (1, 4_611_686_018_427_387_905, StreamError::BadTarget),
+    (0, 4_611_686_018_427_387_905, StreamError::BadWorkers),
+];
 
 #[test]
-fn unlawful_settings_are_refused(rt: HostRuntime) -> Result<(), Fail> {
+fn unlawful_settings_are_refused(rt: HostRuntime) -> Result<(), StreamError> {
     let gate = Watch::until(0, 0);
-    let ten = of(RangeSplit::range(0, 10)?);
-    for (workers, target, error) in [
-        (0, 0, StreamError::BadWorkers),
-        (65, 0, StreamError::BadWorkers),
-        (1, 4_611_686_018_427_387_905, StreamError::BadTarget),
-        (0, 4_611_686_018_427_387_905, StreamError::BadWorkers),
-    ] {
+    let ten = numbers(&rt, 0, 10);
+    for &(workers, target, error) in &UNLAWFUL {
         let run = Run {
             workers,
             target,
             gate: &gate,
         };
-        let (count, first) = (counted(&rt, &run, &ten), first_of(&rt, &run, &ten));
-        assert!(rt;
-            count == Err(error) && first == Err(error),
-            "{workers} workers"
-        );
+        same(&rt, counted(&rt, &run, &ten), Err(error));
+        same(&rt, first_of(&rt, &run, &ten), Err(error));
     }
-    assert!(rt; gate.entered() == 0);
+    same(&rt, gate.entered(), 0);
     let run = Run {
         workers: 64,
         target: 4_611_686_018_427_387_904,
         gate: &gate,
     };
-    check_value(&rt, first_of(&rt, &run, &ten)?, Some(0));
-    Ok(())
+    check(&rt, first_of(&rt, &run, &ten), Some(0))
 }

@@ -1,14 +1,14 @@
 //! Sizes that are known before anything runs, and the flags.
+ghost use Rattle.std.specs.Prelude.{◌<◌, ◌^◌};
 
 use super::SETTINGS;
-use super::answers::counted;
+use super::answers::{check, counted, numbers, same};
 use super::functions::{Above, Itself};
 use super::gates::Watch;
-use parallel_streams::{Run, Stream, StreamError, of};
-use sources::{RangeSplit, RangeTooLong};
+use parallel_streams::{Run, Stream, StreamError};
+use stages::StreamFlags;
 use std::alloc::Global;
 use std::process::Abort;
-use std::test::Fail;
 use std::thread::Threads;
 
 /// The most items of a range.
@@ -28,68 +28,86 @@ static KNOWN: [(i64, u64, u64, i64); 5] = [
     ),
 ];
 
+// What a stream tells behind a limit: its flags, its size where it is known, and its number of items.
+fn behind_limit<R: Threads + Alloc<A = Global> + Sync, X: Stream<Item = i64> + Drop + Sync>(
+    rt: &R,
+    run: &Run<'_, Watch>,
+    numbers: X,
+    most: u64,
+) -> (StreamFlags, Option<u64>, Result<i64, StreamError>)
+where
+    X::Progress: Send + Sync,
+    X::Part: Send,
+    requires ready { X.ready numbers }
+    requires within { most < 2 ^ 63 }
+{
+    let limited = numbers.limit(most);
+    let count = counted(rt, run, &limited);
+    (limited.flags(), limited.known_size(), count)
+}
+
 // Where memory is wanted the count is told all the same.
-fn is_known<R: Threads + Abort + Alloc<A = Global> + Sync>(
+fn check_known<R: Threads + Abort + Alloc<A = Global> + Sync>(
     rt: &R,
     run: &Run<'_, Watch>,
     (end, skipped, most, size): (i64, u64, u64, i64),
-) -> Result<bool, RangeTooLong> {
+) {
     assert!(rt; skipped < 9_223_372_036_854_775_808 && most < 9_223_372_036_854_775_808);
-    let mapped = of(RangeSplit::range(0, end)?).map(Itself);
-    let middle = mapped.skip(skipped).limit(most);
-    let is_told = middle.known_size() == Some(size.unsigned_abs());
-    Ok(is_told && counted(rt, run, &middle) == Ok(size))
+    let rest = numbers(rt, 0, end).map(Itself).skip(skipped);
+    let (_, known, count) = behind_limit(rt, run, rest, most);
+    same(rt, (known, count), (Some(size.unsigned_abs()), Ok(size)));
 }
 
 // A filter clears the size, whether it keeps more items than a limit or as many.
-fn is_cleared<R: Threads + Alloc<A = Global> + Sync>(
+fn check_cleared<R: Threads + Abort + Alloc<A = Global> + Sync>(
     rt: &R,
     run: &Run<'_, Watch>,
-    numbers: RangeSplit,
     most: u32,
-) -> Result<bool, StreamError> {
-    let above = of(numbers).filter(Above(4)).limit(u64::from(most));
-    let flags = above.flags();
-    let is_told = flags.is_distinct() && !flags.is_sized() && flags.is_short_circuit();
-    let count = counted(rt, run, &above)?;
-    Ok(is_told && above.known_size().is_none() && count == i64::from(most))
+) -> Result<(), StreamError> {
+    let above = numbers(rt, 0, 10).filter(Above(4));
+    let (flags, known, count) = behind_limit(rt, run, above, u64::from(most));
+    let told = [
+        flags.is_distinct(),
+        flags.is_sized(),
+        flags.is_short_circuit(),
+    ];
+    same(rt, told, [true, false, true]);
+    same(rt, known, None);
+    check(rt, count, i64::from(most))
 }
 
 #[test]
-fn a_count_of_a_known_size_runs_no_leaf(rt: HostRuntime) -> Result<(), Fail> {
+fn a_count_of_a_known_size_runs_no_leaf(rt: HostRuntime) {
     let gate = Watch::until(0, 0);
-    let great = of(RangeSplit::range(0, GREAT)?);
+    let great = numbers(&rt, 0, GREAT);
     let flags = great.flags();
-    assert!(rt; flags.is_distinct() && flags.is_sorted() && flags.is_sized());
+    let told = [flags.is_distinct(), flags.is_sorted(), flags.is_sized()];
+    same(&rt, told, [true, true, true]);
     for &(workers, target) in &SETTINGS {
         let run = Run {
             workers,
             target,
             gate: &gate,
         };
-        assert!(rt; counted(&rt, &run, &great) == Ok(GREAT));
+        same(&rt, counted(&rt, &run, &great), Ok(GREAT));
         for &row in &KNOWN {
-            assert!(rt; is_known(&rt, &run, row)?, "{row:?}");
+            check_known(&rt, &run, row);
         }
     }
-    assert!(rt; gate.entered() == 0);
-    Ok(())
+    same(&rt, gate.entered(), 0);
 }
 
 #[test]
-fn a_filter_clears_the_known_size(rt: HostRuntime) -> Result<(), Fail> {
+fn a_filter_clears_the_known_size(rt: HostRuntime) -> Result<(), StreamError> {
     let gate = Watch::until(0, 0);
-    let ten = RangeSplit::range(0, 10)?;
     for &(workers, target) in &SETTINGS {
         let run = Run {
             workers,
             target,
             gate: &gate,
         };
-        for most in [3, 5] {
-            assert!(rt; is_cleared(&rt, &run, ten, most)?, "{most}");
-        }
+        check_cleared(&rt, &run, 3).and(check_cleared(&rt, &run, 5))?;
     }
-    assert!(rt; gate.entered() > 0);
+    same(&rt, gate.entered() > 0, true);
     Ok(())
 }

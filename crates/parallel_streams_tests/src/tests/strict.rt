@@ -1,66 +1,73 @@
 //! Maps with no merge function.
 
+use super::answers::same;
 use super::functions::{Itself, Plus};
-use super::groups::has_entries;
+use super::groups::check_entries;
 use super::words::{Length, Text};
-use super::{SETTINGS, at};
+use super::{Suite, at_each_setting};
 use indexmap::IndexMap;
-use parallel_streams::{MapError, Run, Stream, of};
+use parallel_streams::{MapError, Run, Stream, StreamError, of};
 use sources::{LinesSplit, SliceSplit};
 use std::alloc::Global;
+use std::fmt::Debug;
 use std::process::Abort;
-use std::test::Fail;
 use std::thread::Threads;
 use stealing_pool::NoGate;
 
-/// Whether these are the entries of a map, or this is the key that repeats.
-fn answers<V: PartialEq + Drop>(
+/// Checks the entries of a map, or the key that repeats.
+fn check_map<V: Debug + PartialEq + Drop>(
+    rt: &impl Abort,
     answer: Result<IndexMap<i64, V>, MapError<i64>>,
-    expected: Result<&[(i64, V)], i64>,
-) -> Result<bool, MapError<i64>> {
-    match (answer, expected) {
-        (Ok(map), Ok(entries)) => Ok(has_entries(&map, entries)),
-        (Err(MapError::DuplicateKey(key)), Err(wanted)) => Ok(key == wanted),
-        (Err(MapError::DuplicateKey(_)), Ok(_)) | (Ok(_), Err(_)) => Ok(false),
-        (Err(error), _) => Err(error),
-    }
+    (keys, values, repeated): (&[i64], &[V], Option<i64>),
+) -> Result<(), StreamError> {
+    let found = match answer {
+        Ok(map) => Ok(map),
+        Err(MapError::DuplicateKey(key)) => {
+            same(rt, Some(key), repeated);
+            return Ok(());
+        }
+        Err(MapError::NoMemory) => Err(StreamError::NoMemory),
+        Err(MapError::BadWorkers) => Err(StreamError::BadWorkers),
+        Err(MapError::BadTarget) => Err(StreamError::BadTarget),
+    };
+    same(rt, None, repeated);
+    check_entries(rt, found, keys, values)
 }
 
-/// Numbers, and each to the next one, or the key that comes again. 1 is the first key that is there twice, and 2 the first that comes again.
-static NUMBERS: [(&[i64], Result<&[(i64, i64)], i64>); 4] = [
-    (&[1, 2, 2, 1], Err(2)),
-    (&[2, 2, 1, 1], Err(2)),
-    (&[3, 4], Ok(&[(3, 4), (4, 5)])),
-    (&[], Ok(&[])),
+/// Numbers, and each to the next one as keys and values, or the key that comes again. 1 is the first key that is there twice, and 2 the first that
+/// comes again.
+static NUMBERS: [(&[i64], (&[i64], &[i64], Option<i64>)); 4] = [
+    (&[1, 2, 2, 1], (&[], &[], Some(2))),
+    (&[2, 2, 1, 1], (&[], &[], Some(2))),
+    (&[3, 4], (&[3, 4], &[4, 5], None)),
+    (&[], (&[], &[], None)),
 ];
 
 /// Lines, and the length of each to the line, or the key that comes again.
-static LINES: [(&str, Result<&[(i64, &str)], i64>); 2] = [
-    ("ab\ncd\n", Err(2)),
-    ("ab\nc\n", Ok(&[(2, "ab"), (1, "c")])),
+static LINES: [(&str, (&[i64], &[&str], Option<i64>)); 2] = [
+    ("ab\ncd\n", (&[], &[], Some(2))),
+    ("ab\nc\n", (&[2, 1], &["ab", "c"], None)),
 ];
 
-fn strict_maps<R: Threads + Abort + Alloc<A = Global> + Sync>(
+/// Rows of one setting.
+pub fn rows<R: Threads + Abort + Alloc<A = Global> + Sync>(
     rt: &R,
     run: &Run<'_, NoGate>,
-) -> Result<(), MapError<i64>> {
+) -> Result<(), StreamError> {
     for &(numbers, expected) in &NUMBERS {
         let stream = of(SliceSplit::new(numbers));
         let answer = stream.to_map_strict(rt, rt.alloc(), run, &Itself, &Plus(1));
-        assert!(rt; answers(answer, expected)?, "{numbers:?}");
+        check_map(rt, answer, expected)?;
     }
     for &(lines, expected) in &LINES {
         let stream = of(LinesSplit::new(lines));
         let answer = stream.to_map_strict(rt, rt.alloc(), run, &Length, &Text);
-        assert!(rt; answers(answer, expected)?, "{lines:?}");
+        check_map(rt, answer, expected)?;
     }
     Ok(())
 }
 
 #[test]
-fn strict_maps_at_each_number_of_workers(rt: HostRuntime) -> Result<(), Fail> {
-    for &setting in &SETTINGS {
-        strict_maps(&rt, &at(setting))?;
-    }
-    Ok(())
+fn strict_maps_at_each_number_of_workers(rt: HostRuntime) -> Result<(), StreamError> {
+    at_each_setting(&rt, Suite::StrictMaps)
 }

@@ -1,15 +1,15 @@
 //! Streams of texts.
 
+use super::answers::same;
 use super::functions::{Both, Itself};
 use super::words::{Length, Words};
-use super::{SETTINGS, at};
+use super::{Suite, at_each_setting};
 use collectors::{GroupingBy, Joining, MappingTo, SummingLong, Teeing};
 use indexmap::IndexMap;
 use parallel_streams::{Run, Stream, StreamError, of};
 use sources::LinesSplit;
 use std::alloc::Global;
 use std::process::Abort;
-use std::test::Fail;
 use std::thread::Threads;
 use stealing_pool::NoGate;
 
@@ -53,37 +53,33 @@ fn by_length<R: Threads + Alloc<A = Global> + Sync>(
 }
 
 // Whether a map has these lengths, joined lines and sums, in this order.
-fn has(found: &IndexMap<i64, (String, i64)>, expected: &[(i64, &str, i64)]) -> bool {
+fn has(found: IndexMap<i64, (String, i64)>, expected: &[(i64, &str, i64)]) -> bool {
     let mut groups = found.iter();
+    let mut is_so = found.len() == expected.len();
     for (length, text, sum) in expected {
-        match groups.next() {
-            Some((key, value)) if key == length && value.0.as_str() == *text && value.1 == *sum =>
-                {}
-            _ => return false,
+        if let Some((key, value)) = groups.next() {
+            is_so &= (*key, value.0.as_str(), value.1) == (*length, *text, *sum);
         }
     }
-    groups.next().is_none()
+    is_so
 }
 
-fn texts<R: Threads + Abort + Alloc<A = Global> + Sync>(
+/// Rows of one setting.
+pub fn rows<R: Threads + Abort + Alloc<A = Global> + Sync>(
     rt: &R,
     run: &Run<'_, NoGate>,
 ) -> Result<(), StreamError> {
     for &(lines, between, before, after, wanted) in &JOINED {
         let text = joined(rt, run, lines, between, before, after)?;
-        assert!(rt; text.as_str() == wanted, "{text}");
+        same(rt, text.as_str(), wanted);
     }
     for &(lines, expected) in &BY_LENGTH {
-        assert!(rt; has(&by_length(rt, run, lines)?, expected), "{lines:?}");
+        same(rt, has(by_length(rt, run, lines)?, expected), true);
     }
     Ok(())
 }
 
 #[test]
-fn texts_at_each_number_of_workers(rt: HostRuntime) -> Result<(), Fail> {
-    for &setting in &SETTINGS {
-        let run = at(setting);
-        texts(&rt, &run)?;
-    }
-    Ok(())
+fn texts_at_each_number_of_workers(rt: HostRuntime) -> Result<(), StreamError> {
+    at_each_setting(&rt, Suite::Texts)
 }
