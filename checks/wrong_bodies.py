@@ -40,7 +40,8 @@ TOLD = re.compile(r"fn (\S+?): (.*)")
 UNPROVED_NOTE = re.compile(r"note: (src/\S+?):(\d+):\d+: it is not proved that ")
 PROOF_ERROR = re.compile(r"(?:\./)?proofs/(\S+?)/\w+\.antt:\d+:\d+: error: (.*)")
 GONE = re.compile(r"has no field|is not in scope|has no `|was not admitted")
-UNKNOWN = re.compile(r"rattle: error: `\w+` has |\./proofs/\S+/Proof\.antt: error")
+UNKNOWN = re.compile(r"rattle: error: `\w+` has ")
+REFUSED_HOLE = re.compile(r"\./proofs/(\S+)/Proof\.antt: error")
 SOUND = re.compile(r"proved|no holes|depends on a hole in .*")
 HOLE = """use Rattle.{module}.Statement.{{statement}}
 
@@ -157,15 +158,9 @@ def names_of(crate, function, told):
     return [it for it in named if owners[it] == wanted] or [it for it in named if owners[it].startswith(wanted)] or named
 
 
-def is_called_by_itself(function, lines):
-    """Whether a function is in a cycle of calls: then one proof stands for the whole cycle."""
-    inside = "\n".join(lines[function.first + 1 : function.last + 1])
-    return len(function.folders) > 2 or re.search(rf"\b{function.name}\(", inside) is not None
-
-
 @contextlib.contextmanager
 def with_holes(crate, proved):
-    """A copy of a crate in which a function's proof is a hole, unless it is one of these, or in a cycle of calls."""
+    """A copy of a crate in which a function's proof is a hole, unless it is one of these, or in a cycle of calls with a proof of its own."""
     with tempfile.TemporaryDirectory(prefix="wrong-bodies-crate-") as room:
         for part in RT.rtlib.PARTS:
             if os.path.isdir(f"{crate.folder}/{part}"):
@@ -173,9 +168,10 @@ def with_holes(crate, proved):
         for function in functions_in(crate):
             lines = pathlib.Path(room, function.file).read_text(encoding="utf-8").split("\n")
             path = path_of(function)
-            if path in proved or lines[function.last].endswith(";") or is_called_by_itself(function, lines):
-                continue
             folder = pathlib.Path(room, "proofs", *path.split("::"))
+            is_in_a_cycle = len(function.folders) > 2 or folder.with_name(f"+{function.name}").is_dir()
+            if path in proved or lines[function.last].endswith(";") or is_in_a_cycle:
+                continue
             shutil.rmtree(folder, ignore_errors=True)
             folder.mkdir(parents=True)
             module = ".".join([crate.name, "proofs", *path.split("::")])
@@ -332,7 +328,7 @@ class Trial:
     """The edits of one crate, each tried until it is shown as refused or has failed."""
 
     def __init__(self, crate, edits, kept):
-        self.crate, self.edits, self.kept, self.told = crate, edits, kept, {}
+        self.crate, self.edits, self.kept, self.told, self.no_holes = crate, edits, kept, {}, set()
 
     def run(self):
         """What came of each edit: whether it passed, and what is told of it."""
@@ -366,9 +362,14 @@ class Trial:
     def check(self, texts, paths):
         """The lines of a check of these functions, or of the whole crate where there are none."""
         only = [word for it in dict.fromkeys(paths) for word in ("--only", it)]
-        with with_holes(self.crate, paths) if only else contextlib.nullcontext(self.crate) as crate:
+        with with_holes(self.crate, {*paths} | self.no_holes) if only else contextlib.nullcontext(self.crate) as crate:
             ran = RT.checked(crate, texts, ["--jobs", "1", *(only and ["--allow-holes"]), *only], self.kept)
         said = ran.stdout.rstrip("\n").split("\n")
+        refused = {it[1].replace("/", "::") for it in map(REFUSED_HOLE.match, said) if it} - self.no_holes
+        if refused:
+            # (a cycle of calls without files, or a function for which the check has another name)
+            self.no_holes |= refused
+            return self.check(texts, paths)
         # (a name that the check has not, or has twice, is left to a check of the whole)
         return self.check(texts, []) if only and any(map(UNKNOWN.match, said)) else said
 
