@@ -44,3 +44,7 @@ returns-in-Mod-clause-values c =
     let n = c.in-Mod._divisor in
     let fits : FitsSigned w64 n = search rules in
     subst Gives (sym c.in-Mod.is) (mod-value n fits)
+
+-- bounded: a wrong body would search to its limit
+pub returns-in-Mod-clause-one_to_one : goal.returns-in-Mod-clause-one_to_one
+returns-in-Mod-clause-one_to_one c = search rules fits 60 depth 3

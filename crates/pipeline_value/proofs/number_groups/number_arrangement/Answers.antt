@@ -1,0 +1,12 @@
+use Rattle.std.proofs.Common.{rules}
+use Rattle.pipeline_value.proofs.number_groups.number_arrangement.Goals as goal
+
+-- bounded: a wrong body would search to its limit
+pub returns-in-GroupBy-clause-told : goal.returns-in-GroupBy-clause-told
+returns-in-GroupBy-clause-told g c = search rules fits 200 depth 4
+
+pub returns-in-GroupBy-default-Base-Count-clause-told : goal.returns-in-GroupBy-default-Base-Count-clause-told
+returns-in-GroupBy-default-Base-Count-clause-told g c = search rules fits 60 depth 3
+
+pub returns-in-Teeing-clause-told : goal.returns-in-Teeing-clause-told
+returns-in-Teeing-clause-told g c = search rules fits 60 depth 3
