@@ -1,6 +1,5 @@
-use Rattle.std.proofs.Common.{rules}
+use Rattle.std.proofs.Common.{rules, ap, sym, ◌∙◌}
 -- The first item is what keeping the earlier of two leaves.
-use Rattle.std.proofs.Common.{ap, sym, ◌∙◌}
 use Rattle.std.specs.Fmt.{signed_decimal}
 use Rattle.collectors.specs.Reductions.{reduced}
 use Rattle.pipeline_meaning.specs.Functions.{number_join}

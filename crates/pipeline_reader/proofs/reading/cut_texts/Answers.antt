@@ -1,5 +1,4 @@
-use Rattle.std.proofs.Common.{rules}
-use Rattle.std.proofs.Common.{◌≡◌, ◌+◌, ap, subst, sym, map, drop, length, arith, ℕ, List, [], ◌∷◌, Err, Vec, Global, Bor}
+use Rattle.std.proofs.Common.{rules, ◌≡◌, ◌+◌, ap, subst, sym, map, drop, length, arith, ℕ, List, [], ◌∷◌, Err, Vec, Global, Bor}
 use Rattle.std.proofs.lemmas.List.{length-append}
 use Rattle.std.proofs.lemmas.Str.{is_utf8-from_IsUtf8}
 use Rattle.pipeline_language.specs.FileReading.{Reads, first_text}

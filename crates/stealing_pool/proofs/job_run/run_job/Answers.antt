@@ -1,5 +1,4 @@
-use Rattle.std.proofs.Common.{rules}
-use Rattle.std.proofs.Common.{◌≡◌, ◌∙◌, ap, length, arith}
+use Rattle.std.proofs.Common.{rules, ◌≡◌, ◌∙◌, ap, length, arith}
 use Rattle.split_tree.specs.SplitTree.{leaf_numbers}
 use Rattle.split_tree.specs.TreeLaws.{some_leaf, length-numbers_from}
 use Rattle.stealing_pool.proofs.job_run.run_job.Goals as goal

@@ -1,7 +1,7 @@
 use Rattle.std.proofs.Common.{refl}
 use Rattle.collectors.proofs.joining.Joining.new.Goals as goal
 
--- bounded: a wrong body would search to its limit
+-- by computing: a wrong body would search to its limit
 pub returns-clause-delimiter : goal.returns-clause-delimiter
 returns-clause-delimiter g c = refl
 

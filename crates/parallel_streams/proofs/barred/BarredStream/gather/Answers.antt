@@ -1,5 +1,4 @@
-use Rattle.std.proofs.Common.{rules}
-use Rattle.std.proofs.Common.{List, length, subst, refl}
+use Rattle.std.proofs.Common.{rules, List, length, subst, refl}
 use Rattle.parallel_streams.specs.Cuts.{Ascends}
 use Rattle.parallel_streams.specs.Ends.{ends_of}
 use Rattle.parallel_streams.specs.ProgressLaws.{told-before}
