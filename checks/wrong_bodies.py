@@ -158,26 +158,38 @@ def names_of(crate, function, told):
     return [it for it in named if owners[it] == wanted] or [it for it in named if owners[it].startswith(wanted)] or named
 
 
+def without_body(lines, function):
+    """The lines with the function's body emptied, and none moved. A body of one line stays."""
+    first = next((at + 1 for at in range(function.first, function.last) if lines[at].endswith(" {") or lines[at].strip() == "{"), function.last)
+    left = function.last - first
+    return [*lines[:first], *["unreachable!()", *[""] * left][:left], *lines[function.last :]]
+
+
 @contextlib.contextmanager
-def with_holes(crate, proved):
-    """A copy of a crate in which a function's proof is a hole, unless it is one of these, or in a cycle of calls with a proof of its own."""
+def with_holes(crate, proved, texts):
+    """A copy of a crate with these texts, in which a function's proof is a hole and its body empty, unless it is one of these, or in a cycle of calls
+    with a proof of its own."""
     with tempfile.TemporaryDirectory(prefix="wrong-bodies-crate-") as room:
         for part in RT.rtlib.PARTS:
             if os.path.isdir(f"{crate.folder}/{part}"):
                 shutil.copytree(f"{crate.folder}/{part}", f"{room}/{part}")
-        for function in functions_in(crate):
-            lines = pathlib.Path(room, function.file).read_text(encoding="utf-8").split("\n")
+        for file, text in texts.items():
+            pathlib.Path(room, file).write_text(text, encoding="utf-8")
+        holed = copy.copy(crate)
+        holed.folder = room
+        for function in functions_in(holed):
+            source = pathlib.Path(room, function.file)
+            lines = source.read_text(encoding="utf-8").split("\n")
             path = path_of(function)
             folder = pathlib.Path(room, "proofs", *path.split("::"))
             is_in_a_cycle = len(function.folders) > 2 or folder.with_name(f"+{function.name}").is_dir()
             if path in proved or lines[function.last].endswith(";") or is_in_a_cycle:
                 continue
+            source.write_text("\n".join(without_body(lines, function)), encoding="utf-8")
             shutil.rmtree(folder, ignore_errors=True)
             folder.mkdir(parents=True)
             module = ".".join([crate.name, "proofs", *path.split("::")])
             (folder / "Proof.antt").write_text(HOLE.format(module=module, name=function.name), encoding="utf-8")
-        holed = copy.copy(crate)
-        holed.folder = room
         yield holed
 
 
@@ -362,8 +374,8 @@ class Trial:
     def check(self, texts, paths):
         """The lines of a check of these functions, or of the whole crate where there are none."""
         only = [word for it in dict.fromkeys(paths) for word in ("--only", it)]
-        with with_holes(self.crate, {*paths} | self.no_holes) if only else contextlib.nullcontext(self.crate) as crate:
-            ran = RT.checked(crate, texts, ["--jobs", "1", *(only and ["--allow-holes"]), *only], self.kept)
+        with with_holes(self.crate, {*paths} | self.no_holes, texts) if only else contextlib.nullcontext(self.crate) as crate:
+            ran = RT.checked(crate, {} if only else texts, ["--jobs", "1", *(only and ["--allow-holes"]), *only], self.kept)
         said = ran.stdout.rstrip("\n").split("\n")
         refused = {it[1].replace("/", "::") for it in map(REFUSED_HOLE.match, said) if it} - self.no_holes
         if refused:
