@@ -5,8 +5,8 @@
 
 Run it at the top of the repository, once the libraries are built (`rt ci`, or `rt all check`). An edit has the form of a must-fail edit:
 a line `file: src/..`, then pairs of lines `old: TEXT` and `new: TEXT`. One check tries as many edits of a crate as touch different
-functions, and proves no others than these: the proof of each other function is a hole, which stands for what its contract says. An edit passes
-where the check says of the edited function itself that a goal isn't proved. That the function calls one that was refused, that a proof file names what
+functions, and proves no others than these: the proof of each other function is a hole, which stands for what its contract says, and its body is
+empty. An edit passes where the check says of the edited function itself that a goal isn't proved. That the function calls one that was refused, that a proof file names what
 the edit took away, or that the text can't be read is no refusal. What a pack doesn't show so is tried alone. An edit outside functions, of a constant say, has a line
 `function: NAME` with the check's name of the function that has to be refused; without one it is tried alone, on the whole crate, and passes
 where any function is refused so.
