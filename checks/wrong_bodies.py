@@ -11,8 +11,8 @@ the edit took away, or that the text can't be read is no refusal. What a pack do
 `function: NAME` with the check's name of the function that has to be refused; without one it is tried alone, on the whole crate, and passes
 where any function is refused so.
 
-As `rt ci` does, it keeps on this machine what passed, by the checksums of all that it rests on: the edit, the crate, the crates below it, the
-toolchain, and this script. A later run tries what changed; --anew tries all.
+Where `rt ci` keeps on this machine what passed, so does this: by the checksums of all that it rests on, which are the edit, the crate, the crates below
+it, the toolchain, and this script. A later run tries what changed; --anew tries all.
 
 Prints a line an edit, and last `N passed, M failed`.
 """
@@ -65,6 +65,7 @@ def load_rt():
 
 
 RT = load_rt()
+KEEPS = hasattr(RT, "Kept")
 
 
 def functions_of(file, text):
@@ -313,10 +314,10 @@ def why_not(edit, crate, told):
 
 
 class Passed:
-    """What earlier runs on this machine saw refused, where `rt` keeps what it passed."""
+    """What earlier runs on this machine saw refused, where `rt` keeps what it passed. A kit that keeps nothing (one before 13f) has all tried anew."""
 
     def __init__(self, crates, anew):
-        self.store = RT.Kept(crates, anew)
+        self.store = RT.Kept(crates, anew) if KEEPS else None
         self.script = pathlib.Path(__file__).read_bytes()
 
     def name(self, crate, edit):
@@ -326,12 +327,12 @@ class Passed:
 
     def find(self, crate, edit):
         """What an earlier run told of a refused edit, or None."""
-        found = None if edit.fault else self.store.tried(self.name(crate, edit))
+        found = None if edit.fault or not self.store else self.store.tried(self.name(crate, edit))
         return found and found[1]
 
     def keep(self, crate, edits):
         """Keeps what was told of refused edits, unless a file that the result rests on was touched since the run began."""
-        if all(map(self.store.is_untouched, [crate, *crate.below()])):
+        if self.store and all(map(self.store.is_untouched, [crate, *crate.below()])):
             for edit, text in edits.items():
                 self.store.keep_tried(self.name(crate, edit), RT.REFUSED, text)
 
