@@ -4,9 +4,9 @@
     checks/wrong_bodies.py [--anew] [CRATE..]
 
 Run it at the top of the repository, once the libraries are built (`rt ci`, or `rt all check`). An edit has the form of a must-fail edit:
-a line `file: src/..`, then pairs of lines `old: TEXT` and `new: TEXT`. One check tries as many edits of a crate as touch different
-functions, and proves no others than these: the proof of each other function is a hole, which stands for what its contract says, and its body is
-empty. An edit passes where the check says of the edited function itself that a goal isn't proved. That the function calls one that was refused, that a proof file names what
+a line `file: src/..`, then pairs of lines `old: TEXT` and `new: TEXT`. One check tries as many edits of a crate as it can, at most one a function: where
+several touch one function, it stands there once more for each, under a name of its own, unless it is a method of a trait or calls itself. The check proves
+no others than these: the proof of each other function is a hole, which stands for what its contract says, and its body is empty. An edit passes where the check says of the edited function itself that a goal isn't proved. That the function calls one that was refused, that a proof file names what
 the edit took away, or that the text can't be read is no refusal. What a pack doesn't show so is tried alone. An edit outside functions, of a constant say, has a line
 `function: NAME` with the check's name of the function that has to be refused; without one it is tried alone, on the whole crate, and passes
 where any function is refused so.
@@ -167,15 +167,17 @@ def without_body(lines, function):
 
 
 @contextlib.contextmanager
-def with_holes(crate, proved, texts):
-    """A copy of a crate with these texts, in which a function's proof is a hole and its body empty, unless it is one of these, or in a cycle of calls
+def with_holes(crate, proved, pack):
+    """A copy of a crate with a pack's texts, in which a function's proof is a hole and its body empty, unless it is one of these, or in a cycle of calls
     with a proof of its own."""
     with tempfile.TemporaryDirectory(prefix="wrong-bodies-crate-") as room:
         for part in RT.rtlib.PARTS:
             if os.path.isdir(f"{crate.folder}/{part}"):
                 shutil.copytree(f"{crate.folder}/{part}", f"{room}/{part}")
-        for file, text in texts.items():
+        for file, text in pack.texts.items():
             pathlib.Path(room, file).write_text(text, encoding="utf-8")
+        for made in pack.copies:
+            made.put_proof(crate.name, room)
         holed = copy.copy(crate)
         holed.folder = room
         for function in functions_in(holed):
@@ -192,6 +194,40 @@ def with_holes(crate, proved, texts):
             module = ".".join([crate.name, "proofs", *path.split("::")])
             (folder / "Proof.antt").write_text(HOLE.format(module=module, name=function.name), encoding="utf-8")
         yield holed
+
+
+def names_in_proofs(path, crate):
+    """How the crate's proof files name what stands in the folder of a function's proof."""
+    return ".".join([f"Rattle.{crate}.proofs", *path.split("::"), ""])
+
+
+class Copy:
+    """A function that stands in a crate once more, under another name."""
+
+    def __init__(self, of, number):
+        self.of, self.name = of, f"{of.name}_{number}"
+        self.function = of._replace(name=self.name, folders=(self.name, f"+{self.name}"))
+
+    @staticmethod
+    def can_be_of(function):
+        """Whether the function is the same under another name: no method of a trait, and in no cycle of calls."""
+        in_trait = function.owner.startswith(("trait", "pub trait")) or bool(function.owner and split_impl(function.owner)[1])
+        return not in_trait and len(function.folders) == 2
+
+    def put(self, text, lines):
+        """A file's text with these lines of the function behind it, under the other name."""
+        renamed = [re.sub(rf"\bfn {self.of.name}\b", f"fn {self.name}", it) if FUNCTION.match(it) else it for it in lines]
+        now = next(it for it in functions_of(self.of.file, text) if (it.owner, it.name) == (self.of.owner, self.of.name))
+        whole = text.split("\n")
+        return "\n".join([*whole[: now.last + 1], "", *renamed, *whole[now.last + 1 :]])
+
+    def put_proof(self, crate, room):
+        """Puts what stands in the folder of the function's proof into one of the copy."""
+        old, new = path_of(self.of), path_of(self.function)
+        folder = pathlib.Path(room, "proofs", *old.split("::"))
+        if folder.is_dir():
+            for file in shutil.copytree(folder, folder.with_name(self.name)).rglob("*.antt"):
+                file.write_text(file.read_text(encoding="utf-8").replace(names_in_proofs(old, crate), names_in_proofs(new, crate)), encoding="utf-8")
 
 
 class Edit:
@@ -213,6 +249,7 @@ class Edit:
                 self.pairs.append((file, old, line[len("new:") :].removeprefix(" ")))
         if not self.fault:
             self.is_inside = all([self.find(crate, file, old) for file, old, _ in self.pairs])
+        self.is_within = not self.fault and self.is_inside
         if not self.fault and named:
             self.functions = [it for it in functions_in(crate) if path_of(it) == named]
             self.is_inside = len(self.functions) == 1
@@ -241,24 +278,62 @@ class Edit:
             texts[file] = texts[file].replace(old, new)
         return texts
 
+    def apply_to(self, made, texts, folder):
+        """The texts with a copy of a function, in which the edit is made, or None where it isn't within the function."""
+        file = made.of.file
+        text = pathlib.Path(folder, file).read_text(encoding="utf-8").split("\n")
+        first = made.of.first
+        while text[first - 1].strip().startswith("#["):
+            first -= 1
+        lines = "\n".join(text[first : made.of.last + 1])
+        before = texts.get(file, "\n".join(text))
+        for _, old, new in self.pairs:
+            if lines.count(old) != 1:
+                return None
+            lines = lines.replace(old, new)
+        return texts | {file: made.put(before, lines.split("\n"))}
 
-def packs_of(edits, folder):
-    """The edits in packs, at most one a function in each."""
+
+class Pack:
+    """Edits that one check tries: the texts with all of them made, the functions of each as they are named there, and which of these are copies."""
+
+    def __init__(self, crate, edits=()):
+        self.crate, self.texts, self.functions, self.copies = crate, {}, {}, []
+        for edit in edits:
+            self.add(edit)
+
+    def add(self, edit):
+        """Takes an edit too, and says whether it did."""
+        # (an edit of a constant says something of each function that names it)
+        if self.functions and not all(it.is_within for it in [edit, *self.functions]):
+            return False
+        touched = [it for it in edit.functions if any(it in other.functions for other in self.functions)]
+        copies = []
+        if not touched:
+            texts = edit.apply(self.texts, self.crate.folder)
+        elif len(edit.functions) == 1 and Copy.can_be_of(touched[0]):
+            copies = [Copy(touched[0], 2 + sum(it.of == touched[0] for it in self.copies))]
+            texts = edit.apply_to(copies[0], self.texts, self.crate.folder)
+        else:
+            return False
+        if texts is None:
+            return False
+        self.texts, self.functions[edit] = texts, [it.function for it in copies] or edit.functions
+        self.copies += copies
+        return True
+
+    def paths(self):
+        """The check's names of the functions to prove, or none where the whole crate is to be."""
+        return [path_of(it) for edit in self.functions for it in self.functions[edit]] if all(it.is_inside for it in self.functions) else []
+
+
+def packs_of(edits, crate):
+    """The edits in packs, as few as that allows."""
     packs = []
     for edit in edits:
-        spans = {(it.file, it.first) for it in edit.functions}
-        for pack in packs:
-            texts = edit.apply(pack["texts"], folder) if edit.is_inside and pack["shared"] and not spans & pack["spans"] else None
-            if texts is not None:
-                break
-        else:
-            pack = {"edits": [], "spans": set(), "shared": edit.is_inside}
-            packs.append(pack)
-            texts = edit.apply({}, folder)
-        pack["edits"].append(edit)
-        pack["spans"] |= spans
-        pack["texts"] = texts
-    return [it["edits"] for it in packs]
+        if not any(pack.add(edit) for pack in packs):
+            packs.append(Pack(crate, [edit]))
+    return packs
 
 
 def read_check(said):
@@ -347,53 +422,50 @@ class Trial:
         """What came of each edit: whether it passed, and what is told of it."""
         sound = [it for it in self.edits if not it.fault]
         self.told = {it: (False, f"it can't be applied: {it.fault}") for it in self.edits if it.fault}
-        for pack in packs_of(sound, self.crate.folder):
+        for pack in packs_of(sound, self.crate):
             self.try_pack(pack)
         for edit in sound:
             if edit not in self.told:
-                self.try_pack([edit])
+                self.try_pack(Pack(self.crate, [edit]))
         return self.told
 
     def try_pack(self, pack):
-        texts = {}
-        for edit in pack:
-            texts = edit.apply(texts, self.crate.folder)
-        said = self.check(texts, [path_of(it) for edit in pack for it in edit.functions] if all(it.is_inside for it in pack) else [])
-        unread = next((it for it in said if RT.unread(it, texts)), None)
+        said = self.check(pack, pack.paths())
+        unread = next((it for it in said if RT.unread(it, pack.texts)), None)
         if unread or not said[-1].startswith(("logic=", "only=")):
-            return self.divide(pack, unread or next((it for it in said if "error" in it), said[-1]))
+            return self.divide([*pack.functions], unread or next((it for it in said if "error" in it), said[-1]))
         told = read_check(said)
-        for edit in pack:
-            goals = [own_goal(it, self.crate.name, told, texts) for it in edit.functions]
+        for edit, functions in pack.functions.items():
+            goals = [own_goal(it, self.crate.name, told, pack.texts) for it in functions]
             goals += [] if edit.is_inside else [own_goal_of_any(self.crate.name, told)]
             shown = next((it for it in goals if it), None)
             if shown:
                 self.told[edit] = True, f"refused: {shown}"
-            elif len(pack) == 1:
+            elif len(pack.functions) == 1:
                 self.told[edit] = False, why_not(edit, self.crate.name, told)
 
-    def check(self, texts, paths):
+    def check(self, pack, paths):
         """The lines of a check of these functions, or of the whole crate where there are none."""
         only = [word for it in dict.fromkeys(paths) for word in ("--only", it)]
-        with with_holes(self.crate, {*paths} | self.no_holes, texts) if only else contextlib.nullcontext(self.crate) as crate:
-            ran = RT.checked(crate, {} if only else texts, ["--jobs", "1", *(only and ["--allow-holes"]), *only], self.kept)
+        with with_holes(self.crate, {*paths} | self.no_holes, pack) if only else contextlib.nullcontext(self.crate) as crate:
+            ran = RT.checked(crate, {} if only else pack.texts, ["--jobs", "1", *(only and ["--allow-holes"]), *only], self.kept)
         said = ran.stdout.rstrip("\n").split("\n")
         refused = {it[1].replace("/", "::") for it in map(REFUSED_HOLE.match, said) if it} - self.no_holes
         if refused:
             # (a cycle of calls without files, or a function for which the check has another name)
             self.no_holes |= refused
-            return self.check(texts, paths)
+            return self.check(pack, paths)
         # (a name that the check has not, or has twice, is left to a check of the whole)
-        return self.check(texts, []) if only and any(map(UNKNOWN.match, said)) else said
+        return self.check(pack, []) if only and any(map(UNKNOWN.match, said)) else said
 
-    def divide(self, pack, unread):
-        """Tries the halves of a pack whose text can't be read."""
-        if len(pack) == 1:
-            self.told[pack[0]] = False, f"the edited text can't be read: {unread[:200]}"
+    def divide(self, edits, unread):
+        """Tries the halves of the edits whose text can't be read together."""
+        if len(edits) == 1:
+            self.told[edits[0]] = False, f"the edited text can't be read: {unread[:200]}"
             return
-        half = len(pack) // 2
-        self.try_pack(pack[:half])
-        self.try_pack(pack[half:])
+        half = len(edits) // 2
+        self.try_pack(Pack(self.crate, edits[:half]))
+        self.try_pack(Pack(self.crate, edits[half:]))
 
 
 def try_crate(crate, passed):
