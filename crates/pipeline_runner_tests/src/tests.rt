@@ -10,13 +10,19 @@ use std::random::RandomSource;
 use std::test::Fail;
 use std::thread::Threads;
 
+mod cuts;
 mod devices;
+mod distinct;
 mod faults;
+mod fronts;
 mod gates;
+mod known_sizes;
 mod leaves;
 mod limits;
+mod numbers;
 mod program;
 mod rows;
+mod texts;
 mod values;
 
 /// The bytes for which an output of the tests asks at once, so that no write of its wants memory.
@@ -157,7 +163,19 @@ fn check<R: Threads + RandomSource + Abort + Sync>(
     told: &str,
     written: &str,
 ) -> Result<(), Fail> {
-    let end = run_with(rt, alloc, case, &Watch::new(false))?;
+    check_watched(rt, alloc, case, &Watch::new(false), told, written)
+}
+
+/// Asserts what a run tells and writes, which the gate watches.
+fn check_watched<R: Threads + RandomSource + Abort + Sync>(
+    rt: &R,
+    alloc: Global,
+    case: &Case<'_>,
+    gate: &Watch,
+    told: &str,
+    written: &str,
+) -> Result<(), Fail> {
+    let end = run_with(rt, alloc, case, gate)?;
     let is_wanted = end.0.as_str() == told && end.1.as_str() == written;
     assert!(rt; is_wanted, "{end:?} is not {told:?} and {written:?}");
     Ok(())

@@ -112,7 +112,8 @@ fn are_told(rt: HostRuntime) -> Result<(), Fail> {
     )?;
     all_right(&rt, rt.alloc(), &[ONE], &[NOT_IN_THE_FIRST.as_slice()])?;
     all_right(&rt, rt.alloc(), &[TWO], &[NOT_IN_THE_SECOND.as_slice()])?;
-    all_right(&rt, rt.alloc(), &[b""], &[WHOLE.as_slice()])
+    all_right(&rt, rt.alloc(), &[b""], &[WHOLE.as_slice()])?;
+    Ok(())
 }
 
 #[test]

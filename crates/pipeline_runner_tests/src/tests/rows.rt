@@ -1,6 +1,7 @@
 //! Runs of files with few and many workers, at leaves of one item and of as many as are chosen.
 
-use super::{Case, check};
+use super::gates::Watch;
+use super::{Case, check_watched};
 use std::alloc::{AllocError, Global};
 use std::process::Abort;
 use std::random::RandomSource;
@@ -10,6 +11,15 @@ use std::thread::Threads;
 pub const ONE: &[u8] = b"pipeline 1\n";
 
 pub const TWO: &[u8] = b"pipeline 2\n";
+
+/// The numbers of workers that each row runs with.
+pub static WORKERS: [u32; 4] = [1, 2, 7, 64];
+
+/// The targets that each row runs at: a leaf an item, several items a leaf, and the one that is chosen.
+static TARGETS: [u64; 3] = [1, 3, 0];
+
+/// Those of rows over long ranges, which have as many leaves at 3 as at 1.
+pub static TARGETS_OF_LONG: [u64; 2] = [1, 0];
 
 /// The lines behind the first one of a file, and what is written of it, which ends a line, or told.
 pub type Row<'a> = (&'a [u8], &'a str);
@@ -22,40 +32,51 @@ fn file_of(alloc: Global, first: &[u8], lines: &[u8]) -> Result<Vec<u8>, AllocEr
     Ok(file)
 }
 
-/// Behind each of the first lines each row of the tables has its answer with 1, 2, 7 and 64 workers, at target 1 and at the one that is chosen.
+/// Behind each of the first lines each row of the tables has its answer with each number of workers at each target. Answers the gate that
+/// counted the leaves.
 pub fn all_right<R: Threads + RandomSource + Abort + Sync>(
     rt: &R,
     alloc: Global,
     firsts: &[&[u8]],
     tables: &[&[Row<'_>]],
-) -> Result<(), Fail> {
-    for first in firsts {
-        for rows in tables {
-            right_at(rt, alloc, first, rows, 1)?;
-            right_at(rt, alloc, first, rows, 0)?;
-        }
-    }
-    Ok(())
+) -> Result<Watch, Fail> {
+    all_right_at(rt, alloc, &TARGETS, firsts, tables)
 }
 
-/// Each row has its answer with 1, 2, 7 and 64 workers, at this target.
+/// The same at these targets.
+pub fn all_right_at<R: Threads + RandomSource + Abort + Sync>(
+    rt: &R,
+    alloc: Global,
+    targets: &[u64],
+    firsts: &[&[u8]],
+    tables: &[&[Row<'_>]],
+) -> Result<Watch, Fail> {
+    let gate = Watch::new(false);
+    for first in firsts {
+        for rows in tables {
+            for &target in targets {
+                for &workers in &WORKERS {
+                    right_at(rt, alloc, &gate, first, rows, (workers, target))?;
+                }
+            }
+        }
+    }
+    Ok(gate)
+}
+
+/// Each row has its answer with so many workers at this target.
 pub fn right_at<R: Threads + RandomSource + Abort + Sync>(
     rt: &R,
     alloc: Global,
+    gate: &Watch,
     first: &[u8],
     rows: &[Row<'_>],
-    target: u64,
+    settings: (u32, u64),
 ) -> Result<(), Fail> {
     for &(lines, wanted) in rows {
         let file = file_of(alloc, first, lines)?;
-        for &workers in &[1, 2, 7, 64] {
-            answers(
-                rt,
-                alloc,
-                &Case::of(file.as_slice(), workers, target),
-                wanted,
-            )?;
-        }
+        let case = Case::of(file.as_slice(), settings.0, settings.1);
+        answers(rt, alloc, &case, gate, wanted)?;
     }
     Ok(())
 }
@@ -65,11 +86,12 @@ fn answers<R: Threads + RandomSource + Abort + Sync>(
     rt: &R,
     alloc: Global,
     case: &Case<'_>,
+    gate: &Watch,
     wanted: &str,
 ) -> Result<(), Fail> {
     if wanted.ends_with("\n") {
-        check(rt, alloc, case, "", wanted)
+        check_watched(rt, alloc, case, gate, "", wanted)
     } else {
-        check(rt, alloc, case, wanted, "")
+        check_watched(rt, alloc, case, gate, wanted, "")
     }
 }

@@ -1,6 +1,7 @@
 //! Lines behind the first one of a file, each with what a run writes.
 
-use super::rows::{ONE, Row, TWO, all_right, right_at};
+use super::gates::Watch;
+use super::rows::{ONE, Row, TWO, WORKERS, all_right, right_at};
 use std::test::Fail;
 
 /// Sums, products and the like of numbers, which need no list.
@@ -180,6 +181,52 @@ static STRICT: [Row<'_>; 5] = [
     ),
 ];
 
+/// Groups, parts and maps of numbers and of texts, by more keys.
+static MORE_GROUPS: [Row<'_>; 12] = [
+    (b"numbers 5 2 7 4 5\ngroupby mod 2 count\n", "{1=3, 0=2}\n"),
+    (
+        b"numbers 1 2 3 4 5 6\ngroupby mod 2 groupby mod 3 count\n",
+        "{1={1=1, 0=1, 2=1}, 0={2=1, 1=1, 0=1}}\n",
+    ),
+    (
+        b"numbers\ngroupby mod 2 filtering greater 2 count\n",
+        "{}\n",
+    ),
+    (
+        b"lines 3\nbb\na\ncc\ngroupby length count\n",
+        "{2=2, 1=1}\n",
+    ),
+    (b"lines 3\na\nbb\na\ngroupby self count\n", "{a=2, bb=1}\n"),
+    (
+        b"lines 3\na\nbb\na\ngroupby self groupby length count\n",
+        "{a={1=2}, bb={2=1}}\n",
+    ),
+    (
+        b"lines 3\na\nbb\n\npartition longer 1 tolist\n",
+        "{false=[a, ], true=[bb]}\n",
+    ),
+    (
+        b"lines 2\nbb\na\nteeing first count\n",
+        "[Optional[bb], 2]\n",
+    ),
+    (
+        b"lines 3\nbb\na\ncc\ntomap length self last\n",
+        "{2=cc, 1=a}\n",
+    ),
+    (
+        b"lines 3\nbb\na\nbb\ntomap self length sum\n",
+        "{bb=4, a=1}\n",
+    ),
+    (
+        b"lines 2\nab\nc\ntomapstrict length self\n",
+        "{2=ab, 1=c}\n",
+    ),
+    (
+        b"lines 3\nab\nc\nab\ntomapstrict self length\n",
+        "duplicate key ab",
+    ),
+];
+
 #[test]
 fn are_written(rt: HostRuntime) -> Result<(), Fail> {
     let of_both = [
@@ -190,12 +237,9 @@ fn are_written(rt: HostRuntime) -> Result<(), Fail> {
         GROUPS.as_slice(),
     ];
     all_right(&rt, rt.alloc(), &[ONE, TWO], &of_both)?;
-    all_right(
-        &rt,
-        rt.alloc(),
-        &[TWO],
-        &[NESTED.as_slice(), STRICT.as_slice()],
-    )
+    let of_the_second = [NESTED.as_slice(), STRICT.as_slice(), MORE_GROUPS.as_slice()];
+    all_right(&rt, rt.alloc(), &[TWO], &of_the_second)?;
+    Ok(())
 }
 
 /// First items far within a range, for leaves of 1,000 items.
@@ -215,6 +259,10 @@ static AT_THE_FRONT: [Row<'_>; 1] = [(b"range 0 8192\nfilter less 1\nlimit 1\nto
 
 #[test]
 fn of_a_first_item(rt: HostRuntime) -> Result<(), Fail> {
-    right_at(&rt, rt.alloc(), ONE, &FAR_WITHIN, 1000)?;
-    right_at(&rt, rt.alloc(), ONE, &AT_THE_FRONT, 4096)
+    let gate = Watch::new(false);
+    for &workers in &WORKERS {
+        right_at(&rt, rt.alloc(), &gate, ONE, &FAR_WITHIN, (workers, 1000))?;
+        right_at(&rt, rt.alloc(), &gate, ONE, &AT_THE_FRONT, (workers, 4096))?;
+    }
+    Ok(())
 }

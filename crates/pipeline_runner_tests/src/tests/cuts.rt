@@ -1,0 +1,106 @@
+//! Limits, skips and whiles behind filters, which are done by cutting the source.
+
+use super::rows::{Row, TARGETS_OF_LONG, TWO, all_right, all_right_at};
+use std::test::Fail;
+
+/// The places are near the front, far behind it, at an end of the parts that are counted, and nowhere.
+static RANGES: [Row<'_>; 16] = [
+    (
+        b"range 0 300000\nfilter divisible 3\nlimit 5000\nsum\n",
+        "37492500\n",
+    ),
+    (
+        b"range 0 300000\nfilter divisible 3\nlimit 0\ntolist\n",
+        "[]\n",
+    ),
+    (
+        b"range 0 300000\nfilter divisible 3\nlimit 100001\ncount\n",
+        "100000\n",
+    ),
+    (
+        b"range 0 300000\nfilter greater -1\nlimit 4096\nmax\n",
+        "Optional[4095]\n",
+    ),
+    (
+        b"range 0 300000\nfilter greater -1\nlimit 4097\nmax\n",
+        "Optional[4096]\n",
+    ),
+    (
+        b"range 0 300000\nfilter divisible 3\nskip 99997\ntolist\n",
+        "[299991, 299994, 299997]\n",
+    ),
+    (
+        b"range 0 300000\nfilter divisible 3\nskip 100000\ntolist\n",
+        "[]\n",
+    ),
+    (
+        b"range 0 300000\nfilter divisible 3\nskip 0\ncount\n",
+        "100000\n",
+    ),
+    (
+        b"range 0 300000\nfilter divisible 3\ntakewhile less 100000\ncount\n",
+        "33334\n",
+    ),
+    (
+        b"range 0 300000\nfilter divisible 3\ntakewhile less 300000\ncount\n",
+        "100000\n",
+    ),
+    (
+        b"range 0 300000\nfilter divisible 3\ntakewhile greater 0\ntolist\n",
+        "[]\n",
+    ),
+    (
+        b"range 0 300000\nfilter divisible 3\ndropwhile less 299992\ntolist\n",
+        "[299994, 299997]\n",
+    ),
+    (
+        b"range 0 300000\nfilter divisible 3\ndropwhile less 300000\ntolist\n",
+        "[]\n",
+    ),
+    (
+        b"range 0 300000\nmap mul 2\ndropwhile equals 0\nmin\n",
+        "Optional[2]\n",
+    ),
+    (
+        b"range 0 100\nfilter divisible 2\nskip 3\nfilter divisible 3\nlimit 4\ntakewhile less 20\nmap add 1\ntolist\n",
+        "[7, 13, 19]\n",
+    ),
+    (
+        b"range 0 100\nfilter divisible 2\nflatmap repeat 2\nskip 3\nlimit 4\ntakewhile less 4\ntolist\n",
+        "[2]\n",
+    ),
+];
+
+static LISTS: [Row<'_>; 6] = [
+    (
+        b"numbers 5 3 8 1 9 2\nfilter greater 2\nlimit 2\ntolist\n",
+        "[5, 3]\n",
+    ),
+    (
+        b"numbers 5 3 8 1 9 2\nfilter greater 2\nskip 2\ntolist\n",
+        "[8, 9]\n",
+    ),
+    (
+        b"numbers 5 3 8 1 9 2\ntakewhile greater 1\ntolist\n",
+        "[5, 3, 8]\n",
+    ),
+    (
+        b"numbers 5 3 8 1 9 2\ndropwhile greater 1\nfilter less 9\ntolist\n",
+        "[1, 2]\n",
+    ),
+    (
+        b"numbers 5 3 5 1 9 2\ndistinct\nfilter greater 1\nskip 1\nlimit 2\ntolist\n",
+        "[3, 9]\n",
+    ),
+    (
+        b"lines 4\naa\nb\nccc\ndddd\nmap length\nfilter greater 1\ntakewhile less 4\nskip 1\ntolist\n",
+        "[3]\n",
+    ),
+];
+
+#[test]
+fn leave_what_barriers_leave(rt: HostRuntime) -> Result<(), Fail> {
+    all_right_at(&rt, rt.alloc(), &TARGETS_OF_LONG, &[TWO], &[&RANGES])?;
+    all_right(&rt, rt.alloc(), &[TWO], &[&LISTS])?;
+    Ok(())
+}

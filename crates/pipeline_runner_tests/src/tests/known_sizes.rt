@@ -1,0 +1,81 @@
+//! Counts that are known from the source's size run no leaf.
+
+ghost use Rattle.pipeline_value.specs.Ranges.{NumberSourceFits};
+
+use super::rows::{Row, TWO, all_right};
+use pipeline_language::NumberSource;
+use pipeline_value::source_size;
+use std::process::Abort;
+use std::test::Fail;
+
+static RANGES: [Row<'_>; 8] = [
+    (b"range 7 3\ncount\n", "0\n"),
+    (b"range -4 0\nskip 2\ncount\n", "2\n"),
+    (b"range -1 0\nskip 2\ncount\n", "0\n"),
+    (b"range 0 100\nskip 2\nmap negate\nlimit 5\ncount\n", "5\n"),
+    (b"range 0 6\nskip 2\nmap negate\nlimit 5\ncount\n", "4\n"),
+    (
+        b"range 0 100\nskip 2\nmap negate\nlimit 5\nskip 3\nmap negate\nlimit 9\ncount\n",
+        "2\n",
+    ),
+    (
+        b"range 0 4\nskip 2\nmap negate\nlimit 5\nskip 3\nmap negate\nlimit 9\ncount\n",
+        "0\n",
+    ),
+    (b"range 0 100\nlimit 0\ncount\n", "0\n"),
+];
+
+static LISTS: [Row<'_>; 7] = [
+    (b"closed 1 5\ncount\n", "5\n"),
+    (b"closed 5 4\ncount\n", "0\n"),
+    (b"numbers 4 4 4\nskip 1\ncount\n", "2\n"),
+    (b"lines 3\na\nbc\n\nskip 1\nmap self\ncount\n", "2\n"),
+    (
+        b"lines 3\na\nbc\n\nskip 1\nmap self\nlimit 1\ncount\n",
+        "1\n",
+    ),
+    (
+        b"lines 3\na\nbc\n\nskip 1\nmap self\nlimit 1\nmap length\nskip 1\ncount\n",
+        "0\n",
+    ),
+    (
+        b"lines 3\na\nbc\n\nskip 1\nmap self\nlimit 1\nmap length\ncount\n",
+        "1\n",
+    ),
+];
+
+static NOT_KNOWN: [Row<'_>; 1] = [(b"range 0 10\nskip 1\nfilter less 4\ncount\n", "3\n")];
+
+#[test]
+fn run_no_leaf(rt: HostRuntime) -> Result<(), Fail> {
+    let gate = all_right(&rt, rt.alloc(), &[TWO], &[&RANGES, &LISTS])?;
+    assert!(rt; gate.calls() == (0, 0, 0));
+    Ok(())
+}
+
+#[test]
+fn behind_a_filter_run_leaves(rt: HostRuntime) -> Result<(), Fail> {
+    let gate = all_right(&rt, rt.alloc(), &[TWO], &[&NOT_KNOWN])?;
+    assert!(rt; gate.calls().0 > 0);
+    Ok(())
+}
+
+fn has_size<R: Abort>(rt: &R, source: &NumberSource, wanted: u64) -> Result<(), Fail>
+    requires { NumberSourceFits source.now }
+{
+    assert_eq!(rt; source_size(source), wanted);
+    Ok(())
+}
+
+#[test]
+fn sources_have_sizes(rt: HostRuntime) -> Result<(), Fail> {
+    has_size(&rt, &NumberSource::Range(3, 10), 7)?;
+    has_size(&rt, &NumberSource::Range(7, 3), 0)?;
+    let most = NumberSource::Range(-2, 4_611_686_018_427_387_902);
+    has_size(&rt, &most, 4_611_686_018_427_387_904)?;
+    has_size(&rt, &NumberSource::Closed(3, 10), 8)?;
+    has_size(&rt, &NumberSource::Closed(10, 9), 0)?;
+    has_size(&rt, &NumberSource::Closed(i64::MAX, i64::MAX), 1)?;
+    let numbers = NumberSource::Numbers(Vec::from_slice(rt.alloc(), &[5, 1, 5])?);
+    has_size(&rt, &numbers, 3)
+}

@@ -1,5 +1,0 @@
-//! The tests of `pipeline_value`.
-#![tactic(auto)]
-
-#[cfg(test)]
-mod tests;
