@@ -1,14 +1,12 @@
 -- What was skipped can't matter: other lists in the place of skipped leaves leave the answer the same.
-use Rattle.std.specs.Prelude.{◌≡◌, ◌<◌, ◌≤◌, ◌+◌, ◌≢◌, ℕ, zero, suc, Bool, refl, List, [], ◌∷◌, ◌++◌, Option, Some, None, cond, count_by, take, drop, length, slice_index_or}
-use Rattle.std.proofs.Common.{sym, ap, ap₂, ◌∙◌, subst, arith, append-nil, ⊎_elim}
+use Rattle.std.specs.Prelude.{◌≡◌, ◌<◌, ◌≤◌, ◌+◌, ◌≢◌, ℕ, zero, suc, Bool, refl, List, [], ◌∷◌, ◌++◌, Option, Some, None, take, drop, length, slice_index_or}
+use Rattle.std.proofs.Common.{sym, ap, ap₂, ◌∙◌, subst, arith, ⊎_elim}
 use Rattle.std.proofs.lemmas.List.{take-append-drop}
-use Rattle.std.proofs.lemmas.List.Sums.{sum_by-append}
 use Rattle.barriers.specs.Needs.{KeepsEnough, IsEnough, Reaches}
-use Rattle.leaf_board.specs.Case.{sum_below}
 use Rattle.leaf_board.specs.Closing.{Outcome, count_of, cut_of}
 use Rattle.stealing_pool.specs.Fronts.{joined, full_count}
 use Rattle.stealing_pool.specs.Reports.{Reported, Reports}
-use Rattle.stealing_pool.specs.SpanLaws.{joined-append}
+use Rattle.stealing_pool.specs.SpanLaws.{joined-append, sum-counts}
 use Rattle.parallel_streams.specs.Reports.{IsHarmless, IsEntryOf}
 
 joined-split : {T : Type 0} (n : ℕ) (lists : List (List T)) → joined lists ≡ joined (take n lists) ++ joined (drop n lists)
@@ -39,22 +37,6 @@ take-same (suc n) (x ∷ lists) (y ∷ others) leaves same =
 take-all : {T : Type 0} (l : List T) → take (length l) l ≡ l
 take-all [] = refl
 take-all (x ∷ l) = ap (λ m. x ∷ m) (take-all l)
-
-take-step : {T : Type 0} (n : ℕ) (l : List T) (d : T) → n < length l → take (suc n) l ≡ take n l ++ slice_index_or l n d ∷ []
-take-step zero [] d within = absurd (omega (arith, within))
-take-step zero (x ∷ l) d within = refl
-take-step (suc n) [] d within = absurd (omega (arith, within))
-take-step (suc n) (x ∷ l) d within = ap (λ m. x ∷ m) (take-step n l d (omega (arith, within)))
-
--- the full counts of the first leaves add up to the count of their lists
-sum-counts : {T : Type 0} (counted : T → Bool) (lists : List (List T)) (n : ℕ) → n ≤ length lists → sum_below (full_count counted lists) n ≡ count_by counted (joined (take n lists))
-sum-counts counted lists zero within = refl
-sum-counts counted lists (suc n) within =
-    let rest = sum-counts counted lists n (omega arith) in
-    let here = slice_index_or lists n [] in
-    let step : joined (take (suc n) lists) ≡ joined (take n lists) ++ here = ap joined (take-step n lists [] (omega arith)) ∙ joined-append (take n lists) (here ∷ []) ∙ ap (λ l. joined (take n lists) ++ l) (append-nil here) in
-    let count = sum_by-append (λ x. cond (counted x) 1 0) (joined (take n lists)) here in
-    ap (λ m. m + count_by counted here) rest ∙ sym count ∙ ap (count_by counted) (sym step)
 
 some≢none : {X : Type 0} (x : X) → Some x ≢ None
 some≢none x e = cc

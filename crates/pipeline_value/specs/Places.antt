@@ -20,6 +20,18 @@ abbrev pub PlaceOrFewer : {A B : Type 0} → (A → List B) → List A → ℕ �
 PlaceOrFewer images l wanted (Some i) = IsPlace images l wanted i
 PlaceOrFewer images l wanted None = length (flat_map images l) < wanted
 
+-- the images of the items of the first leaves
+abbrev pub images_before : {S A B : Type 0} → (S → List A) → (A → List B) → List S → ℕ → List B
+images_before items images leaves n = flat_map images (flat_map items (take n leaves))
+
+-- With this leaf, and not before, so many images have come; so many items and images stand before it.
+pub record IsLeafPlace {S A B : Type 0} (items : S → List A) (images : A → List B) (leaves : List S) (wanted leaf many_items many_images : ℕ) : Type 0 where
+  pub within : leaf < length leaves
+  pub before : length (flat_map items (take leaf leaves)) ≡ many_items
+  pub came : length (images_before items images leaves leaf) ≡ many_images
+  pub not_yet : many_images < wanted
+  pub there : wanted ≤ length (images_before items images leaves (leaf + 1))
+
 -- ---- a list in two parts
 
 take-both : {A : Type 0} (i m : ℕ) (l : List A) → i ≤ length l → take (i + m) l ≡ take i l ++ take m (drop i l)
@@ -29,7 +41,7 @@ take-both i m l within =
     ap (λ k. take k l) (ap (λ k. k + m) (sym front)) ∙ ap (take (length (take i l) + m)) (sym (take-append-drop i l)) ∙ take-append-add (take i l) (drop i l) m
 
 module _ {A B : Type 0} (images : A → List B) where
-  parts : (i : ℕ) (l : List A) → flat_map images l ≡ flat_map images (take i l) ++ flat_map images (drop i l)
+  pub parts : (i : ℕ) (l : List A) → flat_map images l ≡ flat_map images (take i l) ++ flat_map images (drop i l)
   parts i l = ap (flat_map images) (sym (take-append-drop i l)) ∙ flat_map-append images (take i l) (drop i l)
 
   both : (i m : ℕ) (l : List A) → i ≤ length l → flat_map images (take (i + m) l) ≡ flat_map images (take i l) ++ flat_map images (take m (drop i l))

@@ -1,6 +1,6 @@
 //! What each step of an evaluation uses.
 
-ghost use Rattle.std.specs.Prelude.{◌≡◌};
+ghost use Rattle.std.specs.Prelude.{◌≡◌, ◌≤◌, ◌^◌};
 ghost use Rattle.parallel_streams.specs.Runs.{HasLawfulWorkers, IsLawfulRun};
 
 use parallel_streams::Run;
@@ -32,6 +32,24 @@ impl<'e, R, H> Engine<'e, R, H> {
             run: Run {
                 workers,
                 target: self.run.target,
+                gate: self.run.gate,
+            },
+        }
+    }
+
+    /// The same at this target.
+    pub(crate) fn with_target(&self, target: u64) -> Engine<'e, R, H>
+        requires { target ≤ 2 ^ 62 }
+        ensures workers { result.run.workers ≡ self.now.run.workers }
+        ensures target { result.run.target ≡ target }
+    {
+        Engine {
+            rt: self.rt,
+            alloc: self.alloc,
+            hashes: self.hashes,
+            run: Run {
+                workers: self.run.workers,
+                target,
                 gate: self.run.gate,
             },
         }

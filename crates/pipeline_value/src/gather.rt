@@ -83,7 +83,10 @@ where
 }
 
 /// The leaves of a source under lawful settings: only want of memory can refuse them.
-fn plan_of<S: Spliterator, R, H>(engine: &Engine<'_, R, H>, source: S) -> Result<Plan<S>, NoMemory>
+pub(crate) fn plan_of<S: Spliterator, R, H>(
+    engine: &Engine<'_, R, H>,
+    source: S,
+) -> Result<Plan<S>, NoMemory>
     ensures items { IfOk result (λ plan. flat_map S.items (leaves_of plan) ≡ S.items source) }
     ensures leaves { let planned = ArePlanned S.estimate S.split_gives source in
         IfOk result (λ plan. planned engine.now.run.workers engine.now.run.target (tree_of plan) (leaves_of plan)) }

@@ -1,22 +1,29 @@
 //! Places in a source at which so many images of its items have come.
 
-ghost use Rattle.std.specs.Prelude.{◌≡◌, ◌<◌, ◌≤◌, IfOk, Some, flat_map, length};
+ghost use Rattle.std.specs.Prelude.{◌≡◌, ◌<◌, ◌≤◌, ◌^◌, IfOk, IfSome, IfNone, Some, flat_map, length};
+ghost use Rattle.barriers.specs.Needs.{every_item};
+ghost use Rattle.leaf_board.specs.Closing.{count_of, cut_of};
 ghost use Rattle.pipeline_meaning.specs.AtMostOne.{GivesAtMostOne};
-ghost use Rattle.pipeline_value.specs.Places.{PlaceOrFewer};
+ghost use Rattle.pipeline_value.specs.Places.{IsLeafPlace, PlaceOrFewer};
+ghost use Rattle.split_tree.specs.Plan.{leaves_of};
+ghost use Rattle.stealing_pool.specs.Fronts.{full_count, lists_of};
+ghost use Rattle.stealing_pool.specs.Reports.{Reports};
 
 use crate::engine::Engine;
+use crate::gather::plan_of;
 use crate::told::ran;
+use barriers::Total;
+use collectors::Counting;
 use parallel_streams::{Stream, of};
 use sources::Windowed;
+use split_tree::Plan;
 use spliterator::NoMemory;
 use stages::Stage;
 use std::thread::Threads;
-use stealing_pool::Gate;
+use stealing_pool::{Gate, RunEntry, run_leaves};
 
-/// The source items of the first part that is looked at; each further part is twice as long.
-const FIRST_PART: u64 = 1 << 12;
-
-/// One worker looks at a part of at most so many items, since threads take longer to start than they would save.
+/// One worker looks at a part of at most so many items, since threads take longer to start than they would save. So long are the first part,
+/// and the leaves of the run behind it, where the target is to be chosen.
 const ALONE: u64 = 1 << 16;
 
 /// How a part of so many items is looked at: by one worker where these are few, and else by all.
@@ -85,10 +92,107 @@ where
     Ok(half + place)
 }
 
+/// How a long part is looked at: by the leaves of the wanted target, or by such that one worker looks at each.
+fn engine_by_leaves<'e, R, H>(engine: &Engine<'e, R, H>) -> Engine<'e, R, H>
+    ensures workers { result.run.workers ≡ engine.now.run.workers }
+    ensures chosen { engine.now.run.target ≡ 0 → result.run.target ≡ 65536 }
+    ensures wanted { 1 ≤ engine.now.run.target → result.run.target ≡ engine.now.run.target }
+{
+    engine.with_target(if engine.run.target == 0 {
+        ALONE
+    } else {
+        engine.run.target
+    })
+}
+
+/// The leaf with which so many images have come, and how many items and images stand before it.
+#[derive(Clone, Copy)]
+struct LeafPlace {
+    leaf: usize,
+    items: u64,
+    images: u64,
+}
+
+/// The leaf of a run with which so many images have come, by what the run counted of its leaves.
+fn leaf_of<S: Windowed, A: Stage<In = S::Item>>(
+    plan: &Plan<S>,
+    _stage: &A,
+    entry: &RunEntry,
+    wanted: u64,
+) -> Option<LeafPlace>
+    requires some { 1 ≤ wanted }
+    requires counts { let full = full_count every_item (lists_of S.items (A.expand _stage.now) (leaves_of plan.now)) in
+        Reports (Some wanted) (length (leaves_of plan.now)) full entry.now.leaves (count_of entry.now) (cut_of entry.now) }
+    requires room { length (flat_map S.items (leaves_of plan.now)) < 2 ^ 64 }
+    ensures found { IfSome result (λ p. IsLeafPlace S.items (A.expand _stage.now) (leaves_of plan.now) wanted p.leaf p.items p.images) }
+    ensures none { IfNone result (length (flat_map (A.expand _stage.now) (flat_map S.items (leaves_of plan.now))) < wanted) }
+{
+    let mut items: u64 = 0;
+    let mut images: u64 = 0;
+    for leaf in 0..plan.leaves() {
+        let Some(count) = entry.count(leaf) else {
+            return None;
+        };
+        if wanted - images <= count {
+            return Some(LeafPlace {
+                leaf,
+                items,
+                images,
+            });
+        }
+        items += plan.leaf(leaf).count();
+        images += count;
+    }
+    None
+}
+
+/// The place of the source item with whose image so many have come, or `None` where there are fewer: by the counts of the leaves of one run on all
+/// workers, and by halves within the leaf in which the last one comes.
+fn place_by_leaves<R, S, A, H>(
+    engine: &Engine<'_, R, H>,
+    source: S,
+    stage: &A,
+    wanted: u64,
+) -> Result<Option<u64>, NoMemory>
+where
+    R: Threads + Sync,
+    S: Windowed + Copy + Drop + Send + Sync,
+    S::Item: Clone + Send + Sync,
+    A: Stage<In = S::Item> + Sync,
+    A::Out: Clone + Send + Sync,
+    H: Gate + Sync,
+    requires stage { A.ready stage.now }
+    requires few { GivesAtMostOne (A.expand stage.now) }
+    requires some { 1 ≤ wanted }
+    requires fits { wanted < 2 ^ 63 }
+    ensures { IfOk result (PlaceOrFewer (A.expand stage.now) (S.items source) wanted) }
+{
+    if source.count() < wanted {
+        return Ok(None);
+    }
+    let engine = &engine_by_leaves(engine);
+    let plan = plan_of(engine, source)?;
+    let gathered = run_leaves(
+        engine.rt,
+        engine.alloc,
+        &plan,
+        stage,
+        &Total::new(wanted),
+        &Counting::new(),
+        engine.run.workers,
+        engine.run.gate,
+    )?;
+    let Some(found) = leaf_of(&plan, stage, &gathered.entry, wanted) else {
+        return Ok(None);
+    };
+    let part = plan.leaf(found.leaf);
+    let place = place_within(engine, part, stage, wanted - found.images)?;
+    Ok(Some(found.items + place))
+}
+
 /// The place of the source item with whose image so many have come, or `None` where there are fewer.
 ///
-/// It counts the images of one part after another, each on all workers, and then in halves of the part in which the last one comes. So a
-/// place near the front costs little.
+/// One worker looks at a first part, so a place near the front costs little.
 pub(crate) fn place_of<R, S, A, H>(
     engine: &Engine<'_, R, H>,
     source: S,
@@ -105,45 +209,21 @@ where
     requires stage { A.ready stage.now }
     requires few { GivesAtMostOne (A.expand stage.now) }
     requires some { 1 ≤ wanted }
+    requires fits { wanted < 2 ^ 63 }
     ensures { IfOk result (PlaceOrFewer (A.expand stage.now) (S.items source) wanted) }
 {
-    place_from(engine, source, stage, wanted, FIRST_PART)
-}
-
-/// The same, where the first part that is looked at has so many items.
-fn place_from<R, S, A, H>(
-    engine: &Engine<'_, R, H>,
-    source: S,
-    stage: &A,
-    wanted: u64,
-    size: u64,
-) -> Result<Option<u64>, NoMemory>
-where
-    R: Threads + Sync,
-    S: Windowed + Copy + Drop + Send + Sync,
-    S::Item: Clone + Send + Sync,
-    A: Stage<In = S::Item> + Sync,
-    A::Out: Clone + Send + Sync,
-    H: Gate + Sync,
-    requires stage { A.ready stage.now }
-    requires few { GivesAtMostOne (A.expand stage.now) }
-    requires some { 1 ≤ wanted }
-    requires size { 1 ≤ size }
-    ensures { IfOk result (PlaceOrFewer (A.expand stage.now) (S.items source) wanted) }
-{
-    let part = source.first(size);
+    let part = source.first(ALONE);
     let count = count_images(engine, part, stage)?;
     if wanted <= count {
         let place = place_within(engine, part, stage, wanted)?;
         return Ok(Some(place));
     }
-    if source.count() <= size {
+    if source.count() <= ALONE {
         return Ok(None);
     }
-    let rest = source.after_first(size);
-    let wanted = wanted - count;
-    match place_from(engine, rest, stage, wanted, size.saturating_mul(2))? {
-        Some(place) => Ok(Some(size + place)),
+    let rest = source.after_first(ALONE);
+    match place_by_leaves(engine, rest, stage, wanted - count)? {
+        Some(place) => Ok(Some(ALONE + place)),
         None => Ok(None),
     }
 }

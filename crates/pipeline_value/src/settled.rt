@@ -1,11 +1,12 @@
 //! Barriers that are done by cutting the source.
 
-ghost use Rattle.std.specs.Prelude.{◌≡◌, ◌≤◌, ◌<◌, ◌&&◌, IfOk, IfSome, All, IsTrue, drop, false, flat_map, is_some, length, take, take_while, true};
+ghost use Rattle.std.specs.Prelude.{◌≡◌, ◌≤◌, ◌<◌, ◌^◌, ◌&&◌, IfOk, IfSome, All, IsTrue, drop, false, flat_map, is_some, length, take, take_while, true};
 ghost use Rattle.std.specs.List.{HoldsAt};
 ghost use Rattle.barriers.specs.Whiles.{drop_while};
 ghost use Rattle.pipeline_meaning.specs.AtMostOne.{GivesAtMostOne};
 ghost use Rattle.pipeline_meaning.specs.Functions.{number_holds};
 ghost use Rattle.pipeline_meaning.specs.Stages.{is_number_barrier, number_stage, number_stages};
+ghost use Rattle.pipeline_value.specs.Ranges.{NumberStageFits};
 ghost use Rattle.pipeline_value.specs.Settling.{cuts_source};
 
 use crate::engine::Engine;
@@ -33,6 +34,7 @@ where
     H: Gate + Sync,
     requires stage { A.ready stage.now }
     requires few { GivesAtMostOne (A.expand stage.now) }
+    requires fits { number < 2 ^ 63 }
     ensures front { IfOk result (λ end. flat_map (A.expand stage.now) (take end (S.items source)) ≡ take number (flat_map (A.expand stage.now) (S.items source))) }
     ensures rest { IfOk result (λ end. flat_map (A.expand stage.now) (drop end (S.items source)) ≡ drop number (flat_map (A.expand stage.now) (S.items source))) }
 {
@@ -89,6 +91,7 @@ where
     A: AtMostOne + Stage<In = S::Item, Out = i64> + Sync,
     H: Gate + Sync,
     requires stage { A.ready stage.now }
+    requires fits { NumberStageFits barrier.now }
     ensures part { IfOk result (λ part. IfSome part (λ part. flat_map (A.expand stage.now) (S.items part) ≡ number_stage barrier.now (flat_map (A.expand stage.now) (S.items source)))) }
     ensures had { IfOk result (λ part. is_some part ≡ (A.is_few stage.now && cuts_source barrier.now)) }
 {
@@ -146,6 +149,7 @@ where
     A: AtMostOne + Stage<In = S::Item, Out = i64> + Sync,
     H: Gate + Sync,
     requires front { A.ready front.now }
+    requires fits { All NumberStageFits stages.now }
     ensures within { IfOk result (λ s. s.taken ≤ length stages.now) }
     ensures means { IfOk result (λ s. flat_map (⟦<NumberSteps as Stage>⟧.expand s.steps) (flat_map (A.expand front.now) (S.items s.source)) ≡ number_stages (take s.taken stages.now) (flat_map (A.expand front.now) (S.items source))) }
     ensures barrier { IfOk result (λ s. s.taken < length stages.now → HoldsAt (λ stage. IsTrue (is_number_barrier stage)) stages.now s.taken) }

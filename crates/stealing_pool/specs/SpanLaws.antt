@@ -1,11 +1,13 @@
 -- What containers of leaves make together: for the jobs whose work is `work_of` lists.
-use Rattle.std.specs.Prelude.{◌≡◌, ◌<◌, ◌≤◌, ◌+◌, ℕ, zero, suc, List, [], ◌∷◌, ◌++◌, Option, Some, None, Result, Ok, Err, OnOk, IfOk, count_by, flat_map, map, take, drop, length, cond, slice_get, refl}
+use Rattle.std.specs.Prelude.{◌≡◌, ◌<◌, ◌≤◌, ◌+◌, ℕ, Bool, zero, suc, List, [], ◌∷◌, ◌++◌, Option, Some, None, Result, Ok, Err, OnOk, IfOk, count_by, flat_map, map, take, drop, length, cond, slice_get, refl}
 use Rattle.std.proofs.Common.{◌∙◌, ap, sym, subst, arith, append-nil, append_assoc, inl, inr, get_or}
 use Rattle.std.proofs.lemmas.List.{take_all, take-take, take-append-drop}
 use Rattle.std.proofs.lemmas.List.Concat.{flat_map-append, flat_map-cons}
 use Rattle.std.proofs.lemmas.Option.{get_or_from_slice_get}
 use Rattle.std.proofs.lemmas.List.Sums.{sum_by-append}
+use Rattle.std.proofs.Math.Seq.{take-suc}
 use Rattle.barriers.specs.Needs.{Reaches}
+use Rattle.leaf_board.specs.Case.{sum_below}
 use Rattle.stealing_pool.specs.declared.job.LeafEnd.{LeafEnd}
 use Rattle.stealing_pool.specs.declared.job.LeafEnd.TheVariants.{Done, Cut}
 use Rattle.stealing_pool.specs.Jobs.{EndsLeaf, Combines, StandsForRun}
@@ -50,6 +52,16 @@ map-at f (x ∷ xs) (suc i) d e within = map-at f xs i d e (omega arith)
 -- the list of a leaf
 pub list-at : {S X T : Type 0} (items : S → List X) (expand : X → List T) (leaves : List S) (leaf : ℕ) (s : S) → leaf < length leaves → slice_get leaves leaf ≡ Some s → get_or (lists_of items expand leaves) leaf [] ≡ flat_map expand (items s)
 list-at items expand leaves leaf s within is = map-at (λ l. flat_map expand (items l)) leaves leaf [] s within ∙ ap (λ l. flat_map expand (items l)) (get_or_from_slice_get leaves leaf s s is)
+
+-- the full counts of the first leaves add up to the count of their lists
+pub sum-counts : {T : Type 0} (counted : T → Bool) (lists : List (List T)) (n : ℕ) → n ≤ length lists → sum_below (full_count counted lists) n ≡ count_by counted (joined (take n lists))
+sum-counts counted lists zero within = refl
+sum-counts counted lists (suc n) within =
+    let rest = sum-counts counted lists n (omega arith) in
+    let here = get_or lists n [] in
+    let step : joined (take (suc n) lists) ≡ joined (take n lists) ++ here = ap joined (take-suc lists n [] (omega arith)) ∙ joined-append (take n lists) (here ∷ []) ∙ ap (λ l. joined (take n lists) ++ l) (append-nil here) in
+    let count = sum_by-append (λ x. cond (counted x) 1 0) (joined (take n lists)) here in
+    ap (λ m. m + count_by counted here) rest ∙ sym count ∙ ap (count_by counted) (sym step)
 
 module _ {T C A : Type 0} (f : Folding T C) (content : A → C) (lists : List (List T)) where
   -- what is kept of a leaf's list stands for the leaf
