@@ -14,7 +14,8 @@ use Rattle.pipeline_meaning.specs.Functions.{number_image, number_holds}
 use Rattle.pipeline_meaning.specs.Prepared.{mapping_image, check_holds}
 use Rattle.pipeline_meaning.specs.Stages.{number_stage, number_stages, is_number_barrier, is_number_map}
 use Rattle.pipeline_meaning.specs.NumberSteps.{number_step_images, steps_images, copies, images_of, number_images, is_map_step, is_none, are_maps, only_maps, Follows}
-use Rattle.pipeline_meaning.specs.WalkLaws.{map-flat_map, filter-flat_map, flat_map-same, all-one-more, stages-one-more}
+use Rattle.parts.specs.Lists.{map-flat_map, filter-flat_map}
+use Rattle.pipeline_meaning.specs.WalkLaws.{flat_map-same, all-one-more, stages-one-more}
 use Rattle.pipeline_meaning.specs.declared.functions.NumberMapping.{NumberMapping}
 use Rattle.pipeline_meaning.specs.declared.functions.NumberCheck.{NumberCheck}
 use Rattle.pipeline_meaning.specs.declared.number_steps.NumberStep.{NumberStep}

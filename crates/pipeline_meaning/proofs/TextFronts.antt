@@ -12,7 +12,8 @@ use Rattle.pipeline_meaning.specs.Functions.{text_holds}
 use Rattle.pipeline_meaning.specs.Stages.{text_stage, is_text_map}
 use Rattle.pipeline_meaning.specs.TextSteps.{text_step_images, is_map_step}
 use Rattle.stages.specs.Passing.{flat_map-one}
-use Rattle.pipeline_meaning.specs.WalkLaws.{filter-flat_map, IsStep}
+use Rattle.parts.specs.Lists.{filter-flat_map}
+use Rattle.pipeline_meaning.specs.WalkLaws.{IsStep}
 use Rattle.pipeline_meaning.specs.declared.functions.TextCheck.{TextCheck}
 use Rattle.pipeline_meaning.specs.declared.text_steps.TextStep.TheVariants.{Itself, Filter}
 

@@ -1,5 +1,5 @@
 -- What the functions are, as they are prepared.
-use Rattle.std.specs.Prelude.{ℕ, ℤ, pos, negsuc, neg_ℤ, Bool, int_lt}
+use Rattle.std.specs.Prelude.{ℤ, pos, neg_ℤ, Bool, int_lt}
 use Rattle.std.specs.Int.{int_rem_euclid}
 use Rattle.std.specs.Ordering.{int_eq}
 use Rattle.stages.specs.Products.{wrapped_product}
@@ -31,8 +31,3 @@ comparison_holds (Equals n) x = int_eq x n
 abbrev pub check_holds : NumberCheck → ℤ → Bool
 check_holds (Divisible d) x = int_eq (int_rem_euclid x (pos d.number)) (pos 0)
 check_holds (Comparison comparison) x = comparison_holds comparison x
-
--- how far a number is from 0, or a negative one from -1
-abbrev pub distance : ℤ → ℕ
-distance (pos n) = n
-distance (negsuc n) = n

@@ -1,14 +1,13 @@
 -- Values of the prepared functions.
-use Rattle.std.specs.Prelude.{◌≤◌, ◌<◌, ◌^◌, ℕ, ℤ, pos, negsuc, neg_ℤ, ◌+ℤ◌, ◌*ℤ◌, List, refl}
+use Rattle.std.specs.Prelude.{ℕ, ℤ, neg_ℤ, ◌+ℤ◌, ◌*ℤ◌, List, refl}
 use Rattle.std.proofs.Common.{arith}
-use Rattle.std.specs.Int.{int_rem_euclid}
 use Rattle.std.specs.Ordering.{is_lt, is_gt, int_cmp}
 use Rattle.std.proofs.lemmas.Int.{ints}
-use Rattle.std.proofs.lemmas.Nat.{mod_below}
 use Rattle.spliterator.specs.Values.{IsI64, int_cmp-total}
 use Rattle.stages.specs.Operators.{IsAssociative}
 use Rattle.stages.specs.Choices.{either-value}
 use Rattle.stages.specs.Wrapping.{wrapped-value, wrapped_sum_assoc}
+use Rattle.parts.specs.Remainders.{remainder-value}
 use Rattle.pipeline_language.specs.declared.pipeline.NumberMerge.{NumberMerge}
 use Rattle.pipeline_language.specs.declared.pipeline.NumberMerge.TheVariants as numbers
 use Rattle.pipeline_language.specs.declared.pipeline.TextMerge.{TextMerge}
@@ -18,11 +17,6 @@ use Rattle.pipeline_meaning.specs.Prepared.{mapping_image}
 use Rattle.pipeline_meaning.specs.declared.functions.NumberChange.TheVariants.{Add, Mul, Negate}
 use Rattle.pipeline_meaning.specs.declared.functions.NumberMapping.{NumberMapping}
 use Rattle.pipeline_meaning.specs.declared.functions.NumberMapping.TheVariants.{Itself, Mod, Change}
-
--- a remainder is below its divisor
-pub remainder-value : (x : ℤ) (n : ℕ) → 1 ≤ n → n < 2 ^ 63 → IsI64 (int_rem_euclid x (pos n))
-remainder-value (pos a) n h k = let below = mod_below a n (omega arith) in (omega (arith, ints), omega (arith, ints))
-remainder-value (negsuc a) n h k = (omega (arith, ints), omega (arith, ints))
 
 pub mapping_image-value : (f : NumberMapping) (x : ℤ) → IsI64 x → IsI64 (mapping_image f x)
 mapping_image-value Itself x h = h

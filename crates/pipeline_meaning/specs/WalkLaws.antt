@@ -1,5 +1,5 @@
 -- Why a walk over prepared steps is what the stages make of a list.
-use Rattle.std.specs.Prelude.{◌≡◌, ◌≤◌, ◌<◌, ◌-◌, ◌+◌, ◌&&◌, ℕ, Bool, true, false, cond, List, [], ◌∷◌, ◌++◌, map, filter, flat_map, length, take, refl}
+use Rattle.std.specs.Prelude.{◌≡◌, ◌≤◌, ◌<◌, ◌-◌, ◌+◌, ◌&&◌, ℕ, Bool, true, false, List, [], ◌∷◌, ◌++◌, flat_map, length, take, refl}
 use Rattle.std.proofs.Common.{ap, ap₂, ◌∙◌, sym, subst, arith, append-nil, get_or}
 use Rattle.std.proofs.Math.ListN.{replicate}
 use Rattle.std.specs.List.{list_all}
@@ -13,18 +13,6 @@ use Rattle.stages.specs.FlagLaws.{KeepsSound-map, KeepsSound-flat_map}
 use Rattle.stages.specs.Passing.{flat_map-flat_map, flat_map-one}
 use Rattle.pipeline_meaning.specs.Rows.{row_of, size_of}
 use Rattle.pipeline_meaning.specs.Walks.{one_after_other, images_after}
-
-pub map-flat_map : {A B : Type 0} (f : A → B) (l : List A) → map f l ≡ flat_map (λ x. f x ∷ []) l
-map-flat_map f [] = refl
-map-flat_map f (x ∷ l) = ap (λ r. f x ∷ r) (map-flat_map f l)
-
-pub filter-flat_map : {A : Type 0} (p : A → Bool) (l : List A) → filter p l ≡ flat_map (λ x. cond (p x) (x ∷ []) []) l
-filter-flat_map p [] = refl
-filter-flat_map p (x ∷ l) = head (flat_map (λ x. cond (p x) (x ∷ []) []) l) (filter-flat_map p l) (p x)
-  where
-    head : (kept : List _) → filter p l ≡ kept → (b : Bool) → cond b (x ∷ filter p l) (filter p l) ≡ cond b (x ∷ []) [] ++ kept
-    head kept e true = ap (λ l. x ∷ l) e
-    head kept e false = e
 
 -- the same images of each item
 pub flat_map-same : {A B : Type 0} (f g : A → List B) → ((x : A) → f x ≡ g x) → (l : List A) → flat_map f l ≡ flat_map g l

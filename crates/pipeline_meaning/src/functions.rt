@@ -2,12 +2,11 @@
 ghost use Rattle.std.specs.Prelude.{◌≡◌, ⊤};
 ghost use Rattle.spliterator.specs.Values.{IsI64};
 ghost use Rattle.stages.specs.Operators.{IsAssociative};
-ghost use Rattle.stages.specs.Wrapping.{wrapped-value};
-ghost use Rattle.pipeline_meaning.specs.Functions.{number_image, number_holds, number_join, text_length, text_holds, text_join};
+ghost use Rattle.pipeline_meaning.specs.Functions.{number_image, number_holds, number_join, text_holds, text_join};
 ghost use Rattle.pipeline_meaning.specs.Prepared.{change_image, mapping_image, comparison_holds, check_holds};
 ghost use Rattle.pipeline_meaning.specs.PreparedLaws.{mapping_image-value, number_join-value, text_join-value};
 
-use crate::Divisor;
+use parts::Divisor;
 use pipeline_language::{NumberFunction, NumberMerge, NumberTest, TextMerge, TextTest};
 use spliterator::{NoMemory, Text, Value};
 use stages::{Mapping, Operator, Test};
@@ -74,38 +73,6 @@ impl Mapping<i64> for NumberMapping {
 
     fn image(&self, x: &i64) -> Result<i64, NoMemory> {
         Ok(self.image_of(*x))
-    }
-}
-
-/// A text's length in bytes.
-#[derive(Clone, Copy)]
-pub struct TextLength;
-
-impl<T: Text> Mapping<T> for TextLength {
-    type Out = i64;
-
-    ghost image = { λ _. text_length };
-
-    ghost images_are_values = { λ _ x _. wrapped-value _ };
-
-    fn image(&self, x: &T) -> Result<i64, NoMemory> {
-        Ok((x.text().len() as u64).cast_signed())
-    }
-}
-
-/// The item itself: a number, or a text that is lent.
-#[derive(Clone, Copy)]
-pub struct Itself;
-
-impl<T: Value + Copy> Mapping<T> for Itself {
-    type Out = T;
-
-    ghost image = { λ _ x. x };
-
-    ghost images_are_values = { λ _ x value. value };
-
-    fn image(&self, x: &T) -> Result<T, NoMemory> {
-        Ok(*x)
     }
 }
 

@@ -4,17 +4,14 @@
 mod adapted;
 mod at_most_one;
 mod block_functions;
-mod divisor;
 mod failing;
 mod functions;
 mod list_text;
 mod number_bases;
-mod number_blocks;
 mod number_copies;
 mod number_steps;
 mod number_summaries;
 mod seeded_hashes;
-mod small_divisor;
 mod spelled;
 mod summarizes;
 mod text_bases;
@@ -25,11 +22,10 @@ mod written;
 
 pub use adapted::{Adapted, Adapting};
 pub use at_most_one::AtMostOne;
-pub use divisor::Divisor;
 pub use failing::Failing;
 pub use functions::{
-    Itself, NumberChange, NumberCheck, NumberComparison, NumberMapping, NumberMerging, TextCheck,
-    TextLength, TextMerging,
+    NumberChange, NumberCheck, NumberComparison, NumberMapping, NumberMerging, TextCheck,
+    TextMerging,
 };
 pub use list_text::ListText;
 pub use number_bases::{NumberBaseCollector, NumberBaseContainer, NumberBaseResult, number_base};

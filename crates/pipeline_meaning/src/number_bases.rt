@@ -14,9 +14,10 @@ ghost use Rattle.pipeline_meaning.specs.PreparedLaws.{number_join-value};
 ghost use Rattle.pipeline_meaning.specs.Summaries.{number_base_text};
 ghost use Rattle.pipeline_meaning.specs.SummaryLaws.{optional_tells, list_tells, either_tells};
 
-use crate::{Itself, NumberMerging, Summarizes, Written};
+use crate::{NumberMerging, Summarizes, Written};
 use collectors::{Collector, Counting, Reducing, SummingLong, ToList};
 use either::{Either, Left, Right};
+use parts::Itself;
 use pipeline_language::{NumberBase, NumberMerge};
 use spliterator::NoMemory;
 use std::alloc::Global;

@@ -3,7 +3,7 @@ ghost use Rattle.std.specs.Prelude.{◌≤◌, OnOk, OnErr, flat_map};
 ghost use Rattle.std.proofs.Math.ListN.{replicate};
 ghost use Rattle.pipeline_meaning.specs.NumberSteps.{copies};
 
-use crate::number_blocks::copy_each;
+use parts::copy_each;
 use spliterator::NoMemory;
 use stages::Sink;
 use std::alloc::Global;

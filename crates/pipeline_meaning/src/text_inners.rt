@@ -17,9 +17,10 @@ ghost use Rattle.pipeline_meaning.specs.contracts.text_bases.TextBaseCollectorSu
 
 use crate::number_summaries::{NumberInnerCollector, number_inner};
 use crate::text_bases::{TextBaseCollector, text_base};
-use crate::{Adapted, Adapting, Itself, Summarizes, TextCheck, TextLength, Written};
+use crate::{Adapted, Adapting, Summarizes, TextCheck, Written};
 use collectors::{Collector, MappingTo};
 use either::{Either, Left, Right};
+use parts::{Itself, Length};
 use pipeline_language::{NumberInner, TextInner};
 use spliterator::NoMemory;
 use std::alloc::Global;
@@ -27,7 +28,7 @@ use std::alloc::Global;
 // What is made of texts inside another collector: of them, or of their lengths.
 type TextInnerChoice<'a> = Either<
     Adapted<Itself, TextCheck<'a>, TextBaseCollector<'a>>,
-    MappingTo<&'a str, TextLength, NumberInnerCollector>,
+    MappingTo<&'a str, Length, NumberInnerCollector>,
 >;
 
 /// What is made of texts inside another collector: of them, or of their lengths.
@@ -140,6 +141,6 @@ pub fn text_lengths<'a>(alloc: Global, inner: NumberInner) -> TextInnerCollector
     ensures ready { ⟦<TextInnerCollector<'a> as Collector>⟧.ready result }
     ensures summary { (l : List (List ℕ)) → ⟦<TextInnerCollector<'a> as Summarizes>⟧.summary result l ≡ number_inner_text inner (map text_length l) }
 {
-    let chosen = Right(MappingTo::new(TextLength, number_inner(alloc, inner)));
+    let chosen = Right(MappingTo::new(Length, number_inner(alloc, inner)));
     TextInnerCollector { chosen }
 }

@@ -15,15 +15,16 @@ ghost use Rattle.pipeline_meaning.specs.contracts.text_inners.TextInnerCollector
 use crate::seeded_hashes::SeededHashes;
 use crate::summarizes::grouped;
 use crate::text_inners::{TextInnerCollector, text_inner, text_lengths};
-use crate::{Adapted, Adapting, Itself, Summarizes, TextCheck, TextLength, Written};
+use crate::{Adapted, Adapting, Summarizes, TextCheck, Written};
 use collectors::{Collector, GroupingBy};
 use either::{Either, Left, Right};
+use parts::{Itself, Length};
 use pipeline_language::{TextFunction, TextInner, TextSummary};
 use spliterator::NoMemory;
 use std::alloc::Global;
 
 // The groups of texts by their lengths.
-type TextsByLength<'a> = GroupingBy<TextLength, TextInnerCollector<'a>, SeededHashes>;
+type TextsByLength<'a> = GroupingBy<Length, TextInnerCollector<'a>, SeededHashes>;
 
 // The groups of equal texts.
 type TextsByThemselves<'a> = GroupingBy<Itself, TextInnerCollector<'a>, SeededHashes>;
@@ -139,7 +140,7 @@ fn text_groups<'a>(
 {
     let inner = text_inner(alloc, inner);
     match key {
-        TextFunction::Length => Left(grouped(alloc, TextLength, inner, hashes)),
+        TextFunction::Length => Left(grouped(alloc, Length, inner, hashes)),
         TextFunction::Itself => Right(grouped(alloc, Itself, inner, hashes)),
     }
 }

@@ -14,8 +14,8 @@ use Rattle.stages.specs.Products.{wrapped_product, wrapped_product_assoc}
 use Rattle.stages.specs.Wrapping.{wrapped, wrapped-value, wrapped_sum}
 use Rattle.spliterator.specs.Values.{IsI64}
 use Rattle.pipeline_language.specs.declared.pipeline.NumberFunction.TheVariants.{Add, Mul, Negate, Mod, Itself}
-use Rattle.pipeline_meaning.proofs.Inverses.{inverse_step, squared}
-use Rattle.pipeline_meaning.specs.PreparedLaws.{remainder-value}
+use Rattle.parts.proofs.Inverses.{inverse_step, squared}
+use Rattle.parts.specs.Remainders.{remainder-value}
 use Rattle.pipeline_meaning.specs.Functions.{divisor, number_image}
 
 -- numbers of an i64 have images of an i64

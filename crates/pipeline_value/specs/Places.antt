@@ -9,7 +9,7 @@ use Rattle.std.proofs.Math.Seq.{take-append-add}
 use Rattle.barriers.specs.Whiles.{drop_while}
 use Rattle.stages.specs.Passing.{flat_map-flat_map}
 use Rattle.pipeline_meaning.specs.AtMostOne.{GivesAtMostOne, images-few}
-use Rattle.pipeline_meaning.specs.WalkLaws.{filter-flat_map}
+use Rattle.parts.specs.Lists.{filter-flat_map}
 
 -- With the item at this place, and not before, so many images have come.
 abbrev pub IsPlace : {A B : Type 0} → (A → List B) → List A → ℕ → ℕ → Type 0

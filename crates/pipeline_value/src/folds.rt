@@ -7,7 +7,7 @@ use crate::engine::Engine;
 use crate::told::{ValueError, ran_optional, ran_told};
 use collectors::SummingLong;
 use parallel_streams::Stream;
-use pipeline_meaning::Itself;
+use parts::Itself;
 use stages::{Max, Min, WrapMul};
 use std::thread::Threads;
 use stealing_pool::Gate;

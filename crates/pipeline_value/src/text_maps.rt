@@ -9,8 +9,9 @@ use crate::engine::Engine;
 use crate::maps::{merged_value, strict_value};
 use crate::told::ValueError;
 use parallel_streams::Stream;
+use parts::{Itself, Length};
 use pipeline_language::{TextFunction, TextValue};
-use pipeline_meaning::{Itself, NumberMerging, Spelled, TextLength, TextMerging};
+use pipeline_meaning::{NumberMerging, Spelled, TextMerging};
 use spliterator::{OrderedValue, Text};
 use stages::Mapping;
 use std::hash::Hash;
@@ -37,7 +38,7 @@ where
     ensures { Tells (text_told (terminals.ToMap key value) (X.value stream.now)) result }
 {
     match key {
-        TextFunction::Length => text_map(engine, stream, TextLength, value),
+        TextFunction::Length => text_map(engine, stream, Length, value),
         TextFunction::Itself => text_map(engine, stream, Itself, value),
     }
 }
@@ -62,7 +63,7 @@ where
     ensures { Tells (text_told (terminals.ToMapStrict key value) (X.value stream.now)) result }
 {
     match key {
-        TextFunction::Length => text_strict_map(engine, stream, TextLength, value),
+        TextFunction::Length => text_strict_map(engine, stream, Length, value),
         TextFunction::Itself => text_strict_map(engine, stream, Itself, value),
     }
 }
@@ -91,7 +92,7 @@ where
     match value {
         TextValue::Length(merge) => {
             let merge = NumberMerging::of(merge);
-            merged_value(engine, stream, key, TextLength, merge)
+            merged_value(engine, stream, key, Length, merge)
         }
         TextValue::Itself(merge) => {
             let merge = TextMerging::of(merge);
@@ -122,7 +123,7 @@ where
     ensures { Tells (text_strict_told K.Out.spelling K.Out.same (K.image key) value (X.value stream.now)) result }
 {
     match value {
-        TextFunction::Length => strict_value(engine, stream, key, TextLength),
+        TextFunction::Length => strict_value(engine, stream, key, Length),
         TextFunction::Itself => strict_value(engine, stream, key, Itself),
     }
 }

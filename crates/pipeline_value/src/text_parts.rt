@@ -11,8 +11,9 @@ use crate::engine::Engine;
 use crate::told::ValueError;
 use collectors::{Collector, Counting};
 use parallel_streams::Stream;
+use parts::{Itself, Length};
 use pipeline_language::TextFunction;
-use pipeline_meaning::{Itself, Spelled, Summarizes, TextLength, Written};
+use pipeline_meaning::{Spelled, Summarizes, Written};
 use spliterator::{OrderedValue, Text};
 use stages::Test;
 use std::hash::Hash;
@@ -74,7 +75,7 @@ where
     ensures { Tells (Ok (text_groups_text key (D.summary downstream) (X.value stream.now))) result }
 {
     match key {
-        TextFunction::Length => { grouped_value(engine, stream, TextLength, downstream) }
+        TextFunction::Length => { grouped_value(engine, stream, Length, downstream) }
         TextFunction::Itself => grouped_value(engine, stream, Itself, downstream),
     }
 }

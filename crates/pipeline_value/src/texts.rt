@@ -14,8 +14,9 @@ use crate::text_end::text_end;
 use crate::told::ValueError;
 use barriers::{DropWhile, Limit, Skip, TakeWhile};
 use parallel_streams::{Stream, of};
+use parts::Length;
 use pipeline_language::{NumberBody, TextEnd, TextStage};
-use pipeline_meaning::{AtMostOne, TextCheck, TextLength, TextSteps};
+use pipeline_meaning::{AtMostOne, TextCheck, TextSteps};
 use sources::{SliceSplit, Windowed};
 use spliterator::{NoMemory, OrderedValue, Spliterator, Text};
 use stages::{Map, Stage, Then};
@@ -79,7 +80,7 @@ where
     requires fits { NumberBodyFits body.now }
     ensures { Tells (number_body_told body.now (map text_length (flat_map (A.expand stage) (S.items source)))) result }
 {
-    let lengths = Then::new(stage, Map::new(TextLength));
+    let lengths = Then::new(stage, Map::new(Length));
     number_value(engine, source, lengths, body)
 }
 

@@ -1,9 +1,7 @@
 //! Functions of numbers and texts, made of what a file names.
 
 use pipeline_language::{NumberFunction, NumberMerge, NumberTest, TextMerge, TextTest};
-use pipeline_meaning::{
-    Divisor, Itself, NumberCheck, NumberMapping, NumberMerging, TextCheck, TextLength, TextMerging,
-};
+use pipeline_meaning::{NumberCheck, NumberMapping, NumberMerging, TextCheck, TextMerging};
 use spliterator::{NoMemory, Value};
 use stages::{Mapping, Operator, Test};
 use std::process::Abort;
@@ -42,49 +40,6 @@ fn numbers_are_mapped(rt: HostRuntime) -> Result<(), Fail> {
     for &(function, x, wanted) in &MAPPED {
         let found = image(&NumberMapping::of(function), &x)?;
         assert!(rt; found == wanted, "{x} becomes {found}");
-    }
-    Ok(())
-}
-
-/// The number, the divisor, and the least remainder that isn't negative. A divisor below 1 counts as 1.
-static DIVIDED: [(i64, i64, i64); 29] = [
-    (0, 7, 0),
-    (6, 7, 6),
-    (7, 7, 0),
-    (-7, 7, 0),
-    (-8, 7, 6),
-    (999, 1000, 999),
-    (-1000, 1000, 0),
-    (-1001, 1000, 999),
-    (1 << 32, (1 << 32) + 1, 1 << 32),
-    (i64::MAX, 1000, 807),
-    (i64::MAX, i64::MAX, 0),
-    (i64::MAX - 1, i64::MAX, i64::MAX - 1),
-    (i64::MIN, 1000, 192),
-    (i64::MIN, i64::MAX, i64::MAX - 1),
-    (i64::MIN + 1, i64::MAX, 0),
-    (i64::MAX, 1 << 62, 4611686018427387903),
-    (i64::MIN, 1 << 62, 0),
-    (i64::MIN + 1, 1 << 62, 1),
-    (i64::MIN, 0, 0),
-    (5, -3, 0),
-    (-3, 3, 0),
-    (-9, 1, 0),
-    (-9, 2, 1),
-    (i64::MIN, 2, 0),
-    (-1, 1 << 62, 4611686018427387903),
-    (-1, i64::MAX, i64::MAX - 1),
-    (36, 12, 0),
-    (18, 12, 6),
-    (-20, 12, 4),
-];
-
-#[test]
-fn prepared_divisors_divide(rt: HostRuntime) -> Result<(), Fail> {
-    for &(x, number, rest) in &DIVIDED {
-        let divisor = Divisor::new(number);
-        let is_divided = divisor.remainder(x) == rest && divisor.divides(x) == (rest == 0);
-        assert!(rt; is_divided, "{x} by {number}");
     }
     Ok(())
 }
@@ -144,18 +99,6 @@ fn tests_of_texts(rt: HostRuntime) -> Result<(), Fail> {
 fn a_test_of_an_owned_text(rt: HostRuntime) -> Result<(), Fail> {
     let owned = String::from_str(rt.alloc(), "ab")?;
     assert!(rt; TextCheck::of(TextTest::Starts("a")).holds(&owned));
-    Ok(())
-}
-
-#[test]
-fn a_length_counts_bytes(rt: HostRuntime) -> Result<(), Fail> {
-    assert!(rt; image(&TextLength, &"é")? == 2 && image(&TextLength, &"")? == 0);
-    Ok(())
-}
-
-#[test]
-fn an_item_becomes_itself(rt: HostRuntime) -> Result<(), Fail> {
-    assert!(rt; image(&Itself, &"ab")? == "ab" && image(&Itself, &-3)? == -3);
     Ok(())
 }
 

@@ -1,0 +1,4 @@
+pub mod Blocks
+pub mod Inverses
+pub mod NearNumbers
+pub mod Quotients

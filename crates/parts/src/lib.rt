@@ -1,0 +1,27 @@
+//! Ready-made functions of streams and collectors, and constructors that check a closure where it stands.
+//!
+//! ```text
+//! of(RangeSplit::range(0, 100)?).filter(Divisible::by(3)).map(Times(2))
+//! ```
+#![tactic(auto)]
+
+mod blocks;
+mod closures;
+mod comparisons;
+mod composed;
+mod divisor;
+mod itself;
+mod logic;
+mod numbers;
+mod small_divisor;
+mod texts;
+
+pub use blocks::{copy_each, keep_all, keep_runs, map_all, remainders};
+pub use closures::{mapping, operator, test};
+pub use comparisons::{Above, Below, Divisible, Equal, Even};
+pub use composed::Composed;
+pub use divisor::Divisor;
+pub use itself::Itself;
+pub use logic::{And, Not, Or};
+pub use numbers::{Modulo, Negated, Plus, Times};
+pub use texts::{Length, StartsWith};

@@ -1,0 +1,5 @@
+//! The tests of `parts`.
+#![tactic(auto)]
+
+#[cfg(test)]
+mod tests;
