@@ -1,28 +1,16 @@
 //! Barriers and demands at concrete types, through their bounds.
-ghost use Rattle.std.specs.Prelude.{pos, ◌+ℤ◌, int_lt};
+ghost use Rattle.std.specs.Prelude.{pos, ◌+ℤ◌};
 ghost use Rattle.stages.specs.Wrapping.{wrapped_sum, wrapped-value};
 
 use barriers::{
     Barrier, Demand, Distinct, DropWhile, FirstHit, Limit, Need, Skip, TakeWhile, Total, Whole,
 };
+use parts::Below;
 use spliterator::{NoMemory, OrderedValue};
-use stages::{Map, Mapping, Operation, Operator, Stage, Test, WrapAdd};
+use stages::{Map, Mapping, Operation, Operator, Stage, WrapAdd};
 use std::alloc::Global;
 use std::process::Abort;
 use std::test::Fail;
-
-#[derive(Drop)]
-struct Below {
-    limit: i64,
-}
-
-impl Test<i64> for Below {
-    ghost holds = { λ t x. int_lt x t.limit };
-
-    fn holds(&self, x: &i64) -> bool {
-        *x < self.limit
-    }
-}
 
 /// A barrier's value of a slice's items.
 fn value_of<T: OrderedValue + Copy + Drop, B: Barrier<T>>(
@@ -119,8 +107,8 @@ static FRONTS: [(&[i64], &[i64], &[i64]); 3] = [
 #[test]
 fn a_front_ends_at_the_first_item_that_fails(rt: HostRuntime) -> Result<(), Fail> {
     for &(items, front, rest) in &FRONTS {
-        check(&rt, &TakeWhile::new(Below { limit: 3 }), items, front)?;
-        check(&rt, &DropWhile::new(Below { limit: 3 }), items, rest)?;
+        check(&rt, &TakeWhile::new(Below(3)), items, front)?;
+        check(&rt, &DropWhile::new(Below(3)), items, rest)?;
     }
     Ok(())
 }
@@ -165,11 +153,11 @@ fn barriers_tell_their_rows_and_sizes(rt: HostRuntime) {
         (row_of(&Skip::new(9)), (Operation::Skip, Some(0), None)),
         (row_of(&Distinct), (Operation::Distinct, None, None)),
         (
-            row_of(&TakeWhile::new(Below { limit: 3 })),
+            row_of(&TakeWhile::new(Below(3))),
             (Operation::TakeWhile, None, None),
         ),
         (
-            row_of(&DropWhile::new(Below { limit: 3 })),
+            row_of(&DropWhile::new(Below(3))),
             (Operation::DropWhile, None, None),
         ),
     ];
@@ -182,7 +170,7 @@ fn barriers_tell_their_rows_and_sizes(rt: HostRuntime) {
 fn demands_say_how_much_is_enough(rt: HostRuntime) {
     let none = [false; 3];
     let all = [true; 3];
-    let below_three = Below { limit: 3 };
+    let below_three = Below(3);
     let rows = [
         (demand_of(&Whole), (Need::Never, none)),
         (demand_of(&Total::new(4)), (Need::Reach(4), all)),
@@ -209,7 +197,7 @@ fn demands_say_how_much_is_enough(rt: HostRuntime) {
 
 #[test]
 fn a_front_ends_where_enough_items_count(rt: HostRuntime) {
-    let hit = FirstHit::new(Below { limit: 3 });
+    let hit = FirstHit::new(Below(3));
     let items = [5, 1, 2, 7, 0, 9];
     let rows: [((usize, u64), (usize, u64)); 8] = [
         (hit.front(&items, 0), (0, 0)),

@@ -1,7 +1,9 @@
 //! The item itself.
+ghost use Rattle.spliterator.specs.Clones.{ClonesAlike, TestsClonesAlike};
 
 use spliterator::{NoMemory, Value};
 use stages::Mapping;
+use std::marker::PhantomData;
 
 /// The item itself: a number, or a text that is lent (`java.util.function.Function`, `identity`).
 #[derive(Clone, Copy, Debug)]
@@ -16,5 +18,35 @@ impl<T: Value + Copy> Mapping<T> for Itself {
 
     fn image(&self, x: &T) -> Result<T, NoMemory> {
         Ok(*x)
+    }
+}
+
+/// The item, as a clone: a text that is owned, or a record.
+#[derive(Drop)]
+pub struct Cloned<T: Value + Clone> {
+    values: PhantomData<T>,
+    ghost clones_alike: { TestsClonesAlike T.same T.is_clone T.content },
+}
+
+impl<T: Value + Clone> Cloned<T> {
+    /// A clone of a value must have its content.
+    pub fn new() -> Cloned<T>
+        requires { ClonesAlike T.is_clone T.content }
+    {
+        Cloned {
+            values: PhantomData,
+        }
+    }
+}
+
+impl<T: Value + Clone> Mapping<T> for Cloned<T> {
+    type Out = T;
+
+    ghost image = { λ _ x. x };
+
+    ghost images_are_values = { λ _ x value. value };
+
+    fn image(&self, x: &T) -> Result<T, NoMemory> {
+        Ok(x.clone()?)
     }
 }

@@ -21,7 +21,7 @@ pub use closures::{mapping, operator, test};
 pub use comparisons::{Above, Below, Divisible, Equal, Even};
 pub use composed::Composed;
 pub use divisor::Divisor;
-pub use itself::Itself;
+pub use itself::{Cloned, Itself};
 pub use logic::{And, Not, Or};
 pub use numbers::{Modulo, Negated, Plus, Times};
 pub use texts::{Length, StartsWith};

@@ -5,8 +5,8 @@ ghost use Rattle.stages.specs.Wrapping.{wrapped, wrapped-value};
 ghost use Rattle.stages.specs.Choices.{last_of};
 
 use parts::{
-    Above, And, Below, Composed, Divisible, Divisor, Equal, Even, Itself, Length, Modulo, Negated,
-    Not, Or, Plus, StartsWith, Times, mapping, operator, test,
+    Above, And, Below, Cloned, Composed, Divisible, Divisor, Equal, Even, Itself, Length, Modulo,
+    Negated, Not, Or, Plus, StartsWith, Times, mapping, operator, test,
 };
 use spliterator::{NoMemory, Value};
 use stages::{
@@ -93,7 +93,8 @@ fn functions_of_texts(rt: HostRuntime) -> Result<(), Fail> {
     assert!(rt; image(&Itself, &"ab")? == "ab" && holds(&Equal("ab"), &"ab"));
     assert!(rt; holds(&StartsWith("a"), &"ab") && !holds(&StartsWith("b"), &"ab"));
     let owned = String::from_str(rt.alloc(), "ab")?;
-    assert!(rt; holds(&StartsWith(""), &owned));
+    let clone = image(&Cloned::new(), &owned)?;
+    assert!(rt; holds(&StartsWith(""), &owned) && clone == owned);
     Ok(())
 }
 

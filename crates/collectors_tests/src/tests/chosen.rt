@@ -1,8 +1,8 @@
 //! A collector that is chosen at run time.
 use super::cuts::check;
-use super::functions::{Itself, Modulo};
 use collectors::{Collector, Counting, GroupingBy, SummingLong, ToList};
 use either::{Either, Left, Right};
+use parts::{Itself, Modulo};
 use spliterator::NoMemory;
 use std::alloc::Global;
 use std::test::Fail;
@@ -33,7 +33,7 @@ fn collects_on_the_chosen_side(rt: HostRuntime) -> Result<(), Fail> {
     for &(number, rows) in &CHOSEN {
         check(&rt, alloc, choose(alloc, number), rows)?;
     }
-    let groups = GroupingBy::new(alloc, Modulo::new(2), choose(alloc, 1));
+    let groups = GroupingBy::new(alloc, Modulo::by(2), choose(alloc, 1));
     check(&rt, alloc, groups, &GROUPED)
 }
 

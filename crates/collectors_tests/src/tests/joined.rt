@@ -1,9 +1,9 @@
 //! Collectors over texts, lent and owned.
 use super::cuts::check;
-use super::functions::{Itself, Length};
 use collectors::{
     Counting, First, GroupingBy, Joining, MappingTo, Reducing, SummingLong, ToList, ToMap,
 };
+use parts::{Cloned, Itself, Length};
 use spliterator::NoMemory;
 use stages::LastOf;
 use std::alloc::Global;
@@ -95,10 +95,11 @@ fn check_owned(rt: &impl Abort, alloc: Global, texts: &[String]) -> Result<(), F
     check(rt, alloc, list, &[(texts, "[b, a, b]")])?;
     let joined = Joining::<String>::new(alloc, ",", "", "");
     check(rt, alloc, joined, &[(texts, "b,a,b")])?;
-    let counts = GroupingBy::new(alloc, Itself, Counting::<String>::new());
+    let counts = GroupingBy::new(alloc, Cloned::new(), Counting::<String>::new());
     check(rt, alloc, counts, &[(texts, "{b=2, a=1}")])?;
     let last = Reducing::<String, _>::new(LastOf::<String>::new());
     check(rt, alloc, last, &[(texts, "Optional[b]")])?;
-    let map = ToMap::<String, _, _, _, _>::new(alloc, Itself, Itself, LastOf::<String>::new());
+    let (key, value) = (Cloned::new(), Cloned::new());
+    let map = ToMap::<String, _, _, _, _>::new(alloc, key, value, LastOf::<String>::new());
     check(rt, alloc, map, &[(texts, "{b=b, a=a}")])
 }

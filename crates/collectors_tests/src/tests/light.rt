@@ -1,9 +1,10 @@
 //! Which containers count as light: a number always, a list or a map up to 64 entries, and a nested one by what it holds.
-use super::functions::{Above, Itself, Modulo, Pair};
+use super::functions::Pair;
 use collectors::{
     Collector, Counting, GroupingBy, PartitioningBy, Reducing, SummingLong, Teeing, ToList, ToMap,
     ToMapStrict,
 };
+use parts::{Above, Itself, Modulo};
 use spliterator::NoMemory;
 use stages::{FirstOf, WrapAdd};
 use std::process::Abort;
@@ -63,11 +64,11 @@ fn groups_are_light_up_to_64_and_where_all_inner_ones_are(rt: HostRuntime) -> Re
     let alloc = rt.alloc();
     for &(number, rows) in &BY_KEYS {
         assert!(rt; number > 0);
-        let counts = GroupingBy::new(alloc, Modulo::new(number), Counting::<i64>::new());
+        let counts = GroupingBy::new(alloc, Modulo::by(number), Counting::<i64>::new());
         check(&rt, counts, rows)?;
     }
     // one group has all items
-    let lists = GroupingBy::new(alloc, Modulo::new(1), ToList::<i64>::new(alloc));
+    let lists = GroupingBy::new(alloc, Modulo::by(1), ToList::<i64>::new(alloc));
     check(&rt, lists, &UP_TO_64)?;
     Ok(())
 }

@@ -6,11 +6,12 @@ ghost use Rattle.collectors.specs.NestedLaws.{add_both, teeing_laws};
 ghost use Rattle.collectors.specs.Sums.{add_number, sum_laws};
 
 use super::cuts::check;
-use super::functions::{Above, Itself, Length, Modulo, Pair, Times};
+use super::functions::Pair;
 use collectors::{
     CollectorDefinition, CollectorOf, Counting, FilteringTo, GroupingBy, Joining, MappingTo,
     PartitioningBy, SummingLong, Teeing, ToList,
 };
+use parts::{Above, Itself, Length, Modulo, Times};
 use spliterator::NoMemory;
 use std::test::Fail;
 
@@ -24,7 +25,7 @@ fn teeing_feeds_both(rt: HostRuntime) -> Result<(), Fail> {
     let totals = Teeing::new(SummingLong::new(Itself), Counting::<i64>::new(), Pair);
     check(&rt, alloc, totals, &SUM_AND_COUNT)?;
     let totals = Teeing::new(Counting::<i64>::new(), SummingLong::new(Itself), Pair);
-    let groups = GroupingBy::new(alloc, Modulo::new(2), totals);
+    let groups = GroupingBy::new(alloc, Modulo::by(2), totals);
     check(&rt, alloc, groups, &GROUPED_TOTALS)
 }
 
@@ -36,7 +37,7 @@ static PARTS_OF_GROUPS: [(&[i64], &str); 1] = [(
 #[test]
 fn parts_of_groups(rt: HostRuntime) -> Result<(), Fail> {
     let alloc = rt.alloc();
-    let groups = GroupingBy::new(alloc, Modulo::new(2), ToList::<i64>::new(alloc));
+    let groups = GroupingBy::new(alloc, Modulo::by(2), ToList::<i64>::new(alloc));
     let parts = PartitioningBy::new(Above(3), groups);
     check(&rt, alloc, parts, &PARTS_OF_GROUPS)
 }
@@ -51,7 +52,7 @@ fn groups_of_parts(rt: HostRuntime) -> Result<(), Fail> {
     let alloc = rt.alloc();
     let tens = MappingTo::<i64, _, _>::new(Times(10), ToList::<i64>::new(alloc));
     let parts = PartitioningBy::new(Above(3), tens);
-    let groups = GroupingBy::new(alloc, Modulo::new(2), parts);
+    let groups = GroupingBy::new(alloc, Modulo::by(2), parts);
     check(&rt, alloc, groups, &GROUPS_OF_PARTS)
 }
 
@@ -66,8 +67,8 @@ fn groups_of_groups(rt: HostRuntime) -> Result<(), Fail> {
     let by_length = GroupingBy::new(alloc, Length, GroupingBy::new(alloc, Itself, joined));
     check(&rt, alloc, by_length, &TEXTS)?;
     let large = FilteringTo::new(Above(100), ToList::<i64>::new(alloc));
-    let by_six = GroupingBy::new(alloc, Modulo::new(6), large);
-    let by_two = GroupingBy::new(alloc, Modulo::new(2), by_six);
+    let by_six = GroupingBy::new(alloc, Modulo::by(6), large);
+    let by_two = GroupingBy::new(alloc, Modulo::by(2), by_six);
     check(&rt, alloc, by_two, &NUMBERS)
 }
 

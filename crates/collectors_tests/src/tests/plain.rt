@@ -1,10 +1,10 @@
 //! Collectors over numbers.
 use super::cuts::check;
-use super::functions::{Above, Below, Itself, Modulo, Times};
 use collectors::{
     Counting, FilteringTo, First, GroupingBy, MappingTo, PartitioningBy, Reducing, SummingLong,
     ToList, ToMap,
 };
+use parts::{Above, Below, Itself, Modulo, Times};
 use stages::{FirstOf, LastOf, Max, Min, WrapAdd, WrapMul};
 use std::hash::RandomState;
 use std::test::Fail;
@@ -105,10 +105,10 @@ static FILTERED: [(&[i64], &str); 1] = [(&[1, 2], "{1=0, 0=0}")];
 #[test]
 fn groups_stand_by_their_first_item(rt: HostRuntime) -> Result<(), Fail> {
     let alloc = rt.alloc();
-    let counts = GroupingBy::new(alloc, Modulo::new(2), Counting::<i64>::new());
+    let counts = GroupingBy::new(alloc, Modulo::by(2), Counting::<i64>::new());
     check(&rt, alloc, counts, &GROUPS)?;
     let large = FilteringTo::new(Above(100), Counting::<i64>::new());
-    let groups = GroupingBy::new(alloc, Modulo::new(2), large);
+    let groups = GroupingBy::new(alloc, Modulo::by(2), large);
     check(&rt, alloc, groups, &FILTERED)
 }
 
@@ -125,7 +125,7 @@ static BY_KEYS: [(&[i64], &str); 3] = [
 #[test]
 fn groups_of_repeated_sorted_and_shuffled_keys(rt: HostRuntime) -> Result<(), Fail> {
     let alloc = rt.alloc();
-    let lists = GroupingBy::new(alloc, Modulo::new(3), ToList::<i64>::new(alloc));
+    let lists = GroupingBy::new(alloc, Modulo::by(3), ToList::<i64>::new(alloc));
     check(&rt, alloc, lists, &BY_KEYS)
 }
 
@@ -139,17 +139,17 @@ static FIRST: [(&[i64], &str); 1] = [(&[1, 2, 3, 4], "{1=1, 0=2}")];
 fn groups_by_random_hashes(rt: HostRuntime) -> Result<(), Fail> {
     let alloc = rt.alloc();
     let hashes = RandomState::new(&rt)?;
-    let counts = GroupingBy::with_hasher(alloc, Modulo::new(2), Counting::<i64>::new(), hashes);
+    let counts = GroupingBy::with_hasher(alloc, Modulo::by(2), Counting::<i64>::new(), hashes);
     check(&rt, alloc, counts, &COUNTS_BY_HASHES)?;
-    let last = ToMap::with_hasher(alloc, Modulo::new(2), Itself, LastOf::<i64>::new(), hashes);
+    let last = ToMap::with_hasher(alloc, Modulo::by(2), Itself, LastOf::<i64>::new(), hashes);
     check(&rt, alloc, last, &LAST)
 }
 
 #[test]
 fn maps_merge_from_left_to_right(rt: HostRuntime) -> Result<(), Fail> {
     let alloc = rt.alloc();
-    let last = ToMap::<i64, _, _, _, _>::new(alloc, Modulo::new(2), Itself, LastOf::<i64>::new());
+    let last = ToMap::<i64, _, _, _, _>::new(alloc, Modulo::by(2), Itself, LastOf::<i64>::new());
     check(&rt, alloc, last, &LAST)?;
-    let first = ToMap::<i64, _, _, _, _>::new(alloc, Modulo::new(2), Itself, FirstOf::<i64>::new());
+    let first = ToMap::<i64, _, _, _, _>::new(alloc, Modulo::by(2), Itself, FirstOf::<i64>::new());
     check(&rt, alloc, first, &FIRST)
 }

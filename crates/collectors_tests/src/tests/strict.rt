@@ -1,7 +1,7 @@
 //! Strict maps: the key of the earliest item whose key came before.
 use super::cuts::check;
-use super::functions::{Itself, Length, Modulo, Times};
 use collectors::{DuplicateKey, GroupingBy, ToMapStrict};
+use parts::{Itself, Length, Modulo, Times};
 use std::hash::RandomState;
 use std::test::Fail;
 
@@ -26,7 +26,7 @@ fn strict_maps_of_numbers(rt: HostRuntime) -> Result<(), Fail> {
     let alloc = rt.alloc();
     for &(number, factor, rows) in &NUMBERS {
         assert!(rt; number > 0);
-        let strict = ToMapStrict::<i64, _, _>::new(alloc, Modulo::new(number), Times(factor));
+        let strict = ToMapStrict::<i64, _, _>::new(alloc, Modulo::by(number), Times(factor));
         check(&rt, alloc, strict, rows)?;
     }
     Ok(())
@@ -54,8 +54,8 @@ static GROUPS: [(&[i64], &str); 1] = [(&[1, 2, 13, 12, 22], "{1={1=1, 3=13}, 0=d
 #[test]
 fn strict_maps_of_groups(rt: HostRuntime) -> Result<(), Fail> {
     let alloc = rt.alloc();
-    let strict = ToMapStrict::<i64, _, _>::new(alloc, Modulo::new(10), Itself);
-    let groups = GroupingBy::new(alloc, Modulo::new(2), strict);
+    let strict = ToMapStrict::<i64, _, _>::new(alloc, Modulo::by(10), Itself);
+    let groups = GroupingBy::new(alloc, Modulo::by(2), strict);
     check(&rt, alloc, groups, &GROUPS)
 }
 

@@ -4,9 +4,9 @@ ghost use Rattle.parallel_streams.specs.Terminals.{IsLeftIdentity};
 ghost use Rattle.spliterator.specs.Values.{IsI64};
 ghost use Rattle.stages.specs.Operators.{IsAssociative};
 
-use super::functions::Itself;
 use collectors::{Collector, SummingLong, ToList};
 use parallel_streams::{Run, Source, Stream, StreamError, of};
+use parts::Itself;
 use sources::{RangeSplit, SliceSplit};
 use stages::Operator;
 use std::alloc::Global;

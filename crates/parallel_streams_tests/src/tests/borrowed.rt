@@ -1,9 +1,9 @@
 //! Barriers behind a source that borrows, in a caller that names the borrow.
 
 use super::answers::{Reported, check, check_items, limited};
-use super::functions::Below;
 use super::{Suite, at_each_setting};
 use parallel_streams::{Run, Stream, StreamError, of};
+use parts::Below;
 use sources::SliceSplit;
 use std::alloc::Global;
 use std::process::Abort;

@@ -3,7 +3,7 @@ ghost use Rattle.spliterator.specs.Values.{IsI64};
 ghost use Rattle.stages.specs.Operators.{IsAssociative};
 
 use super::answers::{check, check_list, collected, same};
-use super::functions::{Above, Both, Itself, Parity, Times};
+use super::functions::Both;
 use super::{Suite, at_each_setting};
 use collectors::{
     Collector, Counting, FilteringTo, First, GroupingBy, MappingTo, Partition, PartitioningBy,
@@ -11,6 +11,7 @@ use collectors::{
 };
 use indexmap::IndexMap;
 use parallel_streams::{Run, StreamError};
+use parts::{Above, Itself, Modulo, Times};
 use stages::{FirstOf, LastOf, Operator, WrapMul};
 use std::alloc::Global;
 use std::fmt::Debug;
@@ -55,7 +56,7 @@ where
     D::Out: Send,
     requires { D.ready downstream }
 {
-    let groups = GroupingBy::new(rt.alloc(), Parity, downstream);
+    let groups = GroupingBy::new(rt.alloc(), Modulo::by(2), downstream);
     collected(rt, run, numbers, &groups)
 }
 
@@ -84,7 +85,7 @@ fn parts<R: Threads + Alloc<A = Global> + Sync>(
     run: &Run<'_, NoGate>,
     numbers: &[i64],
 ) -> Result<Partition<IndexMap<i64, Vec<i64>>>, StreamError> {
-    let groups = GroupingBy::new(rt.alloc(), Parity, ToList::<i64>::new(rt.alloc()));
+    let groups = GroupingBy::new(rt.alloc(), Modulo::by(2), ToList::<i64>::new(rt.alloc()));
     let above = PartitioningBy::new(Above(3), groups);
     collected(rt, run, numbers, &above)
 }
@@ -120,7 +121,7 @@ fn merged<R: Threads + Alloc<A = Global> + Sync, O: Operator<i64> + Drop + Sync>
     requires merge { O.ready merge }
     requires associative { IsAssociative IsI64 (O.join merge) }
 {
-    let merging = ToMap::<i64, _, _, _, _>::new(rt.alloc(), Parity, Itself, merge);
+    let merging = ToMap::<i64, _, _, _, _>::new(rt.alloc(), Modulo::by(2), Itself, merge);
     collected(rt, run, &[1, 2, 3, 4], &merging)
 }
 

@@ -1,9 +1,9 @@
 //! Matches.
 
 use super::answers::{check, numbers};
-use super::functions::Below;
 use super::{Suite, at_each_setting};
 use parallel_streams::{Run, Source, Stream, StreamError};
+use parts::Below;
 use sources::RangeSplit;
 use std::alloc::Global;
 use std::process::Abort;

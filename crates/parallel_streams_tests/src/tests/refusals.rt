@@ -2,8 +2,8 @@
 
 use super::answers::{check, first_of, numbers, same, sum_of};
 use super::at;
-use super::functions::Above;
 use parallel_streams::{Run, Stream, StreamError};
+use parts::Above;
 use spliterator::NoMemory;
 use stages::Mapping;
 use std::alloc::Global;

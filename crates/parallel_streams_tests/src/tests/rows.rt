@@ -4,9 +4,10 @@ use super::answers::{
     Reported, check, check_items, check_list, counted, first_of, joined, limited, listed, numbers,
     reduced, reported, sum_of,
 };
-use super::functions::{Above, Below, Copies, Plus, Times};
+use super::functions::Copies;
 use super::{Suite, at, at_each_setting};
 use parallel_streams::{Run, Source, Staged, Stream, StreamError, of};
+use parts::{Above, Below, Plus, Times};
 use sources::{RangeSplit, RangeTooLong, SliceSplit};
 use stages::{Filter, LastOf, Map, Max, Min, WrapAdd, WrapMul};
 use std::alloc::Global;

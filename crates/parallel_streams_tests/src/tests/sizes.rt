@@ -3,9 +3,9 @@ ghost use Rattle.std.specs.Prelude.{◌<◌, ◌^◌};
 
 use super::SETTINGS;
 use super::answers::{check, counted, numbers, same};
-use super::functions::{Above, Itself};
 use super::gates::Watch;
 use parallel_streams::{Run, Stream, StreamError};
+use parts::{Above, Itself};
 use stages::StreamFlags;
 use std::alloc::Global;
 use std::process::Abort;

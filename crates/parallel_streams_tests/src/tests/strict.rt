@@ -1,12 +1,11 @@
 //! Maps with no merge function.
 
 use super::answers::same;
-use super::functions::{Itself, Plus};
 use super::groups::check_entries;
-use super::words::{Length, Text};
 use super::{Suite, at_each_setting};
 use indexmap::IndexMap;
 use parallel_streams::{MapError, Run, Stream, StreamError, of};
+use parts::{Itself, Length, Plus};
 use sources::{LinesSplit, SliceSplit};
 use std::alloc::Global;
 use std::fmt::Debug;
@@ -61,7 +60,7 @@ pub fn rows<R: Threads + Abort + Alloc<A = Global> + Sync>(
     }
     for &(lines, expected) in &LINES {
         let stream = of(LinesSplit::new(lines));
-        let answer = stream.to_map_strict(rt, rt.alloc(), run, &Length, &Text);
+        let answer = stream.to_map_strict(rt, rt.alloc(), run, &Length, &Itself);
         check_map(rt, answer, expected)?;
     }
     Ok(())

@@ -1,12 +1,13 @@
 //! Streams of texts.
 
 use super::answers::same;
-use super::functions::{Both, Itself};
-use super::words::{Length, Words};
+use super::functions::Both;
+use super::words::Words;
 use super::{Suite, at_each_setting};
 use collectors::{GroupingBy, Joining, MappingTo, SummingLong, Teeing};
 use indexmap::IndexMap;
 use parallel_streams::{Run, Stream, StreamError, of};
+use parts::{Itself, Length};
 use sources::LinesSplit;
 use std::alloc::Global;
 use std::process::Abort;

@@ -5,6 +5,7 @@ ghost use Rattle.spliterator.specs.Values.{IsI64};
 ghost use Rattle.stages.specs.Products.{wrapped_product};
 ghost use Rattle.stages.specs.Wrapping.{wrapped_sum, wrapped-value};
 
+use parts::{Above, Times};
 use spliterator::NoMemory;
 use stages::{
     Filter, FlatMap, Map, Mapping, Nothing, Operation, Operator, Sink, Stage, Test, Then, WrapAdd,
@@ -12,23 +13,6 @@ use stages::{
 use std::alloc::Global;
 use std::process::Abort;
 use std::test::Fail;
-
-#[derive(Drop)]
-struct Times {
-    factor: i64,
-}
-
-impl Mapping<i64> for Times {
-    type Out = i64;
-
-    ghost image = { λ m x. wrapped_product x m.factor };
-
-    ghost images_are_values = { λ m x _. wrapped-value (x *ℤ m.factor) };
-
-    fn image(&self, x: &i64) -> Result<i64, NoMemory> {
-        Ok(x.wrapping_mul(self.factor))
-    }
-}
 
 /// The number itself. That of 7 is refused, as if it wanted memory.
 #[derive(Drop)]
@@ -46,19 +30,6 @@ impl Mapping<i64> for RefusesSeven {
             return Err(NoMemory);
         }
         Ok(*x)
-    }
-}
-
-#[derive(Drop)]
-struct Above {
-    limit: i64,
-}
-
-impl Test<i64> for Above {
-    ghost holds = { λ t x. int_lt t.limit x };
-
-    fn holds(&self, x: &i64) -> bool {
-        self.limit < *x
     }
 }
 
@@ -175,13 +146,13 @@ fn check<S: Stage<In = i64, Out = i64>>(
 
 #[test]
 fn stages_are_fused(rt: HostRuntime) -> Result<(), Fail> {
-    let above_two = Filter::new(Above { limit: 2 });
-    let tenfold = Map::new(Times { factor: 10 });
+    let above_two = Filter::new(Above(2));
+    let tenfold = Map::new(Times(10));
     let lent = Then::new(&above_two, &tenfold);
     check(&rt, &lent, &[1, 2, 3, 4], &[], &[30, 40])?;
     let fused = Then::new(tenfold, above_two);
     check(&rt, &fused, &[0, 1], &[30, 40], &[30, 40, 10])?;
-    let negated = Then::new(fused, Map::new(Times { factor: -1 }));
+    let negated = Then::new(fused, Map::new(Times(-1)));
     let again = Then::new(Nothing::new(), negated);
     check(&rt, &again, &[1, 0, 2], &[], &[-10, -20])
 }
@@ -238,7 +209,7 @@ fn nothing_is_fed_to_a_full_sink(rt: HostRuntime) -> Result<(), Fail> {
         came: 0,
     };
     let copies = FlatMap::new(Copies { alloc });
-    let fused = Then::new(&copies, Map::new(Times { factor: 2 }));
+    let fused = Then::new(&copies, Map::new(Times(2)));
     fused.feed(5, &mut few)?;
     assert!(rt; few.kept.as_slice() == [10, 10].as_slice() && few.came == 2);
     copies.feed(5, &mut few)?;
@@ -255,8 +226,8 @@ fn tells<S: Stage>(stage: &S, operation: Operation, size: Option<u64>) -> bool {
 
 #[test]
 fn stages_tell_their_rows(rt: HostRuntime) {
-    let map = Map::new(Times { factor: 2 });
-    let filter = Filter::new(Above { limit: 2 });
+    let map = Map::new(Times(2));
+    let filter = Filter::new(Above(2));
     let flat_map = FlatMap::new(Copies { alloc: rt.alloc() });
     let told = [
         tells(&map, Operation::Map, Some(5)),

@@ -2,9 +2,10 @@
 ghost use Rattle.std.specs.Prelude.{◌≤◌};
 
 use super::gates::{HoldsFirst, Meeting};
-use super::watched::{Above, Itself, MeetingLists, Times, Watched};
+use super::watched::{MeetingLists, Times, Watched};
 use barriers::{Demand, FirstHit, Total, Whole};
 use collectors::{Collector, SummingLong, ToList};
+use parts::{Above, Itself};
 use sources::RangeSplit;
 use split_tree::Plan;
 use spliterator::NoMemory;
@@ -308,7 +309,7 @@ fn one_hit_skips_all_that_follows(rt: HostRuntime) -> Result<(), Fail> {
         target: 10,
         workers: 1,
     };
-    let demand = FirstHit::new(Above { limit: 2 });
+    let demand = FirstHit::new(Above(2));
     let lists = ToList::new(rt.alloc());
     let run = run(
         &rt,

@@ -5,10 +5,10 @@ ghost use Rattle.split_tree.specs.SplitTree.{leaf_numbers, numbers_from};
 ghost use Rattle.stealing_pool.specs.Fronts.{folding, EndsList, IsFront, joined, work_of};
 
 use super::plan_of;
-use super::watched::Itself;
 use barriers::{Demand, Need, Whole};
 use collectors::{Collector, SummingLong, combine_containers};
 use leaf_board::Handout;
+use parts::Itself;
 use sources::RangeSplit;
 use split_tree::{Plan, Tree};
 use spliterator::{NoMemory, OrderedValue, Spliterator};

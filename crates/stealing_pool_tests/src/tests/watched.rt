@@ -11,22 +11,6 @@ use stages::{Mapping, Test};
 use std::alloc::Global;
 use std::sync::atomic::{AtomicU64, Ordering};
 
-/// Each number as it is.
-#[derive(Drop)]
-pub struct Itself;
-
-impl Mapping<i64> for Itself {
-    type Out = i64;
-
-    ghost image = { λ _ x. x };
-
-    ghost images_are_values = { λ f x h. h };
-
-    fn image(&self, x: &i64) -> Result<i64, NoMemory> {
-        Ok(*x)
-    }
-}
-
 /// A multiple of each number, but memory is refused at one of them.
 #[derive(Drop)]
 pub struct Times {
@@ -57,20 +41,6 @@ impl Mapping<i64> for Times {
         } else {
             Ok(x.wrapping_mul(self.factor))
         }
-    }
-}
-
-/// The numbers above a limit.
-#[derive(Drop)]
-pub struct Above {
-    pub limit: i64,
-}
-
-impl Test<i64> for Above {
-    ghost holds = { λ t x. int_lt t.limit x };
-
-    fn holds(&self, x: &i64) -> bool {
-        self.limit < *x
     }
 }
 
