@@ -8,7 +8,7 @@ use spliterator::Value;
 use stages::Test;
 
 /// Whether a number is less than this one.
-#[derive(Clone, Copy, Debug)]
+#[derive(Clone, Copy)]
 pub struct Below(pub i64);
 
 impl Test<i64> for Below {
@@ -20,7 +20,7 @@ impl Test<i64> for Below {
 }
 
 /// Whether a number is greater than this one.
-#[derive(Clone, Copy, Debug)]
+#[derive(Clone, Copy)]
 pub struct Above(pub i64);
 
 impl Test<i64> for Above {
@@ -32,7 +32,7 @@ impl Test<i64> for Above {
 }
 
 /// Whether a value equals this one.
-#[derive(Clone, Copy, Debug, Drop)]
+#[derive(Clone, Copy, Drop)]
 pub struct Equal<T>(pub T);
 
 impl<T: Value> Test<T> for Equal<T> {
@@ -44,7 +44,7 @@ impl<T: Value> Test<T> for Equal<T> {
 }
 
 /// Whether a number is a multiple of 2.
-#[derive(Clone, Copy, Debug)]
+#[derive(Clone, Copy)]
 pub struct Even;
 
 impl Test<i64> for Even {

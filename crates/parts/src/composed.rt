@@ -4,7 +4,7 @@ use spliterator::{NoMemory, Value};
 use stages::Mapping;
 
 /// The second mapping's image of the first one's (`java.util.function.Function`, `andThen`): `Composed(Length, Modulo::by(10))`.
-#[derive(Clone, Copy, Debug, Drop)]
+#[derive(Clone, Copy, Drop)]
 pub struct Composed<M, N>(pub M, pub N);
 
 impl<T: Value, U: Value + Drop, M: Mapping<T, Out = U>, N: Mapping<U>> Mapping<T>

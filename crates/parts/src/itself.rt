@@ -6,7 +6,7 @@ use stages::Mapping;
 use std::marker::PhantomData;
 
 /// The item itself: a number, or a text that is lent (`java.util.function.Function`, `identity`).
-#[derive(Clone, Copy, Debug)]
+#[derive(Clone, Copy)]
 pub struct Itself;
 
 impl<T: Value + Copy> Mapping<T> for Itself {

@@ -5,7 +5,7 @@ use spliterator::Value;
 use stages::Test;
 
 /// The contrary of a test.
-#[derive(Clone, Copy, Debug, Drop)]
+#[derive(Clone, Copy, Drop)]
 pub struct Not<P>(pub P);
 
 impl<T: Value, P: Test<T>> Test<T> for Not<P> {
@@ -19,7 +19,7 @@ impl<T: Value, P: Test<T>> Test<T> for Not<P> {
 }
 
 /// Whether both tests hold.
-#[derive(Clone, Copy, Debug, Drop)]
+#[derive(Clone, Copy, Drop)]
 pub struct And<P, Q>(pub P, pub Q);
 
 impl<T: Value, P: Test<T>, Q: Test<T>> Test<T> for And<P, Q> {
@@ -33,7 +33,7 @@ impl<T: Value, P: Test<T>, Q: Test<T>> Test<T> for And<P, Q> {
 }
 
 /// Whether one of the tests holds, or both.
-#[derive(Clone, Copy, Debug, Drop)]
+#[derive(Clone, Copy, Drop)]
 pub struct Or<P, Q>(pub P, pub Q);
 
 impl<T: Value, P: Test<T>, Q: Test<T>> Test<T> for Or<P, Q> {

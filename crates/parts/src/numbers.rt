@@ -10,7 +10,7 @@ use spliterator::NoMemory;
 use stages::Mapping;
 
 /// So much more: `Plus(3)` makes 8 of 5.
-#[derive(Clone, Copy, Debug)]
+#[derive(Clone, Copy)]
 pub struct Plus(pub i64);
 
 impl Mapping<i64> for Plus {
@@ -26,7 +26,7 @@ impl Mapping<i64> for Plus {
 }
 
 /// So many times the number: `Times(3)` makes 15 of 5.
-#[derive(Clone, Copy, Debug)]
+#[derive(Clone, Copy)]
 pub struct Times(pub i64);
 
 impl Mapping<i64> for Times {
@@ -42,7 +42,7 @@ impl Mapping<i64> for Times {
 }
 
 /// The number's negative.
-#[derive(Clone, Copy, Debug)]
+#[derive(Clone, Copy)]
 pub struct Negated;
 
 impl Mapping<i64> for Negated {

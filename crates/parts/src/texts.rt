@@ -7,7 +7,7 @@ use spliterator::{NoMemory, Text};
 use stages::{Mapping, Test};
 
 /// A text's length in bytes.
-#[derive(Clone, Copy, Debug)]
+#[derive(Clone, Copy)]
 pub struct Length;
 
 impl<T: Text> Mapping<T> for Length {
@@ -23,7 +23,7 @@ impl<T: Text> Mapping<T> for Length {
 }
 
 /// Whether a text begins with this one.
-#[derive(Clone, Copy, Debug)]
+#[derive(Clone, Copy)]
 pub struct StartsWith<'a>(pub &'a str);
 
 impl<T: Text> Test<T> for StartsWith<'_> {
