@@ -1,4 +1,4 @@
-pub mod Blocks
+pub mod BlockSteps
 pub mod Inverses
 pub mod NearNumbers
 pub mod Quotients

@@ -1,7 +1,7 @@
 use Rattle.std.proofs.Common.{◌≡◌, ◌∙◌, ap, length, take}
 use Rattle.std.specs.Prelude.{filter}
 use Rattle.parts.specs.Lists.{filter-flat_map}
-use Rattle.parts.proofs.Blocks.{written_over}
+use Rattle.parts.proofs.BlockSteps.{written_over}
 use Rattle.parts.proofs.blocks.keep_all.Goals as goal
 
 pub returns : goal.returns

@@ -1,5 +1,5 @@
 use Rattle.std.proofs.Common.{rules, ◌≡◌, pos, get_or, true, false, ◌∙◌, to_z, of_z, w64}
-use Rattle.parts.proofs.Blocks.{keep_step}
+use Rattle.parts.proofs.BlockSteps.{keep_step}
 use Rattle.parts.proofs.blocks.keep_front.Goals as goal
 
 pub loop-i-preserved : goal.loop-i-preserved

@@ -1,6 +1,6 @@
 use Rattle.std.proofs.Common.{◌≡◌, ◌∙◌, sym, ap, arith}
 use Rattle.std.specs.Prelude.{count_by}
-use Rattle.parts.proofs.Blocks.{kept-all, kept-none}
+use Rattle.parts.proofs.BlockSteps.{kept-all, kept-none}
 use Rattle.parts.proofs.blocks.keep_runs.Goals as goal
 
 pub returns-then-meeting-eq0 : goal.returns-then-meeting-eq0

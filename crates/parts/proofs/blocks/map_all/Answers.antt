@@ -1,7 +1,7 @@
 use Rattle.std.proofs.Common.{◌≡◌, ◌∙◌, ap, length, map}
 use Rattle.std.proofs.lemmas.List.{length-map}
 use Rattle.parts.specs.Lists.{map-flat_map}
-use Rattle.parts.proofs.Blocks.{written_over}
+use Rattle.parts.proofs.BlockSteps.{written_over}
 use Rattle.parts.proofs.blocks.map_all.Goals as goal
 
 pub returns : goal.returns

@@ -1,7 +1,7 @@
 use Rattle.std.proofs.Common.{rules, arith, ◌≡◌, ◌<◌, length, ◌∙◌, ap, get_or, to_z, of_z, w64, pos}
 use Rattle.std.proofs.Math.ListN.{set}
 use Rattle.std.proofs.lemmas.List.Edits.{map_over_more}
-use Rattle.parts.proofs.Blocks.{get_or_any}
+use Rattle.parts.proofs.BlockSteps.{get_or_any}
 use Rattle.parts.proofs.blocks.map_slice.Goals as goal
 
 pub loop-x-preserved : goal.loop-x-preserved

@@ -2,7 +2,7 @@ use Rattle.std.proofs.Common.{◌≡◌, ◌∙◌, ap, length, map, pos, ℤ}
 use Rattle.std.specs.Int.{int_rem_euclid}
 use Rattle.std.proofs.lemmas.List.{length-map}
 use Rattle.parts.specs.Lists.{map-flat_map}
-use Rattle.parts.proofs.Blocks.{written_over}
+use Rattle.parts.proofs.BlockSteps.{written_over}
 use Rattle.parts.proofs.blocks.remainders.Goals as goal
 
 pub returns-in-Some : goal.returns-in-Some

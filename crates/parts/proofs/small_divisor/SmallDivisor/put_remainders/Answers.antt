@@ -2,7 +2,7 @@ use Rattle.std.proofs.Common.{rules, arith, ◌≡◌, ◌<◌, length, ◌∙�
 use Rattle.std.specs.Int.{int_rem_euclid}
 use Rattle.std.proofs.Math.ListN.{set}
 use Rattle.std.proofs.lemmas.List.Edits.{map_over_more}
-use Rattle.parts.proofs.Blocks.{get_or_any}
+use Rattle.parts.proofs.BlockSteps.{get_or_any}
 use Rattle.parts.proofs.small_divisor.SmallDivisor.put_remainders.Goals as goal
 
 pub loop-x-preserved : goal.loop-x-preserved
