@@ -1,6 +1,6 @@
 -- The leaf with which so many images have come, by the counts of a run's leaves.
 use Rattle.std.proofs.Common.{refl, ◌≡◌, ◌<◌, ◌≤◌, ◌+◌, ◌-◌, ◌++◌, ◌∷◌, ℕ, suc, List, [], Option, Some, None, arith, ap, sym, subst, ◌∙◌, ⊎_elim, append-nil, append_assoc, get_or}
-use Rattle.std.specs.Prelude.{◌⊎◌, drop, flat_map, length, slice_get, take}
+use Rattle.std.specs.Prelude.{drop, flat_map, length, slice_get, take}
 use Rattle.std.proofs.lemmas.List.{drop_at, length-append, length-map, take-append-drop, take-map, take-take, take_at, take_more}
 use Rattle.std.proofs.lemmas.List.Concat.{flat_map-append, flat_map-cons}
 use Rattle.std.proofs.lemmas.Option.{get_or_from_slice_get}

@@ -1,4 +1,4 @@
-use Rattle.std.proofs.Common.{◌≡◌, ◌<◌, ◌≤◌, ◌∙◌, ap, arith, refl, sym}
+use Rattle.std.proofs.Common.{◌<◌, ◌∙◌, ap, arith, refl, sym}
 use Rattle.std.specs.Prelude.{flat_map, length}
 use Rattle.std.proofs.lemmas.List.{take_all}
 use Rattle.leaf_board.specs.Closing.{count_of, cut_of}

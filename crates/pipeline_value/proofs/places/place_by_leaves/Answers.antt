@@ -1,5 +1,5 @@
 -- The place in the leaf is one in the source.
-use Rattle.std.proofs.Common.{◌<◌, ◌+◌, ap, arith, subst}
+use Rattle.std.proofs.Common.{◌+◌, ap, arith, subst}
 use Rattle.std.specs.Prelude.{length}
 use Rattle.pipeline_meaning.specs.AtMostOne.{images-few}
 use Rattle.pipeline_value.specs.Places.{IsPlace}
