@@ -98,12 +98,14 @@ fn functions_of_texts(rt: HostRuntime) -> Result<(), Fail> {
     Ok(())
 }
 
+#[derive(Drop)]
 struct IsLarge;
 
 impl TestDefinition<i64> for IsLarge {
     ghost holds = { λ x. int_lt (pos 10) x };
 }
 
+#[derive(Drop)]
 struct Tripled;
 
 impl MappingDefinition<i64, i64> for Tripled {
@@ -112,6 +114,7 @@ impl MappingDefinition<i64, i64> for Tripled {
     ghost images_are_values = { λ x _. wrapped-value (x *ℤ pos 3) };
 }
 
+#[derive(Drop)]
 struct Later;
 
 impl OperatorDefinition<i64> for Later {
