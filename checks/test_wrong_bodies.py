@@ -53,12 +53,23 @@ pub fn fifth(number: u8) -> u8
 {
     number + STEP
 }
+
+pub trait Counter {
+    fn start(&self) -> u8
+        ensures { result ≡ 1 }
+    {
+        1
+    }
+}
 """
 # what each edit changes, with the function that it names where it names one, and how its line has to begin
 EDITS = {
     "adds_two": ("    number + 1", "    number + 2", "sample/adds_two: refused: "),
     # (both in copies of the function that the first edit touches)
     "adds_two_in_turn": ("    number + 1", "    number + 1 + 1", "sample/adds_two_in_turn: refused: "),
+    # (a trait's own method, and a copy of it)
+    "starts_at_none": ("        1", "        0", "sample/starts_at_none: refused: "),
+    "starts_at_two": ("        1", "        2", "sample/starts_at_two: refused: "),
     "adds_the_number": ("    number + 1", "    1 + number", "FAILED: sample/adds_the_number: NOT REFUSED"),
     "only_calls_what_is_refused": ("next(next(number))", "{ let first = next(number); next(first) }", "FAILED: sample/only_calls_what_is_refused: NOT REFUSED"),
     "changes_nothing": ("    number + 3", "    3 + number", "FAILED: sample/changes_nothing: NOT REFUSED"),
@@ -86,9 +97,9 @@ def told(edits, *words):
 def main():
     lines, status = told(EDITS, "--anew")
     cases = {name: any(line.startswith(wanted) for line in lines) for name, (_, _, wanted) in EDITS.items()}
-    cases |= {"the sums": lines[-1:] == ["3 passed, 6 failed"], "the status": status == 1}
+    cases |= {"the sums": lines[-1:] == ["5 passed, 6 failed"], "the status": status == 1}
     again, _ = told({name: edit for name, edit in EDITS.items() if "FAILED" not in edit[2]})
-    cases["what passed is kept, where the kit keeps it"] = [line.endswith(" (by an earlier run of the same)") for line in again[:-1]] == [KEEPS] * 3
+    cases["what passed is kept, where the kit keeps it"] = [line.endswith(" (by an earlier run of the same)") for line in again[:-1]] == [KEEPS] * 5
     lines += again
     for name, good in cases.items():
         print(f"{'ok' if good else 'FAILED'}: {name}")

@@ -5,8 +5,9 @@
 
 Run it at the top of the repository, once the libraries are built (`rt ci`, or `rt all check`). An edit has the form of a must-fail edit:
 a line `file: src/..`, then pairs of lines `old: TEXT` and `new: TEXT`. One check tries as many edits of a crate as it can, at most one a function: where
-several touch one function, it stands there once more for each, under a name of its own, unless it is a method of a trait or calls itself. The check proves
-no others than these: the proof of each other function is a hole, which stands for what its contract says, and its body is empty. An edit passes where the check says of the edited function itself that a goal isn't proved. That the function calls one that was refused, that a proof file names what
+several touch one function, it stands there once more for each, under a name of its own, unless it is a method that an impl gives a trait, or calls itself.
+The check proves no others than these: the proof of each other function is a hole, which stands for what its contract says, and its body is empty. An edit
+passes where the check says of the edited function itself that a goal isn't proved. That the function calls one that was refused, that a proof file names what
 the edit took away, or that the text can't be read is no refusal. What a pack doesn't show so is tried alone. An edit outside functions, of a constant say, has a line
 `function: NAME` with the check's name of the function that has to be refused; without one it is tried alone, on the whole crate, and passes
 where any function is refused so.
@@ -21,6 +22,7 @@ import collections
 import concurrent.futures
 import contextlib
 import copy
+import difflib
 import hashlib
 import importlib.machinery
 import importlib.util
@@ -174,7 +176,7 @@ def with_holes(crate, proved, pack):
         for part in RT.rtlib.PARTS:
             if os.path.isdir(f"{crate.folder}/{part}"):
                 shutil.copytree(f"{crate.folder}/{part}", f"{room}/{part}")
-        for file, text in pack.texts.items():
+        for file, text in pack.texts().items():
             pathlib.Path(room, file).write_text(text, encoding="utf-8")
         for made in pack.copies:
             made.put_proof(crate.name, room)
@@ -201,6 +203,33 @@ def names_in_proofs(path, crate):
     return ".".join([f"Rattle.{crate}.proofs", *path.split("::"), ""])
 
 
+class Change(collections.namedtuple("Change", "first last lines")):
+    """Lines of a file, by their numbers, and what stands in their place."""
+
+    def meets(self, other):
+        """Whether both change a line."""
+        return self.first < other.last and other.first < self.last
+
+
+def lines_of(crate, file):
+    return pathlib.Path(crate.folder, file).read_text(encoding="utf-8").split("\n")
+
+
+def changes_of(old, new):
+    """The changes that make these lines of those."""
+    same = len(os.path.commonprefix([old, new]))
+    end = len(os.path.commonprefix([old[same:][::-1], new[same:][::-1]]))
+    matched = difflib.SequenceMatcher(None, old[same : len(old) - end], new[same : len(new) - end], autojunk=False)
+    return [Change(same + first, same + last, new[same + at : same + to]) for tag, first, last, at, to in matched.get_opcodes() if tag != "equal"]
+
+
+def with_changes(lines, changes):
+    """The lines with these changes made, of which no two meet."""
+    for change in sorted(changes, reverse=True):
+        lines = [*lines[: change.first], *change.lines, *lines[change.last :]]
+    return lines
+
+
 class Copy:
     """A function that stands in a crate once more, under another name."""
 
@@ -210,16 +239,14 @@ class Copy:
 
     @staticmethod
     def can_be_of(function):
-        """Whether the function is the same under another name: no method of a trait, and in no cycle of calls."""
-        in_trait = function.owner.startswith(("trait", "pub trait")) or bool(function.owner and split_impl(function.owner)[1])
-        return not in_trait and len(function.folders) == 2
+        """Whether the function is the same under another name: no method that an impl gives a trait, and in no cycle of calls."""
+        is_given = function.owner.startswith("impl") and bool(split_impl(function.owner)[1])
+        return not is_given and len(function.folders) == 2
 
-    def put(self, text, lines):
-        """A file's text with these lines of the function behind it, under the other name."""
+    def change(self, lines):
+        """The change of a file that puts these lines of the function behind it, under the other name."""
         renamed = [re.sub(rf"\bfn {self.of.name}\b", f"fn {self.name}", it) if FUNCTION.match(it) else it for it in lines]
-        now = next(it for it in functions_of(self.of.file, text) if (it.owner, it.name) == (self.of.owner, self.of.name))
-        whole = text.split("\n")
-        return "\n".join([*whole[: now.last + 1], "", *renamed, *whole[now.last + 1 :]])
+        return Change(self.of.last + 1, self.of.last + 1, ["", *renamed])
 
     def put_proof(self, crate, room):
         """Puts what stands in the folder of the function's proof into one of the copy."""
@@ -267,38 +294,30 @@ class Edit:
         self.functions += [it for it in inside if it not in self.functions]
         return bool(inside)
 
-    def apply(self, texts, folder):
-        """The texts with this edit made too, or None where it doesn't fit them."""
-        texts = dict(texts)
-        for file, old, new in self.pairs:
-            if file not in texts:
-                texts[file] = pathlib.Path(folder, file).read_text(encoding="utf-8")
-            if texts[file].count(old) != 1:
-                return None
-            texts[file] = texts[file].replace(old, new)
-        return texts
+    def changes(self, crate):
+        """What the edit changes in each file of the crate."""
+        texts = RT.edited(self.path.read_text(encoding="utf-8"), crate.folder)[0]
+        return {file: changes_of(lines_of(crate, file), text.split("\n")) for file, text in texts.items()}
 
-    def apply_to(self, made, texts, folder):
-        """The texts with a copy of a function, in which the edit is made, or None where it isn't within the function."""
-        file = made.of.file
-        text = pathlib.Path(folder, file).read_text(encoding="utf-8").split("\n")
+    def changes_in(self, made, crate):
+        """The change that puts a copy of a function, in which the edit is made, behind it, or None where the edit isn't within the function."""
+        text = lines_of(crate, made.of.file)
         first = made.of.first
         while text[first - 1].strip().startswith("#["):
             first -= 1
         lines = "\n".join(text[first : made.of.last + 1])
-        before = texts.get(file, "\n".join(text))
         for _, old, new in self.pairs:
             if lines.count(old) != 1:
                 return None
             lines = lines.replace(old, new)
-        return texts | {file: made.put(before, lines.split("\n"))}
+        return {made.of.file: [made.change(lines.split("\n"))]}
 
 
 class Pack:
-    """Edits that one check tries: the texts with all of them made, the functions of each as they are named there, and which of these are copies."""
+    """Edits that one check tries: what all of them change in each file, the functions of each as they are named there, and which of these are copies."""
 
     def __init__(self, crate, edits=()):
-        self.crate, self.texts, self.functions, self.copies = crate, {}, {}, []
+        self.crate, self.changes, self.functions, self.copies = crate, {}, {}, []
         for edit in edits:
             self.add(edit)
 
@@ -310,17 +329,23 @@ class Pack:
         touched = [it for it in edit.functions if any(it in other.functions for other in self.functions)]
         copies = []
         if not touched:
-            texts = edit.apply(self.texts, self.crate.folder)
+            changes = edit.changes(self.crate)
         elif len(edit.functions) == 1 and Copy.can_be_of(touched[0]):
             copies = [Copy(touched[0], 2 + sum(it.of == touched[0] for it in self.copies))]
-            texts = edit.apply_to(copies[0], self.texts, self.crate.folder)
+            changes = edit.changes_in(copies[0], self.crate)
         else:
             return False
-        if texts is None:
+        if changes is None or any(one.meets(other) for file in changes for one in changes[file] for other in self.changes.get(file, [])):
             return False
-        self.texts, self.functions[edit] = texts, [it.function for it in copies] or edit.functions
+        for file in changes:
+            self.changes[file] = [*self.changes.get(file, []), *changes[file]]
+        self.functions[edit] = [it.function for it in copies] or edit.functions
         self.copies += copies
         return True
+
+    def texts(self):
+        """The files' texts with all edits made."""
+        return {file: "\n".join(with_changes(lines_of(self.crate, file), changes)) for file, changes in self.changes.items()}
 
     def paths(self):
         """The check's names of the functions to prove, or none where the whole crate is to be."""
@@ -430,13 +455,13 @@ class Trial:
         return self.told
 
     def try_pack(self, pack):
-        said = self.check(pack, pack.paths())
-        unread = next((it for it in said if RT.unread(it, pack.texts)), None)
+        said, texts = self.check(pack, pack.paths()), pack.texts()
+        unread = next((it for it in said if RT.unread(it, texts)), None)
         if unread or not said[-1].startswith(("logic=", "only=")):
             return self.divide([*pack.functions], unread or next((it for it in said if "error" in it), said[-1]))
         told = read_check(said)
         for edit, functions in pack.functions.items():
-            goals = [own_goal(it, self.crate.name, told, pack.texts) for it in functions]
+            goals = [own_goal(it, self.crate.name, told, texts) for it in functions]
             goals += [] if edit.is_inside else [own_goal_of_any(self.crate.name, told)]
             shown = next((it for it in goals if it), None)
             if shown:
@@ -448,7 +473,7 @@ class Trial:
         """The lines of a check of these functions, or of the whole crate where there are none."""
         only = [word for it in dict.fromkeys(paths) for word in ("--only", it)]
         with with_holes(self.crate, {*paths} | self.no_holes, pack) if only else contextlib.nullcontext(self.crate) as crate:
-            ran = RT.checked(crate, {} if only else pack.texts, ["--jobs", "1", *(only and ["--allow-holes"]), *only], self.kept)
+            ran = RT.checked(crate, {} if only else pack.texts(), ["--jobs", "1", *(only and ["--allow-holes"]), *only], self.kept)
         said = ran.stdout.rstrip("\n").split("\n")
         refused = {it[1].replace("/", "::") for it in map(REFUSED_HOLE.match, said) if it} - self.no_holes
         if refused:
