@@ -74,18 +74,28 @@ where
     X::Part: Send,
     requires { X.ready numbers }
 {
-    let items = numbers
-        .map(Itself {
-            asked: &asked.mapped,
-        })
-        .filter(All {
-            asked: &asked.tested,
-        })
-        .skip(2)
-        .map(Itself {
-            asked: &asked.behind,
-        });
-    listed(rt, run, &items)
+    let mapped = numbers.map(Itself {
+        asked: &asked.mapped,
+    });
+    let tested = mapped.filter(All {
+        asked: &asked.tested,
+    });
+    behind_two(rt, run, tested, &asked.behind)
+}
+
+// The numbers behind the first two.
+fn behind_two<R: Threads + Alloc<A = Global> + Sync, X: Stream<Item = i64> + Drop + Sync>(
+    rt: &R,
+    run: &Run<'_, NoGate>,
+    numbers: X,
+    asked: &AtomicU64,
+) -> Result<Vec<i64>, StreamError>
+where
+    X::Progress: Send + Sync,
+    X::Part: Send,
+    requires { X.ready numbers }
+{
+    listed(rt, run, &numbers.skip(2).map(Itself { asked }))
 }
 
 // Of five items, and of the three behind a barrier.

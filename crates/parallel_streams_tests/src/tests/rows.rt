@@ -26,7 +26,21 @@ where
     X::Part: Send,
     requires { X.ready numbers }
 {
-    reported(rt, run, &numbers.skip(1).limit(1).map(Plus(1)))
+    plus_one(rt, run, numbers.skip(1).limit(1))
+}
+
+// Each number and one.
+fn plus_one<R: Threads + Alloc<A = Global> + Sync, X: Stream<Item = i64> + Drop + Sync>(
+    rt: &R,
+    run: &Run<'_, NoGate>,
+    numbers: X,
+) -> Reported
+where
+    X::Progress: Send + Sync,
+    X::Part: Send,
+    requires { X.ready numbers }
+{
+    reported(rt, run, &numbers.map(Plus(1)))
 }
 
 /// The front of some numbers that is below 3.
