@@ -106,25 +106,7 @@ where
     C::Out: Send,
     requires { C.ready collector.now }
 {
-    gathered(rt, run, &of(SliceSplit::new(numbers)), collector)
-}
-
-/// What a collector makes of a stream.
-pub fn gathered<
-    R: Threads + Alloc<A = Global> + Sync,
-    X: Stream + Sync,
-    C: Collector<Item = X::Item> + Sync,
->(rt: &R, run: &Run<'_, NoGate>, stream: &X, collector: &C) -> Result<C::Out, StreamError>
-where
-    X::Item: Send + Sync,
-    X::Progress: Send + Sync,
-    X::Part: Send,
-    C::Acc: Send,
-    C::Out: Send,
-    requires stream { X.ready stream.now }
-    requires collector { C.ready collector.now }
-{
-    stream.collect(rt, rt.alloc(), run, collector)
+    of(SliceSplit::new(numbers)).collect(rt, rt.alloc(), run, collector)
 }
 
 /// The first items of a stream, and what each run tells of its leaves.

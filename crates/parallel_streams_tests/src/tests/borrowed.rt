@@ -10,17 +10,13 @@ use std::process::Abort;
 use std::thread::Threads;
 use stealing_pool::NoGate;
 
-fn second_and_third<R: Threads + Alloc<A = Global> + Sync, X: Stream<Item = i64> + Drop + Sync>(
+fn second_and_third<R: Threads + Alloc<A = Global> + Sync>(
     rt: &R,
     run: &Run<'_, NoGate>,
-    numbers: X,
-) -> Reported
-where
-    X::Progress: Send + Sync,
-    X::Part: Send,
-    requires { X.ready numbers }
-{
-    limited(rt, run, numbers.skip(1), 2)
+    numbers: &[i64],
+) -> Reported {
+    let below = of(SliceSplit::new(numbers)).filter(Below(10));
+    limited(rt, run, below.skip(1), 2)
 }
 
 fn count_of_words<'a, R: Threads + Alloc<A = Global> + Sync>(
@@ -38,8 +34,7 @@ pub fn rows<R: Threads + Abort + Alloc<A = Global> + Sync>(
     rt: &R,
     run: &Run<'_, NoGate>,
 ) -> Result<(), StreamError> {
-    let below = of(SliceSplit::new(&[4, 15, 8, 16, 2, 3])).filter(Below(10));
-    let pair = second_and_third(rt, run, below);
+    let pair = second_and_third(rt, run, &[4, 15, 8, 16, 2, 3]);
     // the size of the source is known, and that of its words that differ is not
     let words = count_of_words(rt, run, &["b", "a", "b", "c", "a"]);
     check_items(rt, pair, &[8, 2]).and(check(rt, words, 3))

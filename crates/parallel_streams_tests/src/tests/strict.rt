@@ -21,17 +21,17 @@ fn check_map<V: Debug + PartialEq + Drop>(
     (keys, values, repeated): (&[i64], &[V], Option<i64>),
 ) -> Result<(), StreamError> {
     let found = match answer {
-        Ok(map) => Ok(map),
+        Ok(map) => map,
         Err(MapError::DuplicateKey(key)) => {
             same(rt, Some(key), repeated);
             return Ok(());
         }
-        Err(MapError::NoMemory) => Err(StreamError::NoMemory),
-        Err(MapError::BadWorkers) => Err(StreamError::BadWorkers),
-        Err(MapError::BadTarget) => Err(StreamError::BadTarget),
+        Err(MapError::NoMemory) => return Err(StreamError::NoMemory),
+        Err(MapError::BadWorkers) => return Err(StreamError::BadWorkers),
+        Err(MapError::BadTarget) => return Err(StreamError::BadTarget),
     };
     same(rt, None, repeated);
-    check_entries(rt, found, keys, values)
+    check_entries(rt, Ok(found), keys, values)
 }
 
 // Checks the map of a stream's items by two functions.

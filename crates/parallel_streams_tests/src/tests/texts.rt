@@ -1,16 +1,14 @@
 //! Streams of texts.
 
-use super::answers::{gathered, same};
+use super::answers::same;
 use super::functions::Both;
 use super::words::Words;
 use super::{Suite, at_each_setting};
-use collectors::{Collector, GroupingBy, Joining, MappingTo, SummingLong, Teeing};
+use collectors::{GroupingBy, Joining, MappingTo, SummingLong, Teeing};
 use indexmap::IndexMap;
 use parallel_streams::{Run, Stream, StreamError, of};
 use parts::{Itself, Length};
 use sources::LinesSplit;
-use spliterator::Text;
-use stages::Mapping;
 use std::alloc::Global;
 use std::process::Abort;
 use std::thread::Threads;
@@ -29,50 +27,18 @@ static BY_LENGTH: [(&str, &[(i64, &str, i64)]); 2] = [
     ("a b\nc\na\n", &[(3, "a b", 3), (1, "c+a", 2)]),
 ];
 
-// Texts, and what stands between, before and after them.
-fn joined<R: Threads + Alloc<A = Global> + Sync, X: Stream + Drop + Sync>(
+fn joined<R: Threads + Alloc<A = Global> + Sync>(
     rt: &R,
     run: &Run<'_, NoGate>,
-    texts: X,
+    lines: &str,
     between: &str,
     before: &str,
     after: &str,
-) -> Result<String, StreamError>
-where
-    X::Item: Text + Send + Sync,
-    X::Progress: Send + Sync,
-    X::Part: Send,
-    requires { X.ready texts }
-{
-    let joining = Joining::<X::Item>::new(rt.alloc(), between, before, after);
-    gathered(rt, run, &texts, &joining)
-}
-
-// What a collector makes of the items of each key.
-fn grouped<
-    R: Threads + Alloc<A = Global> + Sync,
-    X: Stream + Drop + Sync,
-    K: Mapping<X::Item, Out = i64> + Drop + Sync,
-    D: Collector<Item = X::Item> + Drop + Sync,
->(
-    rt: &R,
-    run: &Run<'_, NoGate>,
-    items: X,
-    key: K,
-    downstream: D,
-) -> Result<IndexMap<i64, D::Out>, StreamError>
-where
-    X::Item: Send + Sync,
-    X::Progress: Send + Sync,
-    X::Part: Send,
-    D::Acc: Send,
-    D::Out: Send,
-    requires stream { X.ready items }
-    requires key { K.ready key }
-    requires downstream { D.ready downstream }
-{
-    let groups = GroupingBy::new(rt.alloc(), key, downstream);
-    gathered(rt, run, &items, &groups)
+) -> Result<String, StreamError> {
+    let alloc = rt.alloc();
+    let words = of(LinesSplit::new(lines)).flat_map(Words { alloc });
+    let text = Joining::<&str>::new(alloc, between, before, after);
+    words.collect(rt, alloc, run, &text)
 }
 
 fn by_length<R: Threads + Alloc<A = Global> + Sync>(
@@ -83,8 +49,8 @@ fn by_length<R: Threads + Alloc<A = Global> + Sync>(
     let alloc = rt.alloc();
     let texts = Joining::<&str>::new(alloc, "+", "", "");
     let sums = MappingTo::<&str, _, _>::new(Length, SummingLong::new(Itself));
-    let both = Teeing::new(texts, sums, Both);
-    grouped(rt, run, of(LinesSplit::new(lines)), Length, both)
+    let by_length = GroupingBy::new(alloc, Length, Teeing::new(texts, sums, Both));
+    of(LinesSplit::new(lines)).collect(rt, alloc, run, &by_length)
 }
 
 // Whether a map has these lengths, joined lines and sums, in this order.
@@ -105,8 +71,7 @@ pub fn rows<R: Threads + Abort + Alloc<A = Global> + Sync>(
     run: &Run<'_, NoGate>,
 ) -> Result<(), StreamError> {
     for &(lines, between, before, after, wanted) in &JOINED {
-        let words = of(LinesSplit::new(lines)).flat_map(Words { alloc: rt.alloc() });
-        let text = joined(rt, run, words, between, before, after)?;
+        let text = joined(rt, run, lines, between, before, after)?;
         same(rt, text.as_str(), wanted);
     }
     for &(lines, expected) in &BY_LENGTH {
