@@ -23,8 +23,8 @@ WANTS = ("NoMemory", "AllocError", "AllocFailed")
 
 
 def is_want_of_memory(run):
-    """Whether a failed test ended by an error of memory, and by no assertion."""
-    errors = [line for line in (run.out + run.err).decode(errors="replace").splitlines() if line.startswith("error: ")]
+    """Whether a failed test ended by an error of memory, and by no assertion: a `Fail` is told as `error: `, any other error of a test as `Error: `."""
+    errors = [line for line in (run.out + run.err).decode(errors="replace").splitlines() if line.startswith(("error: ", "Error: "))]
     return len(errors) == 1 and any(want in errors[0] for want in WANTS)
 
 

@@ -11,10 +11,10 @@ mod threads;
 
 use barriers::Need;
 use leaf_board::{Board, BoardSeat, Case, Draw, LeafBoard, LeafPass};
+use spliterator::NoMemory;
 use std::alloc::Global;
 use std::marker::Brand;
 use std::process::Abort;
-use std::test::Fail;
 
 // The next leaf, which is to be this one.
 fn leaf<C: Case, R: Abort>(
@@ -50,7 +50,7 @@ fn drained<C: Case>(board: &Board<C>, seat: &mut BoardSeat<C>) -> bool
 }
 
 // One seat holds two passes at once.
-fn two_leaves<C: Case, R: Abort>(rt: &R, alloc: Global) -> Result<(), Fail>
+fn two_leaves<C: Case, R: Abort>(rt: &R, alloc: Global) -> Result<(), NoMemory>
     requires { C.case ≡ case_of 2 (0 ∷ 0 ∷ []) None 1 }
 {
     let (board, mut seats) = Board::<C>::new(alloc, 2, Need::Never, 1)?;
@@ -69,6 +69,6 @@ fn two_leaves<C: Case, R: Abort>(rt: &R, alloc: Global) -> Result<(), Fail>
 }
 
 #[test]
-fn a_leaf_given_up_has_no_count(rt: HostRuntime) -> Result<(), Fail> {
+fn a_leaf_given_up_has_no_count(rt: HostRuntime) -> Result<(), NoMemory> {
     two_leaves::<Brand, HostRuntime>(&rt, rt.alloc())
 }

@@ -3,10 +3,9 @@ ghost use Rattle.std.specs.Prelude.{◌≤◌};
 use sources::{Concat, LinesSplit, RangeSplit};
 use split_tree::{DEPTH_LIMIT, MAX_TARGET, Plan, PlanError, Tree};
 use spliterator::{NoMemory, Spliterator};
-use std::alloc::Global;
+use std::alloc::{AllocError, Global};
 use std::fmt::Debug;
 use std::process::Abort;
-use std::test::Fail;
 
 /// The items that are left.
 fn read<S: Spliterator>(alloc: Global, mut split: S) -> Result<Vec<S::Item>, NoMemory> {
@@ -28,7 +27,7 @@ fn leaves<S: Spliterator>(alloc: Global, plan: &Plan<S>) -> Result<Vec<Vec<S::It
 }
 
 /// Whether the items of the leaves have this text.
-fn has_leaves<S: Spliterator>(alloc: Global, plan: &Plan<S>, wanted: &str) -> Result<bool, Fail>
+fn has_leaves<S: Spliterator>(alloc: Global, plan: &Plan<S>, wanted: &str) -> Result<bool, NoMemory>
 where
     S::Item: Debug,
 {
@@ -37,14 +36,65 @@ where
 }
 
 /// Whether a tree has this text.
-fn has_text(alloc: Global, tree: &Tree, wanted: &str) -> Result<bool, Fail> {
+fn has_text(alloc: Global, tree: &Tree, wanted: &str) -> Result<bool, NoMemory> {
     let text = format!(in alloc; "{tree:?}")?;
     Ok(text.as_str() == wanted)
 }
 
-fn plan(alloc: Global, end: i64, target: u64) -> Result<Plan<RangeSplit>, Fail> {
-    let split = RangeSplit::range(0, end)?;
-    Ok(Plan::make(alloc, split, 1, target)?)
+/// The integers from 0 up to an end.
+fn integers(rt: &impl Abort, end: i64) -> RangeSplit {
+    RangeSplit::range(0, end).expect(rt, "a range")
+}
+
+/// The plan of a source at a lawful target.
+fn plan_of<S: Spliterator>(
+    rt: &impl Abort,
+    alloc: Global,
+    split: S,
+    workers: u32,
+    target: u64,
+) -> Result<Plan<S>, NoMemory>
+    requires { (1 ≤ workers) × (workers ≤ 64) }
+{
+    match Plan::make(alloc, split, workers, target) {
+        Ok(plan) => Ok(plan),
+        Err(PlanError::NoMemory) => Err(NoMemory),
+        Err(PlanError::BadTarget) => panic!(rt; "the target is lawful"),
+    }
+}
+
+/// Checks the items of the leaves of a source's plan.
+fn check_leaves<S: Spliterator>(
+    rt: &impl Abort,
+    alloc: Global,
+    split: S,
+    target: u64,
+    wanted: &str,
+) -> Result<(), NoMemory>
+where
+    S::Item: Debug,
+{
+    let plan = plan_of(rt, alloc, split, 1, target)?;
+    assert!(rt; has_leaves(alloc, &plan, wanted)?, "at target {target}");
+    Ok(())
+}
+
+/// Checks the items of the leaves of a source's plan, and the tree.
+fn check_tree<S: Spliterator>(
+    rt: &impl Abort,
+    alloc: Global,
+    split: S,
+    target: u64,
+    leaves: &str,
+    tree: &str,
+) -> Result<(), NoMemory>
+where
+    S::Item: Debug,
+{
+    let plan = plan_of(rt, alloc, split, 1, target)?;
+    let has_tree = has_text(alloc, plan.tree(), tree)?;
+    assert!(rt; has_tree && has_leaves(alloc, &plan, leaves)?);
+    Ok(())
 }
 
 /// Targets, and the leaves of the integers up to 10.
@@ -59,13 +109,9 @@ static LEAVES: [(u64, &str); 4] = [
 ];
 
 #[test]
-fn a_source_is_split_to_the_target(rt: HostRuntime) -> Result<(), Fail> {
+fn a_source_is_split_to_the_target(rt: HostRuntime) -> Result<(), NoMemory> {
     for &(target, wanted) in &LEAVES {
-        let plan = plan(rt.alloc(), 10, target)?;
-        assert!(rt;
-            has_leaves(rt.alloc(), &plan, wanted)?,
-            "at target {target}"
-        );
+        check_leaves(&rt, rt.alloc(), integers(&rt, 10), target, wanted)?;
     }
     Ok(())
 }
@@ -77,31 +123,20 @@ fn check_default(
     end: i64,
     workers: u32,
     leaves: usize,
-) -> Result<(), Fail>
+) -> Result<(), NoMemory>
     requires { (1 ≤ workers) × (workers ≤ 64) }
 {
-    let plan = Plan::make(alloc, RangeSplit::range(0, end)?, workers, 0)?;
+    let plan = plan_of(rt, alloc, integers(rt, end), workers, 0)?;
     assert!(rt; plan.leaves() == leaves, "{workers} workers");
     Ok(())
 }
 
 #[test]
-fn the_default_target_is_four_leaves_a_worker(rt: HostRuntime) -> Result<(), Fail> {
-    check_default(&rt, rt.alloc(), 10, 1, 6)?;
-    check_default(&rt, rt.alloc(), 10, 7, 10)?;
-    check_default(&rt, rt.alloc(), 1024, 64, 256)
+fn the_default_target_is_four_leaves_a_worker(rt: HostRuntime) -> Result<(), NoMemory> {
+    check_default(&rt, rt.alloc(), 10, 1, 6)
+        .and(check_default(&rt, rt.alloc(), 10, 7, 10))
+        .and(check_default(&rt, rt.alloc(), 1024, 64, 256))
 }
-
-/// The end of the integers, a target, the leaves, and the tree. No integers are one leaf.
-static TREES: [(i64, u64, &str, &str); 2] = [
-    (
-        5,
-        1,
-        "[[0], [1], [2], [3], [4]]",
-        "Node(Node(Leaf(0), Leaf(1)), Node(Leaf(2), Node(Leaf(3), Leaf(4))))",
-    ),
-    (0, 0, "[[]]", "Leaf(0)"),
-];
 
 /// Whether a tree is a node whose sides have these first and last leaves.
 fn is_node_of(tree: &Tree, left: (usize, usize), right: (usize, usize)) -> bool {
@@ -113,35 +148,39 @@ fn is_node_of(tree: &Tree, left: (usize, usize), right: (usize, usize)) -> bool 
     }
 }
 
-#[test]
-fn the_tree_is_that_of_the_splits(rt: HostRuntime) -> Result<(), Fail> {
-    for &(end, target, leaves, tree) in &TREES {
-        let plan = plan(rt.alloc(), end, target)?;
-        let has_tree = has_text(rt.alloc(), plan.tree(), tree)?;
-        let is_told = end == 0 || is_node_of(plan.tree(), (0, 1), (2, 4));
-        assert!(rt;
-            has_tree && is_told && has_leaves(rt.alloc(), &plan, leaves)?,
-            "{end} integers"
-        );
-    }
+/// Checks the leaves on both sides of the tree of five integers, each a leaf.
+fn check_sides(rt: &impl Abort, alloc: Global) -> Result<(), NoMemory> {
+    let plan = plan_of(rt, alloc, integers(rt, 5), 1, 1)?;
+    assert!(rt; is_node_of(plan.tree(), (0, 1), (2, 4)));
     Ok(())
 }
 
 #[test]
-fn lines_are_split_after_line_feeds(rt: HostRuntime) -> Result<(), Fail> {
-    let plan = Plan::make(rt.alloc(), LinesSplit::new("a\nb\nc\nd\n"), 1, 1)?;
+fn the_tree_is_that_of_the_splits(rt: HostRuntime) -> Result<(), NoMemory> {
+    let leaves = "[[0], [1], [2], [3], [4]]";
+    let tree = "Node(Node(Leaf(0), Leaf(1)), Node(Leaf(2), Node(Leaf(3), Leaf(4))))";
+    check_tree(&rt, rt.alloc(), integers(&rt, 5), 1, leaves, tree).and(check_sides(&rt, rt.alloc()))
+}
+
+/// No integers are one leaf.
+#[test]
+fn nothing_is_one_leaf(rt: HostRuntime) -> Result<(), NoMemory> {
+    check_tree(&rt, rt.alloc(), integers(&rt, 0), 0, "[[]]", "Leaf(0)")
+}
+
+#[test]
+fn lines_are_split_after_line_feeds(rt: HostRuntime) -> Result<(), NoMemory> {
+    let lines = LinesSplit::new("a\nb\nc\nd\n");
     let leaves = "[[\"a\"], [\"b\"], [\"c\"], [\"d\"]]";
     let tree = "Node(Node(Node(Leaf(0), Leaf(1)), Leaf(2)), Leaf(3))";
-    assert!(rt; has_leaves(rt.alloc(), &plan, leaves)? && has_text(rt.alloc(), plan.tree(), tree)?);
-    Ok(())
+    check_tree(&rt, rt.alloc(), lines, 1, leaves, tree)
 }
 
 #[test]
-fn a_concatenation_is_split_between_its_sides(rt: HostRuntime) -> Result<(), Fail> {
-    let sides = Concat::new(RangeSplit::range(0, 2)?, RangeSplit::range(5, 6)?);
-    let plan = Plan::make(rt.alloc(), sides, 1, 1)?;
-    assert!(rt; has_leaves(rt.alloc(), &plan, "[[0], [1], [5]]")?);
-    Ok(())
+fn a_concatenation_is_split_between_its_sides(rt: HostRuntime) -> Result<(), NoMemory> {
+    let second = RangeSplit::range(5, 6).expect(&rt, "a range");
+    let sides = Concat::new(integers(&rt, 2), second);
+    check_leaves(&rt, rt.alloc(), sides, 1, "[[0], [1], [5]]")
 }
 
 /// The end of the integers, a target, the number of leaves, and how many integers the first leaf has.
@@ -152,41 +191,53 @@ static COUNTS: [(i64, u64, usize, usize); 4] = [
     (70_000, 1, 65_536, 1),
 ];
 
+/// Checks the number of leaves, and how many integers the first leaf has.
+fn check_depth(
+    rt: &impl Abort,
+    alloc: Global,
+    end: i64,
+    target: u64,
+    leaves: usize,
+    size: usize,
+) -> Result<(), NoMemory> {
+    let plan = plan_of(rt, alloc, integers(rt, end), 1, target)?;
+    let first = read(alloc, plan.leaf(0))?;
+    let is_first = first.len() == size && first.first() == Some(&0);
+    assert!(rt; plan.leaves() == leaves && is_first, "{end} integers");
+    Ok(())
+}
+
 #[test]
-fn the_depth_is_limited(rt: HostRuntime) -> Result<(), Fail> {
+fn the_depth_is_limited(rt: HostRuntime) -> Result<(), NoMemory> {
     assert!(rt; 1_usize << DEPTH_LIMIT == 65_536);
     for &(end, target, leaves, size) in &COUNTS {
-        let plan = plan(rt.alloc(), end, target)?;
-        let first = read(rt.alloc(), plan.leaf(0))?;
-        assert!(rt;
-            plan.leaves() == leaves && first.len() == size && first.first() == Some(&0),
-            "{end} integers at target {target}"
-        );
+        check_depth(&rt, rt.alloc(), end, target, leaves, size)?;
     }
     Ok(())
 }
 
 #[test]
-fn a_great_target_is_refused(rt: HostRuntime) -> Result<(), Fail> {
-    let split = RangeSplit::range(0, 10)?;
-    let refused = Plan::make(rt.alloc(), split, 1, 4_611_686_018_427_387_905);
-    let texts = format!(in rt.alloc(); "{}; {}", PlanError::BadTarget, PlanError::NoMemory)?;
+fn a_great_target_is_refused(rt: HostRuntime) {
+    let refused = Plan::make(rt.alloc(), integers(&rt, 10), 1, 4_611_686_018_427_387_905);
     let is_refused = matches!(refused, Err(PlanError::BadTarget));
     assert!(rt; is_refused && MAX_TARGET == 4_611_686_018_427_387_904);
+}
+
+#[test]
+fn errors_have_texts(rt: HostRuntime) -> Result<(), AllocError> {
+    let texts = format!(in rt.alloc(); "{}; {}", PlanError::BadTarget, PlanError::NoMemory)?;
     assert!(rt; texts.as_str() == "the target is above 2^62; out of memory");
     Ok(())
 }
 
 /// With any of its allocations refused, a plan is the same one or a want of memory.
 #[test]
-fn a_refused_plan_is_a_want_of_memory(rt: HostRuntime) -> Result<(), Fail> {
-    let split = RangeSplit::range(0, 20)?;
-    match Plan::make(rt.alloc(), split, 1, 1) {
+fn a_refused_plan_is_a_want_of_memory(rt: HostRuntime) {
+    match Plan::make(rt.alloc(), integers(&rt, 20), 1, 1) {
         Ok(plan) => {
             let ends = (plan.tree().first_leaf(), plan.tree().last_leaf());
             assert!(rt; plan.leaves() == 20 && ends == (0, 19));
         }
         Err(error) => assert!(rt; error == PlanError::NoMemory),
     }
-    Ok(())
 }

@@ -4,7 +4,6 @@ use spliterator::characteristics::{
 use spliterator::{MAX_ESTIMATE, NoMemory, OrderedValue, Text, Value};
 use std::alloc::{AllocError, Global};
 use std::cmp::Ordering;
-use std::test::Fail;
 
 #[test]
 fn characteristics_have_javas_numbers(rt: HostRuntime) {
@@ -39,7 +38,7 @@ fn texts(alloc: Global) -> Result<[String; 4], AllocError> {
 }
 
 #[test]
-fn values_are_ordered_by_their_contents(rt: HostRuntime) -> Result<(), Fail> {
+fn values_are_ordered_by_their_contents(rt: HostRuntime) -> Result<(), AllocError> {
     assert!(rt; ascends(&[i64::MIN, -1, 0, i64::MAX]) && !ascends(&[1, 1]));
     assert!(rt; ascends(&["", "a", "ab", "z", "é"]) && !ascends(&["é", "z"]));
     assert!(rt; ascends(&texts(rt.alloc())?));
@@ -47,22 +46,23 @@ fn values_are_ordered_by_their_contents(rt: HostRuntime) -> Result<(), Fail> {
 }
 
 #[test]
-fn lists_are_ordered_by_their_contents(rt: HostRuntime) -> Result<(), Fail> {
+fn lists_of_numbers_are_ordered_by_their_contents(rt: HostRuntime) -> Result<(), AllocError> {
+    let alloc = rt.alloc();
+    let first = Vec::from_array(alloc, [-1])?;
+    let second = Vec::from_array(alloc, [-1, 0])?;
+    let third = Vec::from_array(alloc, [0])?;
+    assert!(rt; ascends(&[Vec::new(alloc), first, second, third]));
+    Ok(())
+}
+
+#[test]
+fn lists_of_texts_are_ordered_by_their_contents(rt: HostRuntime) -> Result<(), AllocError> {
     let alloc = rt.alloc();
     let [empty, short, long, last] = texts(alloc)?;
-    let texts = [
-        Vec::new(alloc),
-        Vec::from_array(alloc, [empty])?,
-        Vec::from_array(alloc, [short])?,
-        Vec::from_array(alloc, [long, last])?,
-    ];
-    let numbers = [
-        Vec::new(alloc),
-        Vec::from_array(alloc, [-1])?,
-        Vec::from_array(alloc, [-1, 0])?,
-        Vec::from_array(alloc, [0])?,
-    ];
-    assert!(rt; ascends(&texts) && ascends(&numbers));
+    let first = Vec::from_array(alloc, [empty])?;
+    let second = Vec::from_array(alloc, [short])?;
+    let third = Vec::from_array(alloc, [long, last])?;
+    assert!(rt; ascends(&[Vec::new(alloc), first, second, third]));
     Ok(())
 }
 
@@ -72,7 +72,7 @@ fn length_in_bytes<T: Text>(text: &T) -> usize {
 }
 
 #[test]
-fn texts_are_their_bytes(rt: HostRuntime) -> Result<(), Fail> {
+fn texts_are_their_bytes(rt: HostRuntime) -> Result<(), AllocError> {
     let text = String::from_str(rt.alloc(), "aé\n")?;
     let empty = length_in_bytes(&String::new(rt.alloc()));
     assert!(rt; [length_in_bytes(&"aé\n"), length_in_bytes(&text), empty] == [4, 4, 0]);
@@ -80,7 +80,7 @@ fn texts_are_their_bytes(rt: HostRuntime) -> Result<(), Fail> {
 }
 
 #[test]
-fn a_want_of_memory_is_told(rt: HostRuntime) -> Result<(), Fail> {
+fn a_want_of_memory_is_told(rt: HostRuntime) -> Result<(), AllocError> {
     let text = format!(in rt.alloc(); "{}", NoMemory::from(AllocError))?;
     assert!(rt; text.as_str() == "out of memory");
     Ok(())

@@ -9,7 +9,6 @@ use spliterator::NoMemory;
 use stages::{FirstOf, Mapping, Test};
 use std::process::Abort;
 use std::sync::atomic::{AtomicU64, Ordering};
-use std::test::Fail;
 
 /// Each number as it is. It counts how often it was asked.
 #[derive(Drop)]
@@ -74,28 +73,29 @@ fn check<C: Collector<Item = i64> + Drop>(
 }
 
 #[test]
-fn functions_are_asked_once_an_item(rt: HostRuntime) -> Result<(), Fail> {
+fn functions_are_asked_once_an_item(rt: HostRuntime) -> Result<(), NoMemory> {
     let alloc = rt.alloc();
     let number = AtomicU64::new(0);
     let asked = &number;
-    check(&rt, asked, SummingLong::new(Itself { asked }), 10)?;
     let images = MappingTo::new(Itself { asked }, Counting::<i64>::new());
-    check(&rt, asked, images, 10)?;
     let passing = FilteringTo::new(All { asked }, Counting::<i64>::new());
-    check(&rt, asked, passing, 10)?;
     let parts = PartitioningBy::new(All { asked }, Counting::<i64>::new());
-    check(&rt, asked, parts, 10)?;
     let groups = GroupingBy::new(alloc, Itself { asked }, Counting::<i64>::new());
-    check(&rt, asked, groups, 10)?;
-    // of each item the key and the value
-    let map = ToMap::new(
-        alloc,
-        Itself { asked },
-        Itself { asked },
-        FirstOf::<i64>::new(),
-    );
-    check(&rt, asked, map, 20)?;
+    check(&rt, asked, SummingLong::new(Itself { asked }), 10)
+        .and(check(&rt, asked, images, 10))
+        .and(check(&rt, asked, passing, 10))
+        .and(check(&rt, asked, parts, 10))
+        .and(check(&rt, asked, groups, 10))
+}
+
+// Of each item the key and the value.
+#[test]
+fn functions_of_maps_are_asked_once_an_item(rt: HostRuntime) -> Result<(), NoMemory> {
+    let alloc = rt.alloc();
+    let number = AtomicU64::new(0);
+    let asked = &number;
+    let (key, value) = (Itself { asked }, Itself { asked });
+    let map = ToMap::new(alloc, key, value, FirstOf::<i64>::new());
     let strict = ToMapStrict::<i64, _, _>::new(alloc, Itself { asked }, Itself { asked });
-    check(&rt, asked, strict, 20)?;
-    Ok(())
+    check(&rt, asked, map, 20).and(check(&rt, asked, strict, 20))
 }

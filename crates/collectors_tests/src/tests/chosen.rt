@@ -1,11 +1,11 @@
 //! A collector that is chosen at run time.
 use super::cuts::check;
-use collectors::{Collector, Counting, GroupingBy, SummingLong, ToList};
+use super::parted::check_groups;
+use collectors::{Collector, Counting, SummingLong, ToList};
 use either::{Either, Left, Right};
 use parts::{Itself, Modulo};
 use spliterator::NoMemory;
 use std::alloc::Global;
-use std::test::Fail;
 
 // One of three collectors, by its number.
 type Chosen = Either<Counting<i64>, Either<SummingLong<i64, Itself>, ToList<i64>>>;
@@ -28,13 +28,12 @@ static CHOSEN: [(u8, &[(&[i64], &str)]); 3] = [
 static GROUPED: [(&[i64], &str); 1] = [(&[5, 2, 7, 4, 5], "{1=17, 0=6}")];
 
 #[test]
-fn collects_on_the_chosen_side(rt: HostRuntime) -> Result<(), Fail> {
+fn collects_on_the_chosen_side(rt: HostRuntime) -> Result<(), NoMemory> {
     let alloc = rt.alloc();
     for &(number, rows) in &CHOSEN {
         check(&rt, alloc, choose(alloc, number), rows)?;
     }
-    let groups = GroupingBy::new(alloc, Modulo::by(2), choose(alloc, 1));
-    check(&rt, alloc, groups, &GROUPED)
+    check_groups(&rt, alloc, Modulo::by(2), choose(alloc, 1), &GROUPED)
 }
 
 /// What a collector makes of a container that has an item and an empty container taken in.
@@ -50,7 +49,7 @@ fn finished<C: Collector<Item = i64>>(
 }
 
 #[test]
-fn a_container_of_the_other_side_takes_nothing_in(rt: HostRuntime) -> Result<(), Fail> {
+fn a_container_of_the_other_side_takes_nothing_in(rt: HostRuntime) -> Result<(), NoMemory> {
     let alloc = rt.alloc();
     let foreign = choose(alloc, 2).supply()?;
     let result = finished(&choose(alloc, 0), foreign)?;

@@ -4,7 +4,6 @@ use collectors::{Collector, collect, combine_containers, finish_container, fold_
 use spliterator::NoMemory;
 use std::alloc::Global;
 use std::process::Abort;
-use std::test::Fail;
 
 /// Takes a further part of the list into the container of what comes before it.
 fn add_part<C: Collector>(
@@ -107,7 +106,7 @@ pub fn check<C: Collector + Drop>(
     alloc: Global,
     collector: C,
     rows: &[(&[C::Item], &str)],
-) -> Result<(), Fail>
+) -> Result<(), NoMemory>
 where
     C::Out: Shown,
     requires { C.ready collector }

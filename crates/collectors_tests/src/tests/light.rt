@@ -7,8 +7,8 @@ use collectors::{
 use parts::{Above, Itself, Modulo};
 use spliterator::NoMemory;
 use stages::{FirstOf, WrapAdd};
+use std::alloc::Global;
 use std::process::Abort;
-use std::test::Fail;
 
 /// Whether a container of the first `count` numbers is light.
 fn is_light<C: Collector<Item = i64>>(collector: &C, count: i64) -> Result<bool, NoMemory>
@@ -45,45 +45,69 @@ fn check<C: Collector<Item = i64> + Drop>(
     Ok(())
 }
 
-#[test]
-fn numbers_are_light_and_lists_and_maps_up_to_64_entries(rt: HostRuntime) -> Result<(), Fail> {
-    let alloc = rt.alloc();
-    check(&rt, Counting::<i64>::new(), &ALWAYS)?;
-    check(&rt, SummingLong::new(Itself), &ALWAYS)?;
-    check(&rt, Reducing::<i64, _>::new(WrapAdd::new()), &ALWAYS)?;
-    check(&rt, ToList::<i64>::new(alloc), &UP_TO_64)?;
-    let first = ToMap::new(alloc, Itself, Itself, FirstOf::<i64>::new());
-    check(&rt, first, &UP_TO_64)?;
-    let strict = ToMapStrict::<i64, _, _>::new(alloc, Itself, Itself);
-    check(&rt, strict, &UP_TO_64)?;
-    Ok(())
+/// Checks groups by a remainder.
+fn check_groups<D: Collector<Item = i64> + Drop>(
+    rt: &impl Abort,
+    alloc: Global,
+    key: Modulo,
+    downstream: D,
+    rows: &[(i64, bool)],
+) -> Result<(), NoMemory>
+    requires { D.ready downstream }
+{
+    check(rt, GroupingBy::new(alloc, key, downstream), rows)
+}
+
+/// Checks two at once.
+fn check_pair<A: Collector<Item = i64> + Drop, B: Collector<Item = i64> + Drop>(
+    rt: &impl Abort,
+    first: A,
+    second: B,
+    rows: &[(i64, bool)],
+) -> Result<(), NoMemory>
+    requires first { A.ready first }
+    requires second { B.ready second }
+{
+    check(rt, Teeing::new(first, second, Pair), rows)
 }
 
 #[test]
-fn groups_are_light_up_to_64_and_where_all_inner_ones_are(rt: HostRuntime) -> Result<(), Fail> {
+fn numbers_are_light_and_lists_and_maps_up_to_64_entries(rt: HostRuntime) -> Result<(), NoMemory> {
+    let alloc = rt.alloc();
+    let sum = Reducing::<i64, _>::new(WrapAdd::new());
+    let first = ToMap::new(alloc, Itself, Itself, FirstOf::<i64>::new());
+    let strict = ToMapStrict::<i64, _, _>::new(alloc, Itself, Itself);
+    check(&rt, Counting::<i64>::new(), &ALWAYS)
+        .and(check(&rt, SummingLong::new(Itself), &ALWAYS))
+        .and(check(&rt, sum, &ALWAYS))
+        .and(check(&rt, ToList::<i64>::new(alloc), &UP_TO_64))
+        .and(check(&rt, first, &UP_TO_64))
+        .and(check(&rt, strict, &UP_TO_64))
+}
+
+#[test]
+fn groups_are_light_up_to_64_and_where_all_inner_ones_are(rt: HostRuntime) -> Result<(), NoMemory> {
     let alloc = rt.alloc();
     for &(number, rows) in &BY_KEYS {
         assert!(rt; number > 0);
-        let counts = GroupingBy::new(alloc, Modulo::by(number), Counting::<i64>::new());
-        check(&rt, counts, rows)?;
+        check_groups(&rt, alloc, Modulo::by(number), Counting::new(), rows)?;
     }
     // one group has all items
-    let lists = GroupingBy::new(alloc, Modulo::by(1), ToList::<i64>::new(alloc));
-    check(&rt, lists, &UP_TO_64)?;
-    Ok(())
+    check_groups(&rt, alloc, Modulo::by(1), ToList::new(alloc), &UP_TO_64)
 }
 
 #[test]
-fn parts_and_pairs_are_light_where_both_are(rt: HostRuntime) -> Result<(), Fail> {
+fn parts_and_pairs_are_light_where_both_are(rt: HostRuntime) -> Result<(), NoMemory> {
     let alloc = rt.alloc();
     // one side has all items: the numbers above -1, or those above 1,000
     for limit in [-1, 1000] {
         let parts = PartitioningBy::new(Above(limit), ToList::<i64>::new(alloc));
         check(&rt, parts, &UP_TO_64)?;
     }
-    let pair = Teeing::new(Counting::<i64>::new(), ToList::<i64>::new(alloc), Pair);
-    check(&rt, pair, &UP_TO_64)?;
-    let pair = Teeing::new(ToList::<i64>::new(alloc), Counting::<i64>::new(), Pair);
-    check(&rt, pair, &UP_TO_64)?;
-    Ok(())
+    check_pair(&rt, Counting::new(), ToList::new(alloc), &UP_TO_64).and(check_pair(
+        &rt,
+        ToList::new(alloc),
+        Counting::new(),
+        &UP_TO_64,
+    ))
 }

@@ -7,6 +7,7 @@ mod functions;
 mod joined;
 mod light;
 mod nested;
+mod parted;
 mod plain;
 mod shown;
 mod strict;

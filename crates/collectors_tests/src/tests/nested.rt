@@ -7,26 +7,30 @@ ghost use Rattle.collectors.specs.Sums.{add_number, sum_laws};
 
 use super::cuts::check;
 use super::functions::Pair;
+use super::parted::{check_groups, check_groups_of_groups, check_parts};
 use collectors::{
     CollectorDefinition, CollectorOf, Counting, FilteringTo, GroupingBy, Joining, MappingTo,
     PartitioningBy, SummingLong, Teeing, ToList,
 };
 use parts::{Above, Itself, Length, Modulo, Times};
 use spliterator::NoMemory;
-use std::test::Fail;
 
 static SUM_AND_COUNT: [(&[i64], &str); 1] = [(&[1, 2, 3, 4], "(10, 4)")];
 
 static GROUPED_TOTALS: [(&[i64], &str); 1] = [(&[5, 2, 7, 4, 5], "{1=(3, 17), 0=(2, 6)}")];
 
 #[test]
-fn teeing_feeds_both(rt: HostRuntime) -> Result<(), Fail> {
+fn teeing_feeds_both(rt: HostRuntime) -> Result<(), NoMemory> {
     let alloc = rt.alloc();
     let totals = Teeing::new(SummingLong::new(Itself), Counting::<i64>::new(), Pair);
-    check(&rt, alloc, totals, &SUM_AND_COUNT)?;
-    let totals = Teeing::new(Counting::<i64>::new(), SummingLong::new(Itself), Pair);
-    let groups = GroupingBy::new(alloc, Modulo::by(2), totals);
-    check(&rt, alloc, groups, &GROUPED_TOTALS)
+    let by_two = Teeing::new(Counting::<i64>::new(), SummingLong::new(Itself), Pair);
+    check(&rt, alloc, totals, &SUM_AND_COUNT).and(check_groups(
+        &rt,
+        alloc,
+        Modulo::by(2),
+        by_two,
+        &GROUPED_TOTALS,
+    ))
 }
 
 static PARTS_OF_GROUPS: [(&[i64], &str); 1] = [(
@@ -35,11 +39,10 @@ static PARTS_OF_GROUPS: [(&[i64], &str); 1] = [(
 )];
 
 #[test]
-fn parts_of_groups(rt: HostRuntime) -> Result<(), Fail> {
+fn parts_of_groups(rt: HostRuntime) -> Result<(), NoMemory> {
     let alloc = rt.alloc();
     let groups = GroupingBy::new(alloc, Modulo::by(2), ToList::<i64>::new(alloc));
-    let parts = PartitioningBy::new(Above(3), groups);
-    check(&rt, alloc, parts, &PARTS_OF_GROUPS)
+    check_parts(&rt, alloc, 3, groups, &PARTS_OF_GROUPS)
 }
 
 static GROUPS_OF_PARTS: [(&[i64], &str); 1] = [(
@@ -48,12 +51,11 @@ static GROUPS_OF_PARTS: [(&[i64], &str); 1] = [(
 )];
 
 #[test]
-fn groups_of_parts(rt: HostRuntime) -> Result<(), Fail> {
+fn groups_of_parts(rt: HostRuntime) -> Result<(), NoMemory> {
     let alloc = rt.alloc();
     let tens = MappingTo::<i64, _, _>::new(Times(10), ToList::<i64>::new(alloc));
     let parts = PartitioningBy::new(Above(3), tens);
-    let groups = GroupingBy::new(alloc, Modulo::by(2), parts);
-    check(&rt, alloc, groups, &GROUPS_OF_PARTS)
+    check_groups(&rt, alloc, Modulo::by(2), parts, &GROUPS_OF_PARTS)
 }
 
 static TEXTS: [(&[&str], &str); 1] = [(&["bb", "a", "cc", "bb"], "{2={bb=bb+bb, cc=cc}, 1={a=a}}")];
@@ -61,15 +63,14 @@ static TEXTS: [(&[&str], &str); 1] = [(&["bb", "a", "cc", "bb"], "{2={bb=bb+bb, 
 static NUMBERS: [(&[i64], &str); 1] = [(&[1, 101, 2, 200], "{1={1=[], 5=[101]}, 0={2=[200]}}")];
 
 #[test]
-fn groups_of_groups(rt: HostRuntime) -> Result<(), Fail> {
+fn groups_of_groups(rt: HostRuntime) -> Result<(), NoMemory> {
     let alloc = rt.alloc();
     let joined = Joining::<&str>::new(alloc, "+", "", "");
-    let by_length = GroupingBy::new(alloc, Length, GroupingBy::new(alloc, Itself, joined));
-    check(&rt, alloc, by_length, &TEXTS)?;
     let large = FilteringTo::new(Above(100), ToList::<i64>::new(alloc));
-    let by_six = GroupingBy::new(alloc, Modulo::by(6), large);
-    let by_two = GroupingBy::new(alloc, Modulo::by(2), by_six);
-    check(&rt, alloc, by_two, &NUMBERS)
+    let (by_two, by_six) = (Modulo::by(2), Modulo::by(6));
+    check_groups_of_groups(&rt, alloc, Length, Itself, joined, &TEXTS).and(check_groups_of_groups(
+        &rt, alloc, by_two, by_six, large, &NUMBERS,
+    ))
 }
 
 // The number of items and their sum.
@@ -100,7 +101,7 @@ fn plus(a: i64, b: i64) -> i64
 static CLOSURES: [(&[i64], &str); 1] = [(&[5, -2, 9], "(3, 12)")];
 
 #[test]
-fn by_closures(rt: HostRuntime) -> Result<(), Fail> {
+fn by_closures(rt: HostRuntime) -> Result<(), NoMemory> {
     let collector: CollectorOf<i64, _, _, _, _, _, _, CountAndSum> = CollectorOf::new(
         || -> Result<(i64, i64), NoMemory> { Ok((0, 0)) },
         |acc: &mut (i64, i64), x: &i64| -> Result<(), NoMemory> {

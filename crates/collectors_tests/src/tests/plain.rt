@@ -1,10 +1,11 @@
 //! Collectors over numbers.
 use super::cuts::check;
+use super::parted::{check_groups, check_map, check_parts, check_reduced};
 use collectors::{
-    Counting, FilteringTo, First, GroupingBy, MappingTo, PartitioningBy, Reducing, SummingLong,
-    ToList, ToMap,
+    Counting, FilteringTo, First, GroupingBy, MappingTo, Reducing, SummingLong, ToList, ToMap,
 };
 use parts::{Above, Below, Itself, Modulo, Times};
+use spliterator::NoMemory;
 use stages::{FirstOf, LastOf, Max, Min, WrapAdd, WrapMul};
 use std::hash::RandomState;
 use std::test::Fail;
@@ -18,10 +19,14 @@ static SUMS: [(&[i64], &str); 2] = [
 ];
 
 #[test]
-fn counts_and_sums(rt: HostRuntime) -> Result<(), Fail> {
+fn counts_and_sums(rt: HostRuntime) -> Result<(), NoMemory> {
     let alloc = rt.alloc();
-    check(&rt, alloc, Counting::<i64>::new(), &COUNTS)?;
-    check(&rt, alloc, SummingLong::new(Itself), &SUMS)
+    check(&rt, alloc, Counting::<i64>::new(), &COUNTS).and(check(
+        &rt,
+        alloc,
+        SummingLong::new(Itself),
+        &SUMS,
+    ))
 }
 
 static LISTS: [(&[i64], &str); 1] = [(&[3, 1, 2], "[3, 1, 2]")];
@@ -31,12 +36,12 @@ static NONE: [(&[i64], &str); 1] = [(&[], "Optional.empty")];
 static FIRST_TENS: [(&[i64], &str); 1] = [(&[4, 5], "Optional[40]")];
 
 #[test]
-fn lists_and_first_items(rt: HostRuntime) -> Result<(), Fail> {
+fn lists_and_first_items(rt: HostRuntime) -> Result<(), NoMemory> {
     let alloc = rt.alloc();
-    check(&rt, alloc, ToList::<i64>::new(alloc), &LISTS)?;
-    check(&rt, alloc, First::<i64>::new(), &NONE)?;
     let tens = MappingTo::<i64, _, _>::new(Times(10), First::<i64>::new());
-    check(&rt, alloc, tens, &FIRST_TENS)
+    check(&rt, alloc, ToList::<i64>::new(alloc), &LISTS)
+        .and(check(&rt, alloc, First::<i64>::new(), &NONE))
+        .and(check(&rt, alloc, tens, &FIRST_TENS))
 }
 
 static LEAST: [(&[i64], &str); 1] = [(&[2, 5, 3], "Optional[2]")];
@@ -47,19 +52,13 @@ static GREATEST: [(&[i64], &str); 2] = [(&[], "Optional.empty"), (&[2, 5, 3], "O
 static LAST_BELOW_TEN: [(&[i64], &str); 1] = [(&[4, 9, 50, 60], "Optional[9]")];
 
 #[test]
-fn least_greatest_and_last(rt: HostRuntime) -> Result<(), Fail> {
+fn least_greatest_and_last(rt: HostRuntime) -> Result<(), NoMemory> {
     let alloc = rt.alloc();
-    let least = Reducing::<i64, _>::new(Min::<i64>::new());
-    check(&rt, alloc, least, &LEAST)?;
-    let greatest = Reducing::<i64, _>::new(Max::<i64>::new());
-    check(&rt, alloc, greatest, &GREATEST)?;
     let last = Reducing::<i64, _>::new(LastOf::<i64>::new());
-    check(
-        &rt,
-        alloc,
-        FilteringTo::new(Below(10), last),
-        &LAST_BELOW_TEN,
-    )
+    let below_ten = FilteringTo::new(Below(10), last);
+    check_reduced(&rt, alloc, Min::<i64>::new(), &LEAST)
+        .and(check_reduced(&rt, alloc, Max::<i64>::new(), &GREATEST))
+        .and(check(&rt, alloc, below_ten, &LAST_BELOW_TEN))
 }
 
 static PRODUCTS: [(&[i64], &str); 2] = [(&[], "Optional.empty"), (&[2, 5, 3], "Optional[30]")];
@@ -70,16 +69,22 @@ static WRAPPED_SUMS: [(&[i64], &str); 1] = [(
 )];
 
 #[test]
-fn products_and_sums(rt: HostRuntime) -> Result<(), Fail> {
+fn products_and_sums(rt: HostRuntime) -> Result<(), NoMemory> {
     let alloc = rt.alloc();
-    let product = Reducing::<i64, _>::new(WrapMul::new());
-    check(&rt, alloc, product, &PRODUCTS)?;
-    let sum = Reducing::<i64, _>::new(WrapAdd::new());
-    check(&rt, alloc, sum, &WRAPPED_SUMS)?;
-    // of no items, none is a hit and none is a miss
+    check_reduced(&rt, alloc, WrapMul::new(), &PRODUCTS).and(check_reduced(
+        &rt,
+        alloc,
+        WrapAdd::new(),
+        &WRAPPED_SUMS,
+    ))
+}
+
+// Of no items, none is a hit and none is a miss.
+#[test]
+fn no_items_have_no_hit(rt: HostRuntime) -> Result<(), NoMemory> {
     for limit in [0, -1] {
         let hit = FilteringTo::new(Above(limit), First::<i64>::new());
-        check(&rt, alloc, hit, &NONE)?;
+        check(&rt, rt.alloc(), hit, &NONE)?;
     }
     Ok(())
 }
@@ -91,10 +96,9 @@ static PARTS: [(&[i64], &str); 3] = [
 ];
 
 #[test]
-fn partitions_have_both_sides(rt: HostRuntime) -> Result<(), Fail> {
+fn partitions_have_both_sides(rt: HostRuntime) -> Result<(), NoMemory> {
     let alloc = rt.alloc();
-    let parts = PartitioningBy::new(Above(3), ToList::<i64>::new(alloc));
-    check(&rt, alloc, parts, &PARTS)
+    check_parts(&rt, alloc, 3, ToList::<i64>::new(alloc), &PARTS)
 }
 
 static GROUPS: [(&[i64], &str); 2] = [(&[5, 2, 7, 4, 5], "{1=3, 0=2}"), (&[], "{}")];
@@ -103,13 +107,17 @@ static GROUPS: [(&[i64], &str); 2] = [(&[5, 2, 7, 4, 5], "{1=3, 0=2}"), (&[], "{
 static FILTERED: [(&[i64], &str); 1] = [(&[1, 2], "{1=0, 0=0}")];
 
 #[test]
-fn groups_stand_by_their_first_item(rt: HostRuntime) -> Result<(), Fail> {
+fn groups_stand_by_their_first_item(rt: HostRuntime) -> Result<(), NoMemory> {
     let alloc = rt.alloc();
-    let counts = GroupingBy::new(alloc, Modulo::by(2), Counting::<i64>::new());
-    check(&rt, alloc, counts, &GROUPS)?;
+    let counts = Counting::<i64>::new();
     let large = FilteringTo::new(Above(100), Counting::<i64>::new());
-    let groups = GroupingBy::new(alloc, Modulo::by(2), large);
-    check(&rt, alloc, groups, &FILTERED)
+    check_groups(&rt, alloc, Modulo::by(2), counts, &GROUPS).and(check_groups(
+        &rt,
+        alloc,
+        Modulo::by(2),
+        large,
+        &FILTERED,
+    ))
 }
 
 /// Keys that repeat, sorted and shuffled.
@@ -123,10 +131,15 @@ static BY_KEYS: [(&[i64], &str); 3] = [
 ];
 
 #[test]
-fn groups_of_repeated_sorted_and_shuffled_keys(rt: HostRuntime) -> Result<(), Fail> {
+fn groups_of_repeated_sorted_and_shuffled_keys(rt: HostRuntime) -> Result<(), NoMemory> {
     let alloc = rt.alloc();
-    let lists = GroupingBy::new(alloc, Modulo::by(3), ToList::<i64>::new(alloc));
-    check(&rt, alloc, lists, &BY_KEYS)
+    check_groups(
+        &rt,
+        alloc,
+        Modulo::by(3),
+        ToList::<i64>::new(alloc),
+        &BY_KEYS,
+    )
 }
 
 static COUNTS_BY_HASHES: [(&[i64], &str); 1] = [(&[5, 2, 7, 4, 5], "{1=3, 0=2}")];
@@ -140,16 +153,21 @@ fn groups_by_random_hashes(rt: HostRuntime) -> Result<(), Fail> {
     let alloc = rt.alloc();
     let hashes = RandomState::new(&rt)?;
     let counts = GroupingBy::with_hasher(alloc, Modulo::by(2), Counting::<i64>::new(), hashes);
-    check(&rt, alloc, counts, &COUNTS_BY_HASHES)?;
     let last = ToMap::with_hasher(alloc, Modulo::by(2), Itself, LastOf::<i64>::new(), hashes);
-    check(&rt, alloc, last, &LAST)
+    check(&rt, alloc, counts, &COUNTS_BY_HASHES).and(check(&rt, alloc, last, &LAST))?;
+    Ok(())
 }
 
 #[test]
-fn maps_merge_from_left_to_right(rt: HostRuntime) -> Result<(), Fail> {
+fn maps_merge_from_left_to_right(rt: HostRuntime) -> Result<(), NoMemory> {
     let alloc = rt.alloc();
-    let last = ToMap::<i64, _, _, _, _>::new(alloc, Modulo::by(2), Itself, LastOf::<i64>::new());
-    check(&rt, alloc, last, &LAST)?;
-    let first = ToMap::<i64, _, _, _, _>::new(alloc, Modulo::by(2), Itself, FirstOf::<i64>::new());
-    check(&rt, alloc, first, &FIRST)
+    let (last, first) = (LastOf::<i64>::new(), FirstOf::<i64>::new());
+    check_map(&rt, alloc, Modulo::by(2), Itself, last, &LAST).and(check_map(
+        &rt,
+        alloc,
+        Modulo::by(2),
+        Itself,
+        first,
+        &FIRST,
+    ))
 }

@@ -1,7 +1,10 @@
 //! Strict maps: the key of the earliest item whose key came before.
 use super::cuts::check;
-use collectors::{DuplicateKey, GroupingBy, ToMapStrict};
+use super::parted::{check_groups, check_strict};
+use collectors::{DuplicateKey, ToMapStrict};
 use parts::{Itself, Length, Modulo, Times};
+use spliterator::NoMemory;
+use std::alloc::AllocError;
 use std::hash::RandomState;
 use std::test::Fail;
 
@@ -22,12 +25,11 @@ static NUMBERS: [(i64, i64, &[(&[i64], &str)]); 3] = [
 ];
 
 #[test]
-fn strict_maps_of_numbers(rt: HostRuntime) -> Result<(), Fail> {
+fn strict_maps_of_numbers(rt: HostRuntime) -> Result<(), NoMemory> {
     let alloc = rt.alloc();
     for &(number, factor, rows) in &NUMBERS {
         assert!(rt; number > 0);
-        let strict = ToMapStrict::<i64, _, _>::new(alloc, Modulo::by(number), Times(factor));
-        check(&rt, alloc, strict, rows)?;
+        check_strict(&rt, alloc, Modulo::by(number), Times(factor), rows)?;
     }
     Ok(())
 }
@@ -42,25 +44,23 @@ static LENGTHS: [(&[&str], &str); 1] = [(&["ab", "c", "ab"], "duplicate key ab")
 #[test]
 fn strict_maps_of_texts(rt: HostRuntime) -> Result<(), Fail> {
     let alloc = rt.alloc();
-    let by_length = ToMapStrict::<&str, _, _>::new(alloc, Length, Itself);
-    check(&rt, alloc, by_length, &BY_LENGTH)?;
     let hashes = RandomState::new(&rt)?;
     let lengths = ToMapStrict::<&str, _, _, _>::with_hasher(alloc, Itself, Length, hashes);
-    check(&rt, alloc, lengths, &LENGTHS)
+    check_strict(&rt, alloc, Length, Itself, &BY_LENGTH).and(check(&rt, alloc, lengths, &LENGTHS))?;
+    Ok(())
 }
 
 static GROUPS: [(&[i64], &str); 1] = [(&[1, 2, 13, 12, 22], "{1={1=1, 3=13}, 0=duplicate key 2}")];
 
 #[test]
-fn strict_maps_of_groups(rt: HostRuntime) -> Result<(), Fail> {
+fn strict_maps_of_groups(rt: HostRuntime) -> Result<(), NoMemory> {
     let alloc = rt.alloc();
     let strict = ToMapStrict::<i64, _, _>::new(alloc, Modulo::by(10), Itself);
-    let groups = GroupingBy::new(alloc, Modulo::by(2), strict);
-    check(&rt, alloc, groups, &GROUPS)
+    check_groups(&rt, alloc, Modulo::by(2), strict, &GROUPS)
 }
 
 #[test]
-fn a_duplicate_key_has_a_text(rt: HostRuntime) -> Result<(), Fail> {
+fn a_duplicate_key_has_a_text(rt: HostRuntime) -> Result<(), AllocError> {
     let text = format!(in rt.alloc(); "{}", DuplicateKey { key: 3 })?;
     assert!(rt; text.as_str() == "duplicate key 3");
     Ok(())

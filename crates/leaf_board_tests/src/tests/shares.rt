@@ -6,10 +6,10 @@ ghost use Rattle.leaf_board.specs.Boards.{case_of};
 use super::{drained, leaf};
 use barriers::Need;
 use leaf_board::{Board, BoardSeat, Case, LeafBoard};
+use spliterator::NoMemory;
 use std::alloc::Global;
 use std::marker::Brand;
 use std::process::Abort;
-use std::test::Fail;
 
 // The seat gets these leaves, in order.
 fn gets<C: Case, R: Abort>(
@@ -39,7 +39,7 @@ fn own_shares<C: Case, R: Abort>(
     leaves: usize,
     seats: usize,
     starts: &[usize],
-) -> Result<(), Fail>
+) -> Result<(), NoMemory>
     requires { (C.case ≡ case_of leaves [] None seats) × (0 < leaves) × (leaves ≤ 65536) × (0 < seats) × (seats ≤ 64) }
 {
     let (board, mut all) = Board::<C>::new(alloc, leaves, Need::Never, seats)?;
@@ -61,17 +61,17 @@ fn own_shares<C: Case, R: Abort>(
 }
 
 #[test]
-fn ten_leaves_in_four_shares(rt: HostRuntime) -> Result<(), Fail> {
+fn ten_leaves_in_four_shares(rt: HostRuntime) -> Result<(), NoMemory> {
     own_shares::<Brand, HostRuntime>(&rt, rt.alloc(), 10, 4, &[0, 2, 5, 7, 10])
 }
 
 #[test]
-fn two_leaves_in_seven_shares(rt: HostRuntime) -> Result<(), Fail> {
+fn two_leaves_in_seven_shares(rt: HostRuntime) -> Result<(), NoMemory> {
     own_shares::<Brand, HostRuntime>(&rt, rt.alloc(), 2, 7, &[0, 0, 0, 0, 1, 1, 1, 2])
 }
 
 #[test]
-fn the_largest_board_in_shares_of_1024(rt: HostRuntime) -> Result<(), Fail> {
+fn the_largest_board_in_shares_of_1024(rt: HostRuntime) -> Result<(), NoMemory> {
     let alloc = rt.alloc();
     let mut starts = Vec::new(alloc);
     for share in 0..65 {
@@ -88,7 +88,7 @@ fn alone<C: Case, R: Abort>(
     seats: usize,
     number: usize,
     expected: &[usize],
-) -> Result<(), Fail>
+) -> Result<(), NoMemory>
     requires { (C.case ≡ case_of leaves [] None seats) × (0 < leaves) × (leaves ≤ 65536) × (number < seats) × (seats ≤ 64) }
 {
     let (board, mut seats) = Board::<C>::new(alloc, leaves, Need::Never, seats)?;
@@ -102,9 +102,10 @@ fn alone<C: Case, R: Abort>(
 }
 
 #[test]
-fn a_seat_alone_gets_all_leaves(rt: HostRuntime) -> Result<(), Fail> {
-    alone::<Brand, HostRuntime>(&rt, rt.alloc(), 10, 4, 0, &[0, 1, 2, 3, 4, 5, 6, 7, 8, 9])?;
-    alone::<Brand, HostRuntime>(&rt, rt.alloc(), 10, 4, 2, &[5, 6, 7, 8, 9, 0, 1, 2, 3, 4])?;
-    alone::<Brand, HostRuntime>(&rt, rt.alloc(), 2, 7, 3, &[0, 1])?;
-    alone::<Brand, HostRuntime>(&rt, rt.alloc(), 2, 7, 6, &[1, 0])
+fn a_seat_alone_gets_all_leaves(rt: HostRuntime) -> Result<(), NoMemory> {
+    let (alloc, last_first) = (rt.alloc(), [5, 6, 7, 8, 9, 0, 1, 2, 3, 4]);
+    alone::<Brand, HostRuntime>(&rt, alloc, 10, 4, 0, &[0, 1, 2, 3, 4, 5, 6, 7, 8, 9])
+        .and(alone::<Brand, HostRuntime>(&rt, alloc, 10, 4, 2, &last_first))
+        .and(alone::<Brand, HostRuntime>(&rt, alloc, 2, 7, 3, &[0, 1]))
+        .and(alone::<Brand, HostRuntime>(&rt, alloc, 2, 7, 6, &[1, 0]))
 }

@@ -11,11 +11,11 @@ ghost use Rattle.leaf_board.specs.Boards.{case_of, Holds, AllHold};
 use super::plain::{Plain, Setting};
 use barriers::Need;
 use leaf_board::{Board, BoardSeat, Case, Draw, LeafBoard, LeafPass, Record};
+use spliterator::NoMemory;
 use std::alloc::{AllocError, Global};
 use std::marker::Brand;
 use std::mem;
 use std::process::Abort;
-use std::test::Fail;
 
 // Marsaglia's xorshift generator of 64 bits.
 #[derive(Drop)]
@@ -240,7 +240,7 @@ fn simulate<C: Case, R: Abort>(
     alloc: Global,
     setting: &Setting,
     steps: &[Step],
-) -> Result<Plain, Fail>
+) -> Result<Plain, NoMemory>
     requires case { C.case ≡ case_of setting.now.leaves setting.now.full.items (need_of setting.now.need) setting.now.seats }
     requires need { IsBelow (need_of setting.now.need) (2 ^ 63) }
 {
@@ -302,7 +302,7 @@ fn any_step(dice: &mut Dice, setting: &Setting) -> Step {
 }
 
 #[test]
-fn random_orders_answer_as_the_plain_rule(rt: HostRuntime) -> Result<(), Fail> {
+fn random_orders_answer_as_the_plain_rule(rt: HostRuntime) -> Result<(), NoMemory> {
     let mut dice = Dice {
         state: 88_172_645_463_325_252,
     };
@@ -319,7 +319,7 @@ fn random_orders_answer_as_the_plain_rule(rt: HostRuntime) -> Result<(), Fail> {
         }
     }
     // Both kinds of run are common.
-    assert!(rt; cuts > 20_000 && cuts < 90_000, "{cuts} runs were cut");
+    assert!(rt; cuts > 20_000 && cuts < 90_000);
     Ok(())
 }
 
@@ -351,12 +351,12 @@ fn play<R: Abort>(
     setting: &Setting,
     steps: &[Step],
     counts: &[Option<u64>],
-) -> Result<(), Fail>
+) -> Result<(), NoMemory>
     requires { IsBelow (need_of setting.now.need) (2 ^ 63) }
 {
     let plain = simulate::<Brand, R>(rt, alloc, setting, steps)?;
     for (leaf, count) in counts.iter().enumerate() {
-        assert!(rt; plain.count(leaf) == *count, "leaf {leaf}");
+        assert!(rt; plain.count(leaf) == *count);
     }
     Ok(())
 }
@@ -365,7 +365,7 @@ fn play<R: Abort>(
 type Play<'a> = (&'a [u64], u8, usize, &'a [Step], &'a [Option<u64>]);
 
 // Leaves right of the cut are skipped.
-const SKIPPED: Play<'_> = (
+static SKIPPED: Play<'_> = (
     &[2, 1, 5, 0],
     3,
     1,
@@ -387,7 +387,7 @@ const SKIPPED: Play<'_> = (
 );
 
 // A gap is no bar to a cut: one is sought though leaves left of it are not finished.
-const PAST_A_GAP: Play<'_> = (
+static PAST_A_GAP: Play<'_> = (
     &[2, 1, 5, 0],
     3,
     4,
@@ -409,7 +409,7 @@ const PAST_A_GAP: Play<'_> = (
 );
 
 // What was published right of the leaf adds nothing to a settle up to that leaf, whichever seat settles.
-const UP_TO_ITS_OWN: Play<'_> = (
+static UP_TO_ITS_OWN: Play<'_> = (
     &[2, 1, 5, 0],
     3,
     4,
@@ -426,7 +426,7 @@ const UP_TO_ITS_OWN: Play<'_> = (
 );
 
 // No items are enough where none are needed.
-const NONE_NEEDED: Play<'_> = (
+static NONE_NEEDED: Play<'_> = (
     &[5, 5],
     0,
     1,
@@ -442,7 +442,7 @@ const NONE_NEEDED: Play<'_> = (
 );
 
 // The second seat's settle sees what the first published.
-const OF_OTHER_SEATS: Play<'_> = (
+static OF_OTHER_SEATS: Play<'_> = (
     &[1, 1, 1],
     2,
     2,
@@ -461,17 +461,25 @@ const OF_OTHER_SEATS: Play<'_> = (
     &[Some(1), Some(1), None],
 );
 
+fn replay<R: Abort>(
+    rt: &R,
+    alloc: Global,
+    &(full, need, seats, steps, counts): &Play<'_>,
+) -> Result<(), NoMemory> {
+    let setting = needing(rt, alloc, full, need, seats)?;
+    play(rt, alloc, &setting, steps, counts)
+}
+
 #[test]
-fn told_orders_answer_as_told(rt: HostRuntime) -> Result<(), Fail> {
-    for (full, need, seats, steps, counts) in [
-        SKIPPED,
-        PAST_A_GAP,
-        UP_TO_ITS_OWN,
-        NONE_NEEDED,
-        OF_OTHER_SEATS,
+fn told_orders_answer_as_told(rt: HostRuntime) -> Result<(), NoMemory> {
+    for &play in &[
+        &SKIPPED,
+        &PAST_A_GAP,
+        &UP_TO_ITS_OWN,
+        &NONE_NEEDED,
+        &OF_OTHER_SEATS,
     ] {
-        let setting = needing(&rt, rt.alloc(), full, need, seats)?;
-        play(&rt, rt.alloc(), &setting, steps, counts)?;
+        replay(&rt, rt.alloc(), play)?;
     }
     Ok(())
 }

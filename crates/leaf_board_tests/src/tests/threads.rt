@@ -9,11 +9,11 @@ ghost use Rattle.leaf_board.specs.Boards.{largest};
 
 use barriers::Need;
 use leaf_board::{Board, BoardSeat, Case, Draw, LeafBoard, LeafPass, Record};
+use spliterator::NoMemory;
 use std::alloc::{AllocError, Global};
 use std::marker::Brand;
 use std::process::Abort;
 use std::sync::atomic::{AtomicU64, Ordering};
-use std::test::Fail;
 use std::thread;
 use std::thread::Threads;
 
@@ -108,7 +108,7 @@ fn in_threads<C: Case + Send + Sync, R: Threads + Abort + Sync>(
     rt: &R,
     alloc: Global,
     need: Need,
-) -> Result<Record, Fail>
+) -> Result<Record, NoMemory>
     requires { (C.case ≡ largest (need_of need)) × IsBelow (need_of need) (2 ^ 63) }
 {
     let (board, mut seats) = Board::<C>::new(alloc, 65536, need, 64)?;
@@ -121,7 +121,7 @@ fn in_threads<C: Case + Send + Sync, R: Threads + Abort + Sync>(
 }
 
 #[test]
-fn sixty_four_threads_publish_every_leaf(rt: HostRuntime) -> Result<(), Fail> {
+fn sixty_four_threads_publish_every_leaf(rt: HostRuntime) -> Result<(), NoMemory> {
     let record = in_threads::<Brand, HostRuntime>(&rt, rt.alloc(), Need::Never)?;
     assert!(rt; record.cut().is_none());
     for leaf in 0..record.leaves() {
@@ -130,7 +130,7 @@ fn sixty_four_threads_publish_every_leaf(rt: HostRuntime) -> Result<(), Fail> {
         } else {
             Some(count_of(leaf))
         };
-        assert_eq!(rt; record.count(leaf), expected, "leaf {leaf}");
+        assert!(rt; record.count(leaf) == expected);
     }
     Ok(())
 }
@@ -150,10 +150,10 @@ fn first_enough(need: u64, leaves: usize) -> Option<usize> {
 }
 
 #[test]
-fn sixty_four_threads_skip_right_of_the_cut(rt: HostRuntime) -> Result<(), Fail> {
+fn sixty_four_threads_skip_right_of_the_cut(rt: HostRuntime) -> Result<(), NoMemory> {
     let record = in_threads::<Brand, HostRuntime>(&rt, rt.alloc(), Need::Reach(50000))?;
     let expected = first_enough(50000, record.leaves());
-    assert_eq!(rt; record.cut(), expected);
+    assert!(rt; record.cut() == expected);
     let cut = expected.expect(&rt, "a cut");
     for leaf in 0..record.leaves() {
         let planned = if is_refused(leaf) {
@@ -162,10 +162,7 @@ fn sixty_four_threads_skip_right_of_the_cut(rt: HostRuntime) -> Result<(), Fail>
             Some(count_of(leaf))
         };
         let told = record.count(leaf);
-        assert!(rt;
-            told == planned || (leaf > cut && told.is_none()),
-            "leaf {leaf}"
-        );
+        assert!(rt; told == planned || (leaf > cut && told.is_none()));
     }
     Ok(())
 }

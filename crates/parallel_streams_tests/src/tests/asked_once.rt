@@ -7,7 +7,6 @@ use parallel_streams::{Run, Stream, StreamError};
 use spliterator::NoMemory;
 use stages::{Mapping, Test};
 use std::alloc::Global;
-use std::process::Abort;
 use std::sync::atomic::{AtomicU64, Ordering};
 use std::thread::Threads;
 use stealing_pool::NoGate;
@@ -64,23 +63,39 @@ fn times(asked: &Asked) -> [u64; 3] {
 }
 
 // The numbers 2, 3 and 4 of five, behind two functions, a barrier and another function.
-fn three_of_five<R: Threads + Abort + Alloc<A = Global> + Sync>(
+fn three_of_five<R: Threads + Alloc<A = Global> + Sync, X: Stream<Item = i64> + Drop + Sync>(
     rt: &R,
     run: &Run<'_, NoGate>,
+    numbers: X,
     asked: &Asked,
-) -> Result<Vec<i64>, StreamError> {
-    let items = numbers(rt, 0, 5)
-        .map(Itself {
-            asked: &asked.mapped,
-        })
-        .filter(All {
-            asked: &asked.tested,
-        })
-        .skip(2)
-        .map(Itself {
-            asked: &asked.behind,
-        });
-    listed(rt, run, &items)
+) -> Result<Vec<i64>, StreamError>
+where
+    X::Progress: Send + Sync,
+    X::Part: Send,
+    requires { X.ready numbers }
+{
+    let mapped = numbers.map(Itself {
+        asked: &asked.mapped,
+    });
+    let tested = mapped.filter(All {
+        asked: &asked.tested,
+    });
+    behind_two(rt, run, tested, &asked.behind)
+}
+
+// The numbers behind the first two.
+fn behind_two<R: Threads + Alloc<A = Global> + Sync, X: Stream<Item = i64> + Drop + Sync>(
+    rt: &R,
+    run: &Run<'_, NoGate>,
+    numbers: X,
+    asked: &AtomicU64,
+) -> Result<Vec<i64>, StreamError>
+where
+    X::Progress: Send + Sync,
+    X::Part: Send,
+    requires { X.ready numbers }
+{
+    listed(rt, run, &numbers.skip(2).map(Itself { asked }))
 }
 
 // Of five items, and of the three behind a barrier.
@@ -92,7 +107,8 @@ fn functions_are_asked_once_an_item(rt: HostRuntime) -> Result<(), StreamError> 
         behind: AtomicU64::new(0),
     };
     for &setting in &SETTINGS {
-        check_list(&rt, three_of_five(&rt, &at(setting), &asked), &[2, 3, 4])?;
+        let three = three_of_five(&rt, &at(setting), numbers(&rt, 0, 5), &asked);
+        check_list(&rt, three, &[2, 3, 4])?;
         same(&rt, times(&asked), [5, 5, 3]);
     }
     Ok(())

@@ -5,7 +5,7 @@ use super::answers::{check, check_list, limited, listed, numbers, same, sum_of};
 use super::at;
 use super::gates::Watch;
 use super::reports::{Entry, check_report};
-use super::rows::above_hundred;
+use super::rows::first_above_hundred;
 use parallel_streams::{Run, Stream, StreamError};
 use stages::Test;
 use std::sync::atomic::Ordering;
@@ -37,7 +37,8 @@ static OF_A_MILLION: [Entry<'_>; 2] = [
 #[test]
 fn a_held_first_leaf_of_a_million_items(rt: HostRuntime) -> Result<(), StreamError> {
     let gate = Watch::until(0, 2);
-    let found = limited(&rt, &by_two(1000, &gate), above_hundred(&rt), 1);
+    let million = numbers(&rt, 0, 1_000_000);
+    let found = first_above_hundred(&rt, &by_two(1000, &gate), million);
     check_report(&rt, gate.all_came().and(found), &[102], &OF_A_MILLION)
 }
 

@@ -2,9 +2,8 @@
 
 use super::answers::{check, numbers};
 use super::{Suite, at_each_setting};
-use parallel_streams::{Run, Source, Stream, StreamError};
+use parallel_streams::{Run, Stream, StreamError};
 use parts::Below;
-use sources::RangeSplit;
 use std::alloc::Global;
 use std::process::Abort;
 use std::thread::Threads;
@@ -18,13 +17,22 @@ static MATCHES: [(i64, i64, [bool; 3]); 4] = [
     (10, 1, [false, true, false]),
 ];
 
-fn check_matches<R: Threads + Abort + Alloc<A = Global> + Sync>(
+fn check_matches<
+    R: Threads + Abort + Alloc<A = Global> + Sync,
+    X: Stream<Item = i64> + Drop + Sync,
+>(
     rt: &R,
     run: &Run<'_, NoGate>,
-    numbers: &Source<RangeSplit>,
+    numbers: X,
     below: &Below,
-    [all, any, none]: [bool; 3],
-) -> Result<(), StreamError> {
+    wanted: [bool; 3],
+) -> Result<(), StreamError>
+where
+    X::Progress: Send + Sync,
+    X::Part: Send,
+    requires { X.ready numbers }
+{
+    let [all, any, none] = wanted;
     let are_all = numbers.all_match(rt, rt.alloc(), run, below);
     let are_any = numbers.any_match(rt, rt.alloc(), run, below);
     let are_none = numbers.none_match(rt, rt.alloc(), run, below);
@@ -39,7 +47,7 @@ pub fn rows<R: Threads + Abort + Alloc<A = Global> + Sync>(
     run: &Run<'_, NoGate>,
 ) -> Result<(), StreamError> {
     for &(end, limit, wanted) in &MATCHES {
-        check_matches(rt, run, &numbers(rt, 0, end), &Below(limit), wanted)?;
+        check_matches(rt, run, numbers(rt, 0, end), &Below(limit), wanted)?;
     }
     Ok(())
 }

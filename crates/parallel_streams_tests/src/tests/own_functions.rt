@@ -4,8 +4,7 @@ ghost use Rattle.stages.specs.Wrapping.{wrapped_sum, wrapped-value};
 
 use super::answers::{check, check_list, listed, numbers};
 use super::{Suite, at_each_setting};
-use parallel_streams::{Run, Source, Stream, StreamError};
-use sources::RangeSplit;
+use parallel_streams::{Run, Stream, StreamError};
 use spliterator::NoMemory;
 use stages::{
     FromFn, MappingDefinition, Operator, OperatorDefinition, OperatorFn, TestDefinition, TestFn,
@@ -41,11 +40,16 @@ impl OperatorDefinition<i64> for Sum {
     ghost joins_are_values = { λ x y _ _. wrapped-value (x +ℤ y) };
 }
 
-fn ten_more<R: Threads + Alloc<A = Global> + Sync>(
+fn ten_more<R: Threads + Alloc<A = Global> + Sync, X: Stream<Item = i64> + Drop + Sync>(
     rt: &R,
     run: &Run<'_, NoGate>,
-    numbers: Source<RangeSplit>,
-) -> Result<Vec<i64>, StreamError> {
+    numbers: X,
+) -> Result<Vec<i64>, StreamError>
+where
+    X::Progress: Send + Sync,
+    X::Part: Send,
+    requires { X.ready numbers }
+{
     let ten_more: FromFn<i64, _, TenMore> = FromFn::new(|x: &i64| -> Result<i64, NoMemory> {
         WrapAdd::new().join(x, &10)
     });
@@ -53,11 +57,16 @@ fn ten_more<R: Threads + Alloc<A = Global> + Sync>(
     listed(rt, run, &numbers.map(ten_more).filter(below_thirteen))
 }
 
-fn total<R: Threads + Alloc<A = Global> + Sync>(
+fn total<R: Threads + Alloc<A = Global> + Sync, X: Stream<Item = i64> + Drop + Sync>(
     rt: &R,
     run: &Run<'_, NoGate>,
-    numbers: &Source<RangeSplit>,
-) -> Result<Option<i64>, StreamError> {
+    numbers: X,
+) -> Result<Option<i64>, StreamError>
+where
+    X::Progress: Send + Sync,
+    X::Part: Send,
+    requires { X.ready numbers }
+{
     let sum: OperatorFn<_, Sum> = OperatorFn::new(|a: &i64, b: &i64| -> Result<i64, NoMemory> {
         WrapAdd::new().join(a, b)
     });
@@ -69,7 +78,7 @@ pub fn rows<R: Threads + Abort + Alloc<A = Global> + Sync>(
     rt: &R,
     run: &Run<'_, NoGate>,
 ) -> Result<(), StreamError> {
-    let total = total(rt, run, &numbers(rt, 1, 6));
+    let total = total(rt, run, numbers(rt, 1, 6));
     let items = ten_more(rt, run, numbers(rt, 1, 6));
     check_list(rt, items, &[11, 12]).and(check(rt, total, Some(15)))
 }

@@ -48,15 +48,29 @@ impl Stage for WithNext {
     }
 }
 
+// The numbers 0 to 2, each before the next one.
+fn check_pairs<R: Threads + Abort + Alloc<A = Global> + Sync, X: Stream<Item = i64> + Drop + Sync>(
+    rt: &R,
+    run: &Run<'_, NoGate>,
+    numbers: X,
+) -> Result<(), StreamError>
+where
+    X::Progress: Send + Sync,
+    X::Part: Send,
+    requires { X.ready numbers }
+{
+    let pairs = numbers.then(WithNext);
+    let listed = listed(rt, run, &pairs);
+    let apart = first_apart(rt, run, pairs, 9);
+    check_list(rt, listed, &[0, 1, 1, 2, 2, 3]).and(check_items(rt, apart, &[0, 1, 2, 3]))
+}
+
 /// Rows of one setting.
 pub fn rows<R: Threads + Abort + Alloc<A = Global> + Sync>(
     rt: &R,
     run: &Run<'_, NoGate>,
 ) -> Result<(), StreamError> {
-    let pairs = numbers(rt, 0, 3).then(WithNext);
-    let listed = listed(rt, run, &pairs);
-    let apart = first_apart(rt, run, pairs, 9);
-    check_list(rt, listed, &[0, 1, 1, 2, 2, 3]).and(check_items(rt, apart, &[0, 1, 2, 3]))
+    check_pairs(rt, run, numbers(rt, 0, 3))
 }
 
 #[test]

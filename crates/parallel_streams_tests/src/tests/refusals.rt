@@ -31,13 +31,19 @@ impl Mapping<i64> for RefusesAt {
 static FIRSTS: [(u64, i64); 6] = [(1, 0), (1, 4), (16, 0), (16, 4), (0, 0), (0, 4)];
 
 // Of ten numbers whether one is met, and the first. Memory is refused at the number behind it.
-fn check_met<R: Threads + Abort + Alloc<A = Global> + Sync>(
+fn check_met<R: Threads + Abort + Alloc<A = Global> + Sync, X: Stream<Item = i64> + Drop + Sync>(
     rt: &R,
     run: &Run<'_, NoGate>,
+    numbers: X,
     first: i64,
-) -> Result<(), StreamError> {
+) -> Result<(), StreamError>
+where
+    X::Progress: Send + Sync,
+    X::Part: Send,
+    requires { X.ready numbers }
+{
     let above = Above(first.saturating_sub(1));
-    let ten = numbers(rt, 0, 10).map(RefusesAt(first.saturating_add(1)));
+    let ten = numbers.map(RefusesAt(first.saturating_add(1)));
     let is_met = ten.any_match(rt, rt.alloc(), run, &above);
     let found = first_of(rt, run, &ten.filter(above));
     check(rt, is_met, true).and(check(rt, found, Some(first)))
@@ -49,17 +55,23 @@ fn one_worker_reads_nothing_behind_the_first_item_or_hit(
     rt: HostRuntime,
 ) -> Result<(), StreamError> {
     for &(target, first) in &FIRSTS {
-        check_met(&rt, &at((1, target)), first)?;
+        check_met(&rt, &at((1, target)), numbers(&rt, 0, 10), first)?;
     }
     Ok(())
 }
 
 // The first of ten numbers, where memory is refused at 7, so that their sum wants memory.
-fn refused<R: Threads + Abort + Alloc<A = Global> + Sync>(
+fn refused<R: Threads + Abort + Alloc<A = Global> + Sync, X: Stream<Item = i64> + Drop + Sync>(
     rt: &R,
     run: &Run<'_, NoGate>,
-) -> Result<Option<i64>, StreamError> {
-    let ten = numbers(rt, 0, 10).map(RefusesAt(7));
+    numbers: X,
+) -> Result<Option<i64>, StreamError>
+where
+    X::Progress: Send + Sync,
+    X::Part: Send,
+    requires { X.ready numbers }
+{
+    let ten = numbers.map(RefusesAt(7));
     same(rt, sum_of(rt, run, &ten), Err(StreamError::NoMemory));
     first_of(rt, run, &ten)
 }
@@ -69,9 +81,10 @@ fn refused<R: Threads + Abort + Alloc<A = Global> + Sync>(
 fn a_refusal_right_of_the_first_item_gives_no_other_item(
     rt: HostRuntime,
 ) -> Result<(), StreamError> {
-    let of_seven = refused(&rt, &at((7, 1)));
+    let of_seven = refused(&rt, &at((7, 1)), numbers(&rt, 0, 10));
     if of_seven != Err(StreamError::NoMemory) {
         same(&rt, of_seven, Ok(Some(0)));
     }
-    check(&rt, refused(&rt, &at((1, 1))), Some(0))
+    let of_one = refused(&rt, &at((1, 1)), numbers(&rt, 0, 10));
+    check(&rt, of_one, Some(0))
 }

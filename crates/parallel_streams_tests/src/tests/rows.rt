@@ -6,14 +6,14 @@ use super::answers::{
 };
 use super::functions::Copies;
 use super::{Suite, at, at_each_setting};
-use parallel_streams::{Run, Source, Staged, Stream, StreamError, of};
+use parallel_streams::{Run, Stream, StreamError, of};
 use parts::{Above, Below, Plus, Times};
-use sources::{RangeSplit, RangeTooLong, SliceSplit};
-use stages::{Filter, LastOf, Map, Max, Min, WrapAdd, WrapMul};
+use sources::{RangeSplit, SliceSplit};
+use stages::{LastOf, Max, Min, WrapAdd, WrapMul};
 use std::alloc::Global;
 use std::process::Abort;
 use std::thread::Threads;
-use stealing_pool::NoGate;
+use stealing_pool::{Gate, NoGate};
 
 /// The second of some numbers, and one.
 pub fn second_and_one<R: Threads + Alloc<A = Global> + Sync, X: Stream<Item = i64> + Drop + Sync>(
@@ -26,7 +26,21 @@ where
     X::Part: Send,
     requires { X.ready numbers }
 {
-    reported(rt, run, &numbers.skip(1).limit(1).map(Plus(1)))
+    plus_one(rt, run, numbers.skip(1).limit(1))
+}
+
+// Each number and one.
+fn plus_one<R: Threads + Alloc<A = Global> + Sync, X: Stream<Item = i64> + Drop + Sync>(
+    rt: &R,
+    run: &Run<'_, NoGate>,
+    numbers: X,
+) -> Reported
+where
+    X::Progress: Send + Sync,
+    X::Part: Send,
+    requires { X.ready numbers }
+{
+    reported(rt, run, &numbers.map(Plus(1)))
 }
 
 /// The front of some numbers that is below 3.
@@ -44,12 +58,17 @@ where
 }
 
 // What follows that front.
-fn rest<R: Threads + Alloc<A = Global> + Sync>(
+fn rest<R: Threads + Alloc<A = Global> + Sync, X: Stream<Item = i64> + Drop + Sync>(
     rt: &R,
     run: &Run<'_, NoGate>,
-    numbers: &[i64],
-) -> Result<Vec<i64>, StreamError> {
-    listed(rt, run, &of(SliceSplit::new(numbers)).drop_while(Below(3)))
+    numbers: X,
+) -> Result<Vec<i64>, StreamError>
+where
+    X::Progress: Send + Sync,
+    X::Part: Send,
+    requires { X.ready numbers }
+{
+    listed(rt, run, &numbers.drop_while(Below(3)))
 }
 
 /// The first of the numbers that differ. The limit stops no leaf before `distinct`.
@@ -67,11 +86,32 @@ where
     limited(rt, run, numbers.distinct(), most)
 }
 
-/// The items that are above 100, of a million numbers times three.
-pub fn above_hundred(
-    rt: &impl Abort,
-) -> Staged<Staged<Source<RangeSplit>, Map<i64, Times>>, Filter<i64, Above>> {
-    numbers(rt, 0, 1_000_000).map(Times(3)).filter(Above(100))
+/// The first of the items that are above 100, of numbers times three, and what each run tells of its leaves.
+pub fn first_above_hundred<
+    R: Threads + Alloc<A = Global> + Sync,
+    H: Gate + Sync,
+    X: Stream<Item = i64> + Drop + Sync,
+>(rt: &R, run: &Run<'_, H>, numbers: X) -> Reported
+where
+    X::Progress: Send + Sync,
+    X::Part: Send,
+    requires { X.ready numbers }
+{
+    limited(rt, run, numbers.map(Times(3)).filter(Above(100)), 1)
+}
+
+// The same by the terminal alone.
+fn found_above_hundred<R: Threads + Alloc<A = Global> + Sync, X: Stream<Item = i64> + Drop + Sync>(
+    rt: &R,
+    run: &Run<'_, NoGate>,
+    numbers: X,
+) -> Result<Option<i64>, StreamError>
+where
+    X::Progress: Send + Sync,
+    X::Part: Send,
+    requires { X.ready numbers }
+{
+    first_of(rt, run, &numbers.map(Times(3)).filter(Above(100)))
 }
 
 // What stands before a number above 2, what follows, the second and one, and the first none.
@@ -80,10 +120,11 @@ fn fronts<R: Threads + Abort + Alloc<A = Global> + Sync>(
     run: &Run<'_, NoGate>,
 ) -> Result<(), StreamError> {
     let below = front(rt, run, of(SliceSplit::new(&[1, 2, 5, 1])));
+    let rest = rest(rt, run, of(SliceSplit::new(&[1, 2, 5, 1])));
     let nine = second_and_one(rt, run, of(SliceSplit::new(&[4, 8, 15])));
     let none = limited(rt, run, of(SliceSplit::new(&[4, 8, 15])), 0);
     check_items(rt, below, &[1, 2])
-        .and(check_list(rt, rest(rt, run, &[1, 2, 5, 1]), &[5, 1]))
+        .and(check_list(rt, rest, &[5, 1]))
         .and(check_items(rt, nine, &[9]))
         .and(check_items(rt, none, &[]))
 }
@@ -95,19 +136,26 @@ static APART: [(&[i64], u32, &[i64]); 2] = [
 ];
 
 /// Numbers, the most of their copies that are wanted, these, and how many copies there are.
-static COPIES: [(&[i64], u32, &[i64], i64); 3] = [
-    (&[2, 0, 3], 9, &[2, 2, 3, 3, 3], 5),
-    (&[1, 2, 3], 4, &[1, 2, 2, 3], 6),
-    (&[0, 0, 0], 9, &[], 0),
+static COPIES: [(&[i64], (u32, &[i64], i64)); 3] = [
+    (&[2, 0, 3], (9, &[2, 2, 3, 3, 3], 5)),
+    (&[1, 2, 3], (4, &[1, 2, 2, 3], 6)),
+    (&[0, 0, 0], (9, &[], 0)),
 ];
 
 // How many copies of numbers there are, and the first of them.
-fn check_copies<R: Threads + Abort + Alloc<A = Global> + Sync>(
+fn check_copies<R: Threads + Abort + Alloc<A = Global> + Sync, X: Stream<Item = i64> + Drop + Sync>(
     rt: &R,
     run: &Run<'_, NoGate>,
-    (numbers, most, wanted, number): (&[i64], u32, &[i64], i64),
-) -> Result<(), StreamError> {
-    let copies = of(SliceSplit::new(numbers)).flat_map(Copies { alloc: rt.alloc() });
+    numbers: X,
+    row: (u32, &[i64], i64),
+) -> Result<(), StreamError>
+where
+    X::Progress: Send + Sync,
+    X::Part: Send,
+    requires { X.ready numbers }
+{
+    let (most, wanted, number) = row;
+    let copies = numbers.flat_map(Copies { alloc: rt.alloc() });
     let count = counted(rt, run, &copies);
     check(rt, count, number).and(check_items(rt, limited(rt, run, copies, most), wanted))
 }
@@ -120,8 +168,8 @@ fn firsts<R: Threads + Abort + Alloc<A = Global> + Sync>(
         let found = first_apart(rt, run, of(SliceSplit::new(numbers)), most);
         check_items(rt, found, wanted)?;
     }
-    for &row in &COPIES {
-        check_copies(rt, run, row)?;
+    for &(numbers, wanted) in &COPIES {
+        check_copies(rt, run, of(SliceSplit::new(numbers)), wanted)?;
     }
     Ok(())
 }
@@ -131,7 +179,8 @@ fn reductions<R: Threads + Abort + Alloc<A = Global> + Sync>(
     run: &Run<'_, NoGate>,
 ) -> Result<(), StreamError> {
     for &(numbers, identity) in &LASTS {
-        check(rt, last_below(rt, run, numbers, identity), 9)?;
+        let last = last_below(rt, run, of(SliceSplit::new(numbers)), identity);
+        check(rt, last, 9)?;
     }
     let product = joined(rt, run, &[2, 5, 3], &WrapMul::new());
     check(rt, joined(rt, run, &[], &Max::new()), None)
@@ -147,15 +196,19 @@ static LASTS: [(&[i64], i64); 4] = [
     (&[4, 9, 50, 60], i64::MIN),
 ];
 
-// The first number of a range, and its sum by an operator and by a collector.
-fn check_range<R: Threads + Abort + Alloc<A = Global> + Sync>(
+// The first of some numbers, and their sum by an operator and by a collector.
+fn check_sums<R: Threads + Abort + Alloc<A = Global> + Sync, X: Stream<Item = i64> + Drop + Sync>(
     rt: &R,
     run: &Run<'_, NoGate>,
-    range: Result<RangeSplit, RangeTooLong>,
+    numbers: X,
     first: Option<i64>,
     sum: i64,
-) -> Result<(), StreamError> {
-    let numbers = of(range.expect(rt, "a range"));
+) -> Result<(), StreamError>
+where
+    X::Progress: Send + Sync,
+    X::Part: Send,
+    requires { X.ready numbers }
+{
     check(rt, first_of(rt, run, &numbers), first)
         .and(check(rt, reduced(rt, run, &numbers, 0, &WrapAdd::new()), sum))
         .and(check(rt, sum_of(rt, run, &numbers), sum))
@@ -166,21 +219,31 @@ fn ranges<R: Threads + Abort + Alloc<A = Global> + Sync>(
     run: &Run<'_, NoGate>,
 ) -> Result<(), StreamError> {
     let last = i64::MAX;
-    let last_two = RangeSplit::closed(last - 1, last);
-    check_range(rt, run, RangeSplit::range(1, 6), Some(1), 15)
-        .and(check_range(rt, run, RangeSplit::range(5, 5), None, 0))
-        .and(check_range(rt, run, last_two, Some(last - 1), -3))
+    let last_two = RangeSplit::closed(last - 1, last).expect(rt, "a range");
+    check_sums(rt, run, numbers(rt, 1, 6), Some(1), 15)
+        .and(check_sums(rt, run, numbers(rt, 5, 5), None, 0))
+        .and(check_sums(rt, run, of(last_two), Some(last - 1), -3))
 }
 
 // The last number below 10, or the identity.
-fn last_below<R: Threads + Alloc<A = Global> + Sync>(
+fn last_below<R: Threads + Alloc<A = Global> + Sync, X: Stream<Item = i64> + Drop + Sync>(
     rt: &R,
     run: &Run<'_, NoGate>,
-    numbers: &[i64],
+    numbers: X,
     identity: i64,
-) -> Result<i64, StreamError> {
-    let below = of(SliceSplit::new(numbers)).filter(Below(10));
-    reduced(rt, run, &below, identity, &LastOf::new())
+) -> Result<i64, StreamError>
+where
+    X::Progress: Send + Sync,
+    X::Part: Send,
+    requires { X.ready numbers }
+{
+    reduced(
+        rt,
+        run,
+        &numbers.filter(Below(10)),
+        identity,
+        &LastOf::new(),
+    )
 }
 
 /// Rows of one setting.
@@ -204,9 +267,9 @@ static WORKERS: [u32; 4] = [1, 7, 2, 64];
 
 #[test]
 fn the_first_of_a_million(rt: HostRuntime) -> Result<(), StreamError> {
-    let above = above_hundred(&rt);
     for &workers in &WORKERS {
-        let first = first_of(&rt, &at((workers, 1000)), &above);
+        let million = numbers(&rt, 0, 1_000_000);
+        let first = found_above_hundred(&rt, &at((workers, 1000)), million);
         check(&rt, first, Some(102))?;
     }
     Ok(())

@@ -15,16 +15,14 @@ use std::thread::Threads;
 const GREAT: i64 = 4_611_686_018_427_387_904;
 
 /// The end of a range from 0 on, how many of its items are skipped, how many of the rest are taken at most, and how many these are.
-static KNOWN: [(i64, u64, u64, i64); 5] = [
-    (10, 3, 5, 5),
-    (10, 0, 3, 3),
-    (10, 0, 0, 0),
-    (3, 10, 10, 0),
+static KNOWN: [(i64, (u64, u64, i64)); 5] = [
+    (10, (3, 5, 5)),
+    (10, (0, 3, 3)),
+    (10, (0, 0, 0)),
+    (3, (10, 10, 0)),
     (
         GREAT,
-        1,
-        9_223_372_036_854_775_807,
-        4_611_686_018_427_387_903,
+        (1, 9_223_372_036_854_775_807, 4_611_686_018_427_387_903),
     ),
 ];
 
@@ -47,24 +45,35 @@ where
 }
 
 // Where memory is wanted the count is told all the same.
-fn check_known<R: Threads + Abort + Alloc<A = Global> + Sync>(
+fn check_known<R: Threads + Abort + Alloc<A = Global> + Sync, X: Stream<Item = i64> + Drop + Sync>(
     rt: &R,
     run: &Run<'_, Watch>,
-    (end, skipped, most, size): (i64, u64, u64, i64),
-) {
+    numbers: X,
+    row: (u64, u64, i64),
+)
+where
+    X::Progress: Send + Sync,
+    X::Part: Send,
+    requires { X.ready numbers }
+{
+    let (skipped, most, size) = row;
     assert!(rt; skipped < 9_223_372_036_854_775_808 && most < 9_223_372_036_854_775_808);
-    let rest = numbers(rt, 0, end).map(Itself).skip(skipped);
+    let rest = numbers.map(Itself).skip(skipped);
     let (_, known, count) = behind_limit(rt, run, rest, most);
     same(rt, (known, count), (Some(size.unsigned_abs()), Ok(size)));
 }
 
 // A filter clears the size, whether it keeps more items than a limit or as many.
-fn check_cleared<R: Threads + Abort + Alloc<A = Global> + Sync>(
-    rt: &R,
-    run: &Run<'_, Watch>,
-    most: u32,
-) -> Result<(), StreamError> {
-    let above = numbers(rt, 0, 10).filter(Above(4));
+fn check_cleared<
+    R: Threads + Abort + Alloc<A = Global> + Sync,
+    X: Stream<Item = i64> + Drop + Sync,
+>(rt: &R, run: &Run<'_, Watch>, numbers: X, most: u32) -> Result<(), StreamError>
+where
+    X::Progress: Send + Sync,
+    X::Part: Send,
+    requires { X.ready numbers }
+{
+    let above = numbers.filter(Above(4));
     let (flags, known, count) = behind_limit(rt, run, above, u64::from(most));
     let told = [
         flags.is_distinct(),
@@ -90,8 +99,8 @@ fn a_count_of_a_known_size_runs_no_leaf(rt: HostRuntime) {
             gate: &gate,
         };
         same(&rt, counted(&rt, &run, &great), Ok(GREAT));
-        for &row in &KNOWN {
-            check_known(&rt, &run, row);
+        for &(end, row) in &KNOWN {
+            check_known(&rt, &run, numbers(&rt, 0, end), row);
         }
     }
     same(&rt, gate.entered(), 0);
@@ -106,7 +115,12 @@ fn a_filter_clears_the_known_size(rt: HostRuntime) -> Result<(), StreamError> {
             target,
             gate: &gate,
         };
-        check_cleared(&rt, &run, 3).and(check_cleared(&rt, &run, 5))?;
+        check_cleared(&rt, &run, numbers(&rt, 0, 10), 3).and(check_cleared(
+            &rt,
+            &run,
+            numbers(&rt, 0, 10),
+            5,
+        ))?;
     }
     same(&rt, gate.entered() > 0, true);
     Ok(())

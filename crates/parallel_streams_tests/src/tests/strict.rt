@@ -7,6 +7,7 @@ use indexmap::IndexMap;
 use parallel_streams::{MapError, Run, Stream, StreamError, of};
 use parts::{Itself, Length, Plus};
 use sources::{LinesSplit, SliceSplit};
+use stages::Mapping;
 use std::alloc::Global;
 use std::fmt::Debug;
 use std::process::Abort;
@@ -20,17 +21,44 @@ fn check_map<V: Debug + PartialEq + Drop>(
     (keys, values, repeated): (&[i64], &[V], Option<i64>),
 ) -> Result<(), StreamError> {
     let found = match answer {
-        Ok(map) => Ok(map),
+        Ok(map) => map,
         Err(MapError::DuplicateKey(key)) => {
             same(rt, Some(key), repeated);
             return Ok(());
         }
-        Err(MapError::NoMemory) => Err(StreamError::NoMemory),
-        Err(MapError::BadWorkers) => Err(StreamError::BadWorkers),
-        Err(MapError::BadTarget) => Err(StreamError::BadTarget),
+        Err(MapError::NoMemory) => return Err(StreamError::NoMemory),
+        Err(MapError::BadWorkers) => return Err(StreamError::BadWorkers),
+        Err(MapError::BadTarget) => return Err(StreamError::BadTarget),
     };
     same(rt, None, repeated);
-    check_entries(rt, found, keys, values)
+    check_entries(rt, Ok(found), keys, values)
+}
+
+// Checks the map of a stream's items by two functions.
+fn check_keyed<
+    R: Threads + Abort + Alloc<A = Global> + Sync,
+    X: Stream + Drop + Sync,
+    K: Mapping<X::Item, Out = i64> + Drop + Sync,
+    V: Mapping<X::Item> + Drop + Sync,
+>(
+    rt: &R,
+    run: &Run<'_, NoGate>,
+    stream: X,
+    key: K,
+    value: V,
+    expected: (&[i64], &[V::Out], Option<i64>),
+) -> Result<(), StreamError>
+where
+    X::Item: Send + Sync,
+    X::Progress: Send + Sync,
+    X::Part: Send,
+    V::Out: Debug + Drop + Send,
+    requires stream { X.ready stream }
+    requires key { K.ready key }
+    requires value { V.ready value }
+{
+    let answer = stream.to_map_strict(rt, rt.alloc(), run, &key, &value);
+    check_map(rt, answer, expected)
 }
 
 /// Numbers, and each to the next one as keys and values, or the key that comes again. 1 is the first key that is there twice, and 2 the first that
@@ -55,13 +83,11 @@ pub fn rows<R: Threads + Abort + Alloc<A = Global> + Sync>(
 ) -> Result<(), StreamError> {
     for &(numbers, expected) in &NUMBERS {
         let stream = of(SliceSplit::new(numbers));
-        let answer = stream.to_map_strict(rt, rt.alloc(), run, &Itself, &Plus(1));
-        check_map(rt, answer, expected)?;
+        check_keyed(rt, run, stream, Itself, Plus(1), expected)?;
     }
     for &(lines, expected) in &LINES {
         let stream = of(LinesSplit::new(lines));
-        let answer = stream.to_map_strict(rt, rt.alloc(), run, &Length, &Itself);
-        check_map(rt, answer, expected)?;
+        check_keyed(rt, run, stream, Length, Itself, expected)?;
     }
     Ok(())
 }

@@ -10,10 +10,9 @@ use spliterator::{NoMemory, OrderedValue, Spliterator, Value};
 use std::alloc::{AllocError, Global};
 use std::collections::VecDeque;
 use std::process::Abort;
-use std::test::Fail;
 
 /// A seat of a hall. That of number 7 can't be cloned, as if each clone of it were refused memory.
-#[derive(Debug, PartialEq, Eq, PartialOrd, Ord, Drop)]
+#[derive(PartialEq, Eq, PartialOrd, Ord, Drop)]
 struct Seat {
     number: i64,
 }
@@ -81,17 +80,31 @@ fn check_refused_behind_four<S: Spliterator<Item = Seat>>(
     Ok(split)
 }
 
+// A slice of the seats 4, 7 and 9, read and split.
+fn check_slice(rt: &impl Abort, alloc: Global, seats: &[Seat]) -> Result<(), NoMemory> {
+    let mut split = check_refused_behind_four(rt, SliceSplit::new(seats), 2)?;
+    let seventh = split.try_split().expect(rt, "a part");
+    check_refused(rt, seventh, 1);
+    check_items(rt, alloc, split, &[Seat { number: 9 }])
+}
+
 #[test]
-fn a_refused_clone_leaves_the_items_of_a_slice_and_of_a_deque(rt: HostRuntime) -> Result<(), Fail> {
+fn a_refused_clone_leaves_the_items_of_a_slice(rt: HostRuntime) -> Result<(), NoMemory> {
     let seats = [Seat { number: 4 }, Seat { number: 7 }, Seat { number: 9 }];
-    let mut split = check_refused_behind_four(&rt, SliceSplit::new(&seats), 2)?;
-    let seventh = split.try_split().ok_or("no part")?;
-    check_refused(&rt, seventh, 1);
-    assert!(rt; read(rt.alloc(), split)?.as_slice() == &seats[2..]);
+    check_slice(&rt, rt.alloc(), &seats)
+}
+
+#[test]
+fn a_refused_clone_leaves_the_items_of_a_deque(rt: HostRuntime) -> Result<(), NoMemory> {
     let mut queue = VecDeque::new(rt.alloc());
     queue.push_back(Seat { number: 7 })?;
     queue.push_front(Seat { number: 4 })?;
-    check_refused_behind_four(&rt, DequeSplit::new(&queue), 1)?;
+    check_deque(&rt, &queue)
+}
+
+// A deque of the seats 4 and 7.
+fn check_deque(rt: &impl Abort, seats: &VecDeque<Seat>) -> Result<(), NoMemory> {
+    check_refused_behind_four(rt, DequeSplit::new(seats), 1)?;
     Ok(())
 }
 
@@ -100,23 +113,54 @@ fn is_refused<S: Spliterator>(split: &mut S) -> bool {
     split.try_advance().is_err()
 }
 
+/// Checks two sources of which the first refuses its first item.
+fn check_first<A: Spliterator, B: Spliterator<Item = A::Item>>(
+    rt: &impl Abort,
+    first: A,
+    second: B,
+    left: u64,
+) {
+    let mut both = Concat::new(first, second);
+    check_refused(rt, both, left);
+    let is_kept = is_refused(&mut both) && matches!(both, Concat::Both(_, _));
+    assert!(rt; is_kept);
+}
+
+/// Checks two sources, the seat of number 4 and one that refuses its first item.
+fn check_second<A: Spliterator<Item = Seat>, B: Spliterator<Item = Seat>>(
+    rt: &impl Abort,
+    first: A,
+    second: B,
+    left: u64,
+) -> Result<(), NoMemory> {
+    let mut both = check_refused_behind_four(rt, Concat::new(first, second), left)?;
+    let is_alone = is_refused(&mut both) && matches!(both, Concat::Alone(Right(_)));
+    assert!(rt; is_alone && both.exact_size() == Some(left));
+    Ok(())
+}
+
+// The seats 4, 7 and 9, each alone, and 7 before 9. A side that may be either refuses as it does alone.
+fn check_sides(
+    rt: &impl Abort,
+    four: &[Seat],
+    seven: &[Seat],
+    nine: &[Seat],
+    seven_and_nine: &[Seat],
+) -> Result<(), NoMemory> {
+    let later = SliceSplit::new(seven_and_nine);
+    check_first(rt, SliceSplit::new(seven), SliceSplit::new(nine), 2);
+    let side: Either<SliceSplit<'_, Seat>, SliceSplit<'_, Seat>> = Right(later);
+    check_refused(rt, side, 2);
+    check_second(rt, SliceSplit::new(four), later, 2)
+}
+
 /// The advance that finds the first side at its end leaves the second alone, also where that one refuses.
 #[test]
-fn a_refused_clone_leaves_the_items_of_two_sources(rt: HostRuntime) -> Result<(), Fail> {
-    let (four, nine) = ([Seat { number: 4 }], [Seat { number: 9 }]);
-    let seven = [Seat { number: 7 }];
-    let after_four = [Seat { number: 7 }, Seat { number: 9 }];
-    let after_four = SliceSplit::new(&after_four);
-    let mut first = Concat::new(SliceSplit::new(&seven), SliceSplit::new(&nine));
-    check_refused(&rt, first, 2);
-    assert!(rt; is_refused(&mut first) && matches!(first, Concat::Both(_, _)));
-    let both = Concat::new(SliceSplit::new(&four), after_four);
-    let mut second = check_refused_behind_four(&rt, both, 2)?;
-    let is_alone = is_refused(&mut second) && matches!(second, Concat::Alone(Right(_)));
-    assert!(rt; is_alone && second.exact_size() == Some(2));
-    let side: Either<SliceSplit<'_, Seat>, SliceSplit<'_, Seat>> = Right(after_four);
-    check_refused(&rt, side, 2);
-    Ok(())
+fn a_refused_clone_leaves_the_items_of_two_sources(rt: HostRuntime) -> Result<(), NoMemory> {
+    let (four, seven) = ([Seat { number: 4 }], [Seat { number: 7 }]);
+    let nine = [Seat { number: 9 }];
+    let both = [Seat { number: 7 }, Seat { number: 9 }];
+    check_sides(&rt, &four, &seven, &nine, &both)
 }
 
 fn words(alloc: Global) -> Result<Vec<String>, AllocError> {
@@ -127,12 +171,9 @@ fn words(alloc: Global) -> Result<Vec<String>, AllocError> {
     Ok(words)
 }
 
-/// With any of its allocations refused, an advance gives the next text or a want of memory, and never another text.
-#[test]
-fn a_text_is_cloned_or_refused(rt: HostRuntime) -> Result<(), Fail> {
-    let words = words(rt.alloc())?;
-    let mut split = SliceSplit::new(&words);
-    for word in &words {
+fn check_clones(rt: &impl Abort, words: &[String]) -> Result<(), NoMemory> {
+    let mut split = SliceSplit::new(words);
+    for word in words {
         if split.try_advance() == Err(NoMemory) {
             // one refusal alone: the same item comes at the next call
             assert!(rt; split.try_advance()?.as_ref() == Some(word));
@@ -141,10 +182,28 @@ fn a_text_is_cloned_or_refused(rt: HostRuntime) -> Result<(), Fail> {
     Ok(())
 }
 
+/// With any of its allocations refused, an advance gives the next text or a want of memory, and never another text.
 #[test]
-fn lists_are_items(rt: HostRuntime) -> Result<(), Fail> {
-    let lists = [Vec::from_array(rt.alloc(), [1, 2])?, Vec::new(rt.alloc())];
-    let items = read(rt.alloc(), SliceSplit::new(&lists))?;
-    assert!(rt; items.as_slice() == lists.as_slice());
+fn a_text_is_cloned_or_refused(rt: HostRuntime) -> Result<(), NoMemory> {
+    let words = words(rt.alloc())?;
+    check_clones(&rt, &words)
+}
+
+/// Checks the items that are left.
+fn check_items<S: Spliterator>(
+    rt: &impl Abort,
+    alloc: Global,
+    split: S,
+    expected: &[S::Item],
+) -> Result<(), NoMemory> {
+    let items = read(alloc, split)?;
+    assert!(rt; items.as_slice() == expected);
     Ok(())
+}
+
+#[test]
+fn lists_are_items(rt: HostRuntime) -> Result<(), NoMemory> {
+    let list = Vec::from_array(rt.alloc(), [1, 2])?;
+    let lists = [list, Vec::new(rt.alloc())];
+    check_items(&rt, rt.alloc(), SliceSplit::new(&lists), &lists)
 }

@@ -1,10 +1,9 @@
-use super::{Side, range, wrapped};
+use super::{Side, check_row, range};
 use either::{Left, Right};
-use sources::{Concat, DequeSplit, LinesSplit, RangeSplit, SliceSplit};
+use sources::{Concat, LinesSplit, RangeSplit, SliceSplit};
 use spliterator::{NoMemory, Spliterator};
 use std::alloc::Global;
 use std::process::Abort;
-use std::test::Fail;
 
 /// Appends the items that are left.
 fn append<S: Spliterator>(mut split: S, items: &mut Vec<S::Item>) -> Result<(), NoMemory> {
@@ -92,7 +91,7 @@ fn append_in<S: Spliterator>(
 
 /// Reads a source in five ways: to its end, split once, split to the bottom, split half way, and by blocks of 1, of 2 and of more than
 /// there is.
-fn check<S: Spliterator>(
+pub fn check<S: Spliterator>(
     rt: &impl Abort,
     alloc: Global,
     split: S,
@@ -108,10 +107,10 @@ fn check<S: Spliterator>(
         Way::ByBlocks(2),
         Way::ByBlocks(99),
     ];
-    for (place, way) in ways.iter().enumerate() {
+    for (place, way) in (0_u64..).zip(&ways) {
         let mut items = Vec::new(alloc);
         append_in(alloc, split, *way, number, &mut items)?;
-        assert!(rt; items.as_slice() == expected, "in way {place}");
+        check_row(rt, place, items.as_slice() == expected);
     }
     Ok(())
 }
@@ -127,15 +126,14 @@ static RANGES: [((bool, i64, i64), &[i64]); 3] = [
 static SLICES: [&[i64]; 3] = [&[-4, -3, -2, -1, 0, 1, 2, 3, 4, 5], &[-4], &[]];
 
 #[test]
-fn numbers_are_read_in_five_ways(rt: HostRuntime) -> Result<(), Fail> {
+fn numbers_are_read_in_five_ways(rt: HostRuntime) -> Result<(), NoMemory> {
     for &(ends, items) in &RANGES {
-        check(&rt, rt.alloc(), range(ends)?, items)?;
+        let range = range(ends).expect(&rt, "a range");
+        check(&rt, rt.alloc(), range, items)?;
     }
     for &slice in &SLICES {
         check(&rt, rt.alloc(), SliceSplit::new(slice), slice)?;
     }
-    let queue = wrapped(rt.alloc())?;
-    check(&rt, rt.alloc(), DequeSplit::new(&queue), &[1, 2, 3])?;
     Ok(())
 }
 
@@ -151,32 +149,68 @@ static LINES: [(&str, &[&str]); 7] = [
 ];
 
 #[test]
-fn lines_are_read_in_five_ways(rt: HostRuntime) -> Result<(), Fail> {
+fn lines_are_read_in_five_ways(rt: HostRuntime) -> Result<(), NoMemory> {
     for &(text, lines) in &LINES {
         check(&rt, rt.alloc(), LinesSplit::new(text), lines)?;
     }
     Ok(())
 }
 
+/// Checks two sources, one after the other.
+fn check_both<A: Spliterator, B: Spliterator<Item = A::Item>>(
+    rt: &impl Abort,
+    alloc: Global,
+    first: A,
+    second: B,
+    expected: &[A::Item],
+) -> Result<(), NoMemory> {
+    check(rt, alloc, Concat::new(first, second), expected)
+}
+
+/// Checks a source before an empty one, and then one that is as empty before another.
+fn check_four<A: Spliterator, B: Spliterator<Item = A::Item>>(
+    rt: &impl Abort,
+    alloc: Global,
+    first: A,
+    none: B,
+    last: B,
+    expected: &[A::Item],
+) -> Result<(), NoMemory> {
+    let (before, behind) = (Concat::new(first, none), Concat::new(none, last));
+    check_both(rt, alloc, before, behind, expected)
+}
+
 #[test]
-fn two_sources_are_read_in_five_ways(rt: HostRuntime) -> Result<(), Fail> {
-    let alloc = rt.alloc();
-    let numbers: [i64; 3] = [7, 8, 9];
-    let slice = SliceSplit::new(&numbers);
-    let range = RangeSplit::range(0, 4)?;
-    let none = RangeSplit::range(0, 0)?;
-    let front = [0, 1, 2, 3, 7, 8, 9];
-    check(&rt, alloc, Concat::new(range, slice), &front)?;
-    check(&rt, alloc, Concat::new(none, slice), &numbers)?;
-    check(&rt, alloc, Concat::new(slice, none), &numbers)?;
-    check(&rt, alloc, Concat::new(none, none), &[])?;
-    let many = Concat::new(Concat::new(slice, none), Concat::new(none, range));
-    check(&rt, alloc, many, &[7, 8, 9, 0, 1, 2, 3])?;
-    let lines = Concat::new(LinesSplit::new("a\nb"), LinesSplit::new("\nc\n"));
-    check(&rt, alloc, lines, &["a", "b", "", "c"])?;
-    let sides: [(Side<'_>, &[i64]); 2] = [(Left(range), &[0, 1, 2, 3]), (Right(slice), &numbers)];
-    for (side, items) in sides {
-        check(&rt, alloc, side, items)?;
-    }
-    Ok(())
+fn two_sources_are_read_in_five_ways(rt: HostRuntime) -> Result<(), NoMemory> {
+    let range = RangeSplit::range(0, 4).expect(&rt, "a range");
+    let none = RangeSplit::range(0, 0).expect(&rt, "a range");
+    check_pairs(&rt, rt.alloc(), SliceSplit::new(&[7, 8, 9]), range, none)
+}
+
+// A slice of the numbers 7 to 9, the range of 0 to 3, and an empty range.
+fn check_pairs(
+    rt: &impl Abort,
+    alloc: Global,
+    slice: SliceSplit<'_, i64>,
+    range: RangeSplit,
+    none: RangeSplit,
+) -> Result<(), NoMemory> {
+    check_both(rt, alloc, range, slice, &[0, 1, 2, 3, 7, 8, 9])
+        .and(check_both(rt, alloc, none, slice, &[7, 8, 9]))
+        .and(check_both(rt, alloc, slice, none, &[7, 8, 9]))
+        .and(check_both(rt, alloc, none, none, &[]))
+        .and(check_four(rt, alloc, slice, none, range, &[7, 8, 9, 0, 1, 2, 3]))
+}
+
+#[test]
+fn two_texts_are_read_in_five_ways(rt: HostRuntime) -> Result<(), NoMemory> {
+    let (first, second) = (LinesSplit::new("a\nb"), LinesSplit::new("\nc\n"));
+    check_both(&rt, rt.alloc(), first, second, &["a", "b", "", "c"])
+}
+
+#[test]
+fn a_side_that_may_be_either_is_read_in_five_ways(rt: HostRuntime) -> Result<(), NoMemory> {
+    let range: Side<'_> = Left(RangeSplit::range(0, 4).expect(&rt, "a range"));
+    let slice: Side<'_> = Right(SliceSplit::new(&[7, 8, 9]));
+    check(&rt, rt.alloc(), range, &[0, 1, 2, 3]).and(check(&rt, rt.alloc(), slice, &[7, 8, 9]))
 }

@@ -12,7 +12,6 @@ use stages::{
 };
 use std::alloc::Global;
 use std::process::Abort;
-use std::test::Fail;
 
 /// The number itself. That of 7 is refused, as if it wanted memory.
 #[derive(Drop)]
@@ -113,7 +112,7 @@ fn pushed<S: Stage<In = i64, Out = i64>>(
     stage: &S,
     numbers: &[i64],
     mut out: Vec<i64>,
-) -> Result<Vec<i64>, Fail>
+) -> Result<Vec<i64>, NoMemory>
     requires { S.ready stage.now }
 {
     let mut block = out.clone()?;
@@ -125,7 +124,7 @@ fn pushed<S: Stage<In = i64, Out = i64>>(
         }
     }
     stage.feed_all(&mut Vec::from_slice(rt.alloc(), numbers)?, &mut block)?;
-    assert!(rt; block == out, "as a block");
+    assert!(rt; block == out);
     Ok(out)
 }
 
@@ -136,29 +135,54 @@ fn check<S: Stage<In = i64, Out = i64>>(
     numbers: &[i64],
     before: &[i64],
     after: &[i64],
-) -> Result<(), Fail>
+) -> Result<(), NoMemory>
     requires { S.ready stage.now }
 {
     let items = pushed(rt, stage, numbers, Vec::from_slice(rt.alloc(), before)?)?;
-    assert!(rt; items.as_slice() == after, "{numbers:?}");
+    assert!(rt; items.as_slice() == after);
     Ok(())
 }
 
 #[test]
-fn stages_are_fused(rt: HostRuntime) -> Result<(), Fail> {
-    let above_two = Filter::new(Above(2));
-    let tenfold = Map::new(Times(10));
-    let lent = Then::new(&above_two, &tenfold);
-    check(&rt, &lent, &[1, 2, 3, 4], &[], &[30, 40])?;
+fn stages_are_fused(rt: HostRuntime) -> Result<(), NoMemory> {
+    check_fused(&rt, Filter::new(Above(2)), Map::new(Times(10)))
+}
+
+// A stage that keeps what is above 2, and one that makes ten times as much: the one before the other, lent, and the other before the one; and
+// these between nothing and a stage that negates.
+fn check_fused<A: Stage<In = i64, Out = i64> + Drop, B: Stage<In = i64, Out = i64> + Drop>(
+    rt: &(impl Abort + Alloc<A = Global>),
+    above_two: A,
+    tenfold: B,
+) -> Result<(), NoMemory>
+    requires above_two { A.ready above_two }
+    requires tenfold { B.ready tenfold }
+{
+    let of_lent = check_then(rt, &above_two, &tenfold, &[1, 2, 3, 4], &[], &[30, 40]);
     let fused = Then::new(tenfold, above_two);
-    check(&rt, &fused, &[0, 1], &[30, 40], &[30, 40, 10])?;
+    let of_fused = check(rt, &fused, &[0, 1], &[30, 40], &[30, 40, 10]);
     let negated = Then::new(fused, Map::new(Times(-1)));
-    let again = Then::new(Nothing::new(), negated);
-    check(&rt, &again, &[1, 0, 2], &[], &[-10, -20])
+    let of_four = check_then(rt, Nothing::new(), negated, &[1, 0, 2], &[], &[-10, -20]);
+    of_lent.and(of_fused).and(of_four)
+}
+
+/// Checks one stage behind another.
+fn check_then<A: Stage<In = i64> + Drop, B: Stage<In = A::Out, Out = i64> + Drop>(
+    rt: &(impl Abort + Alloc<A = Global>),
+    first: A,
+    second: B,
+    numbers: &[i64],
+    before: &[i64],
+    after: &[i64],
+) -> Result<(), NoMemory>
+    requires first { A.ready first }
+    requires second { B.ready second }
+{
+    check(rt, &Then::new(first, second), numbers, before, after)
 }
 
 #[test]
-fn an_item_becomes_a_list(rt: HostRuntime) -> Result<(), Fail> {
+fn an_item_becomes_a_list(rt: HostRuntime) -> Result<(), NoMemory> {
     let copies = FlatMap::new(Copies { alloc: rt.alloc() });
     check(&rt, &copies, &[2, 0, 3], &[], &[2, 2, 3, 3, 3])?;
     let squares = Then::new(&copies, &copies);
@@ -180,7 +204,7 @@ fn check_refused<S: Stage<In = i64, Out = i64>>(
 
 /// What of an expansion came before the refusal is taken back.
 #[test]
-fn a_refused_push_leaves_the_list(rt: HostRuntime) -> Result<(), Fail> {
+fn a_refused_push_leaves_the_list(rt: HostRuntime) -> Result<(), NoMemory> {
     let alloc = rt.alloc();
     let mut out = Vec::from_array(alloc, [2])?;
     let refusing = Map::new(RefusesSeven);
@@ -192,7 +216,7 @@ fn a_refused_push_leaves_the_list(rt: HostRuntime) -> Result<(), Fail> {
 
 /// No memory holds 2^63 - 1 copies.
 #[test]
-fn a_list_that_finds_no_memory_is_refused(rt: HostRuntime) -> Result<(), Fail> {
+fn a_list_that_finds_no_memory_is_refused(rt: HostRuntime) -> Result<(), NoMemory> {
     let alloc = rt.alloc();
     let mut out = Vec::from_array(alloc, [2])?;
     let copies = FlatMap::new(Copies { alloc });
@@ -201,7 +225,7 @@ fn a_list_that_finds_no_memory_is_refused(rt: HostRuntime) -> Result<(), Fail> {
 }
 
 #[test]
-fn nothing_is_fed_to_a_full_sink(rt: HostRuntime) -> Result<(), Fail> {
+fn nothing_is_fed_to_a_full_sink(rt: HostRuntime) -> Result<(), NoMemory> {
     let alloc = rt.alloc();
     let mut few = FirstFew {
         kept: Vec::new(alloc),

@@ -8,7 +8,7 @@ use stages::{
     FirstOf, FromFn, LastOf, Mapping, MappingDefinition, Max, Min, Operator, OperatorDefinition,
     OperatorFn, Test, TestDefinition, TestFn, WrapAdd, WrapMul,
 };
-use std::test::Fail;
+use std::process::Abort;
 
 struct Tenfold;
 
@@ -80,53 +80,52 @@ fn is_below_five(x: i64) -> bool
 }
 
 #[test]
-fn closures_answer_as_their_definitions(rt: HostRuntime) -> Result<(), Fail> {
+fn closures_answer_as_their_definitions(rt: HostRuntime) -> Result<(), NoMemory> {
     let numbers = [ten_times(4)?, added(2, 5)?];
     assert!(rt; numbers == [40, 7] && is_below_five(4) && !is_below_five(5));
     Ok(())
 }
 
-/// Whether an operator joins the first two of each row to the third.
-fn joins<T: Value + Drop, O: Operator<T>>(
+/// Checks that an operator joins the first two of each row to the third.
+fn check_joins<T: Value + Drop, O: Operator<T>>(
+    rt: &impl Abort,
     operator: &O,
     rows: &[(&T, &T, &T)],
-) -> Result<bool, NoMemory>
+) -> Result<(), NoMemory>
     requires { O.ready operator.now }
 {
     for (a, b, wanted) in rows {
-        if joined(operator, *a, *b)? != **wanted {
-            return Ok(false);
-        }
+        assert!(rt; joined(operator, *a, *b)? == **wanted);
     }
-    Ok(true)
-}
-
-#[test]
-fn operators_join_two_values(rt: HostRuntime) -> Result<(), Fail> {
-    let (least, most) = (i64::MIN, i64::MAX);
-    let joined = [
-        joins(&WrapAdd::new(), &[(&2, &5, &7), (&most, &1, &least)])?,
-        joins(&WrapMul::new(), &[(&-3, &5, &-15), (&least, &-1, &least)])?,
-        joins(&Max::new(), &[(&-3, &5, &5)])?,
-        joins(&&Max::new(), &[(&5, &-3, &5)])?,
-        joins(&Min::new(), &[(&-3, &5, &-3)])?,
-        joins(&FirstOf::new(), &[(&-3, &5, &-3)])?,
-        joins(&LastOf::new(), &[(&-3, &5, &5)])?,
-    ];
-    assert!(rt; joined == [true; 7], "{joined:?}");
     Ok(())
 }
 
 #[test]
-fn operators_join_two_texts(rt: HostRuntime) -> Result<(), Fail> {
+fn operators_join_two_values(rt: HostRuntime) -> Result<(), NoMemory> {
+    let (least, most) = (i64::MIN, i64::MAX);
+    check_joins(&rt, &WrapAdd::new(), &[(&2, &5, &7), (&most, &1, &least)])
+        .and(check_joins(
+            &rt,
+            &WrapMul::new(),
+            &[(&-3, &5, &-15), (&least, &-1, &least)],
+        ))
+        .and(check_joins(&rt, &Max::new(), &[(&-3, &5, &5)]))
+        .and(check_joins(&rt, &&Max::new(), &[(&5, &-3, &5)]))
+        .and(check_joins(&rt, &Min::new(), &[(&-3, &5, &-3)]))
+        .and(check_joins(&rt, &FirstOf::new(), &[(&-3, &5, &-3)]))
+        .and(check_joins(&rt, &LastOf::new(), &[(&-3, &5, &5)]))
+}
+
+fn check_texts(rt: &impl Abort, first: &String, second: &String) -> Result<(), NoMemory> {
+    check_joins(rt, &Max::new(), &[(first, second, second)])
+        .and(check_joins(rt, &Min::new(), &[(first, second, first)]))
+        .and(check_joins(rt, &FirstOf::new(), &[(second, first, second)]))
+        .and(check_joins(rt, &LastOf::new(), &[(second, first, first)]))
+}
+
+#[test]
+fn operators_join_two_texts(rt: HostRuntime) -> Result<(), NoMemory> {
     let first = String::from_str(rt.alloc(), "ab")?;
     let second = String::from_str(rt.alloc(), "b")?;
-    let joined = [
-        joins(&Max::new(), &[(&first, &second, &second)])?,
-        joins(&Min::new(), &[(&first, &second, &first)])?,
-        joins(&FirstOf::new(), &[(&second, &first, &second)])?,
-        joins(&LastOf::new(), &[(&second, &first, &first)])?,
-    ];
-    assert!(rt; joined == [true; 4], "{joined:?}");
-    Ok(())
+    check_texts(&rt, &first, &second)
 }
