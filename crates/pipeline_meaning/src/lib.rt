@@ -45,4 +45,4 @@ pub use text_steps::TextSteps;
 pub use text_summaries::{
     TextSummaryCollector, TextSummaryContainer, TextSummaryResult, text_summary,
 };
-pub use written::Written;
+pub use written::{Written, text_of};

@@ -5,8 +5,8 @@ ghost use Rattle.collectors.specs.Reductions.{reduce_add, reduce_merge};
 ghost use Rattle.collectors.specs.Texts.{join_with, joining_laws};
 ghost use Rattle.pipeline_meaning.specs.Texts.{list_text};
 
-use crate::written::write_behind;
-use crate::{Spelled, Written};
+use crate::Spelled;
+use crate::written::{text_of, write_behind};
 use collectors::{Collector, Joining};
 use spliterator::NoMemory;
 use std::alloc::Global;
@@ -62,9 +62,7 @@ impl<T: Spelled> Collector for ListText<T> {
         match acc {
             Some(texts) => write_behind(", ", x, texts),
             None => {
-                let mut text = String::new(self.alloc);
-                x.write_to(&mut text)?;
-                *acc = Some(text);
+                *acc = Some(text_of(self.alloc, x)?);
                 Ok(())
             }
         }

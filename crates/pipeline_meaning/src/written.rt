@@ -1,6 +1,6 @@
 //! The texts of values, written behind one another into one text.
 ghost use Rattle.either.specs.Either.{either};
-ghost use Rattle.std.specs.Prelude.{◌≡◌, ◌++◌, ℕ, List, OnOk, string_bytes};
+ghost use Rattle.std.specs.Prelude.{◌≡◌, ◌++◌, ℕ, List, IfOk, OnOk, string_bytes};
 ghost use Rattle.std.specs.Fmt.{signed_decimal};
 ghost use Rattle.pipeline_meaning.specs.Texts.{truth_text, optional_text, list_text, entry_text, map_text, partition_text, pair_text};
 
@@ -9,6 +9,7 @@ use either::{Either, Left, Right};
 use indexmap::IndexMap;
 use itoa::Buffer;
 use spliterator::NoMemory;
+use std::alloc::Global;
 use std::hash::{BuildHasher, Hash};
 
 /// A value that has a text, as a pipeline's answer is written.
@@ -60,6 +61,15 @@ impl Written for String {
     fn write_to(&self, out: &mut String) -> Result<(), NoMemory> {
         self.as_str().write_to(out)
     }
+}
+
+/// A value's text.
+pub fn text_of<V: Written>(alloc: Global, value: &V) -> Result<String, NoMemory>
+    ensures { IfOk result (λ text. string_bytes text ≡ V.text value.now) }
+{
+    let mut text = String::new(alloc);
+    value.write_to(&mut text)?;
+    Ok(text)
 }
 
 /// Writes a value behind a text that stands before it.

@@ -1,7 +1,7 @@
 //! The distinct items of a list, leaf by leaf.
 
 ghost use Rattle.std.specs.Prelude.{◌≡◌, ◌++◌, List, [], true, IfOk, OnOk, fold, map};
-ghost use Rattle.std.specs.List.{list_any};
+ghost use Rattle.std.specs.List.{IsDistinct, list_any};
 ghost use Rattle.indexmap.specs.IndexSet.{insert_key};
 ghost use Rattle.stages.specs.Distinct.{distinct};
 ghost use Rattle.pipeline_value.specs.DistinctLaws.{distinct_laws};
@@ -52,7 +52,7 @@ impl<T: Value + Hash + Drop> DistinctItems<T> {
         for x in items {
             all.keep(x)?;
         }
-        Ok(all.kept.into_iter().collect(self.alloc)?)
+        all.into_items(self.alloc)
     }
 }
 
@@ -88,6 +88,14 @@ impl<T: Value + Hash + Drop> FirstOnes<T> {
         self.next = at.saturating_add(1);
         Ok(())
     }
+
+    /// The items, as they came. They differ.
+    fn into_items(self, alloc: Global) -> Result<Vec<T>, NoMemory>
+        ensures items { IfOk result (λ v. v.items ≡ self.kept.keys) }
+        ensures differ { IsDistinct T.PartialEq.eq self.kept.keys }
+    {
+        Ok(self.kept.into_iter().collect(alloc)?)
+    }
 }
 
 /// What leaves kept, in the order of the items. The items of one leaf differ; those of two may not.
@@ -104,6 +112,16 @@ impl<T: Value + Hash + Copy + Drop> KeptByLeaves<T> {
         ensures { OnOk result (self.new.earlier.items ≡ self.old.earlier.items ++ self.old.last.kept.keys) }
     {
         self.earlier.extend_from_slice(self.last.kept.as_slice())?;
+        Ok(())
+    }
+
+    /// Puts what later leaves kept behind the rest.
+    fn append(&mut self, mut later: KeptByLeaves<T>) -> Result<(), NoMemory>
+        ensures { OnOk result ((self.new.earlier.items ≡ (self.old.earlier.items ++ self.old.last.kept.keys) ++ later.earlier.items) × (self.new.last ≡ later.last)) }
+    {
+        self.close_leaf()?;
+        self.earlier.append(&mut later.earlier)?;
+        self.last = later.last;
         Ok(())
     }
 }
@@ -140,20 +158,13 @@ impl<T: Value + Hash + Copy + Drop> Collector for DistinctItems<T> {
         acc.last.keep(*x)
     }
 
-    fn combine(
-        &self,
-        left: &mut KeptByLeaves<T>,
-        mut right: KeptByLeaves<T>,
-    ) -> Result<(), NoMemory> {
-        left.close_leaf()?;
-        left.earlier.append(&mut right.earlier)?;
-        left.last = right.last;
-        Ok(())
+    fn combine(&self, left: &mut KeptByLeaves<T>, right: KeptByLeaves<T>) -> Result<(), NoMemory> {
+        left.append(right)
     }
 
     fn finish(&self, mut acc: KeptByLeaves<T>) -> Result<Vec<T>, NoMemory> {
         if acc.earlier.is_empty() {
-            return Ok(acc.last.kept.into_iter().collect(self.alloc)?);
+            return acc.last.into_items(self.alloc);
         }
         acc.close_leaf()?;
         self.distinct_among(acc.earlier)

@@ -4,7 +4,7 @@ ghost use Rattle.std.specs.Prelude.{◌≡◌, ◌<◌, ◌≤◌, ◌^◌, IfOk
 ghost use Rattle.barriers.specs.Needs.{every_item};
 ghost use Rattle.leaf_board.specs.Closing.{count_of, cut_of};
 ghost use Rattle.pipeline_meaning.specs.AtMostOne.{GivesAtMostOne};
-ghost use Rattle.pipeline_value.specs.Places.{IsLeafPlace, PlaceOrFewer};
+ghost use Rattle.pipeline_value.specs.Places.{IsLeafPlace, IsPlace, PlaceOrFewer};
 ghost use Rattle.split_tree.specs.Plan.{leaves_of};
 ghost use Rattle.stealing_pool.specs.Fronts.{full_count, lists_of};
 ghost use Rattle.stealing_pool.specs.Reports.{Reports};
@@ -146,6 +146,32 @@ fn leaf_of<S: Windowed, A: Stage<In = S::Item>>(
     None
 }
 
+/// The place in a plan's source of the item with whose image so many have come, within the leaf with which they have.
+fn place_in_leaf<R, S, A, H>(
+    engine: &Engine<'_, R, H>,
+    plan: &Plan<S>,
+    stage: &A,
+    found: LeafPlace,
+    wanted: u64,
+) -> Result<u64, NoMemory>
+where
+    R: Threads + Sync,
+    S: Windowed + Copy + Drop + Send + Sync,
+    S::Item: Clone + Send + Sync,
+    A: Stage<In = S::Item> + Sync,
+    A::Out: Clone + Send + Sync,
+    H: Gate + Sync,
+    requires stage { A.ready stage.now }
+    requires few { GivesAtMostOne (A.expand stage.now) }
+    requires found { IsLeafPlace S.items (A.expand stage.now) (leaves_of plan.now) wanted found.leaf found.items found.images }
+    requires room { length (flat_map S.items (leaves_of plan.now)) < 2 ^ 64 }
+    ensures { IfOk result (λ place. IsPlace (A.expand stage.now) (flat_map S.items (leaves_of plan.now)) wanted place) }
+{
+    let part = plan.leaf(found.leaf);
+    let place = place_within(engine, part, stage, wanted - found.images)?;
+    Ok(found.items + place)
+}
+
 /// The place of the source item with whose image so many have come, or `None` where there are fewer: by the counts of the leaves of one run on all
 /// workers, and by halves within the leaf in which the last one comes.
 fn place_by_leaves<R, S, A, H>(
@@ -185,9 +211,8 @@ where
     let Some(found) = leaf_of(&plan, stage, &gathered.entry, wanted) else {
         return Ok(None);
     };
-    let part = plan.leaf(found.leaf);
-    let place = place_within(engine, part, stage, wanted - found.images)?;
-    Ok(Some(found.items + place))
+    let place = place_in_leaf(engine, &plan, stage, found, wanted)?;
+    Ok(Some(place))
 }
 
 /// The place of the source item with whose image so many have come, or `None` where there are fewer.

@@ -76,6 +76,46 @@ where
     }
 }
 
+/// The part of a source whose images are what a barrier leaves of the images of all, behind a stage that gives no item more than one image.
+fn part_left<R, S, A, H>(
+    engine: &Engine<'_, R, H>,
+    source: S,
+    stage: &A,
+    barrier: &NumberStage,
+) -> Result<Option<S>, NoMemory>
+where
+    R: Threads + Sync,
+    S: Windowed + Copy + Drop + Send + Sync,
+    S::Item: Clone + Send + Sync,
+    A: Stage<In = S::Item, Out = i64> + Sync,
+    H: Gate + Sync,
+    requires stage { A.ready stage.now }
+    requires few { GivesAtMostOne (A.expand stage.now) }
+    requires fits { NumberStageFits barrier.now }
+    ensures part { IfOk result (λ part. IfSome part (λ part. flat_map (A.expand stage.now) (S.items part) ≡ number_stage barrier.now (flat_map (A.expand stage.now) (S.items source)))) }
+    ensures had { IfOk result (λ part. is_some part ≡ cuts_source barrier.now) }
+{
+    match *barrier {
+        NumberStage::Limit(most) => {
+            let end = items_of(engine, source, stage, most)?;
+            Ok(Some(source.first(end)))
+        }
+        NumberStage::Skip(number) => {
+            let end = items_of(engine, source, stage, number)?;
+            Ok(Some(source.after_first(end)))
+        }
+        NumberStage::TakeWhile(test) => {
+            let end = items_before_failing(engine, source, stage, test)?;
+            Ok(Some(source.first(end)))
+        }
+        NumberStage::DropWhile(test) => {
+            let end = items_before_failing(engine, source, stage, test)?;
+            Ok(Some(source.after_first(end)))
+        }
+        _ => Ok(None),
+    }
+}
+
 /// The part of a source whose images are what a barrier leaves of the images of all, where it can be had without a list: behind a
 /// stage that gives no item more than one image.
 fn through_barrier<R, S, A, H>(
@@ -95,27 +135,10 @@ where
     ensures part { IfOk result (λ part. IfSome part (λ part. flat_map (A.expand stage.now) (S.items part) ≡ number_stage barrier.now (flat_map (A.expand stage.now) (S.items source)))) }
     ensures had { IfOk result (λ part. is_some part ≡ (A.is_few stage.now && cuts_source barrier.now)) }
 {
-    if !stage.gives_at_most_one() {
-        return Ok(None);
-    }
-    match *barrier {
-        NumberStage::Limit(most) => {
-            let end = items_of(engine, source, stage, most)?;
-            Ok(Some(source.first(end)))
-        }
-        NumberStage::Skip(number) => {
-            let end = items_of(engine, source, stage, number)?;
-            Ok(Some(source.after_first(end)))
-        }
-        NumberStage::TakeWhile(test) => {
-            let end = items_before_failing(engine, source, stage, test)?;
-            Ok(Some(source.first(end)))
-        }
-        NumberStage::DropWhile(test) => {
-            let end = items_before_failing(engine, source, stage, test)?;
-            Ok(Some(source.after_first(end)))
-        }
-        _ => Ok(None),
+    if stage.gives_at_most_one() {
+        part_left(engine, source, stage, barrier)
+    } else {
+        Ok(None)
     }
 }
 

@@ -8,7 +8,7 @@ ghost use Rattle.pipeline_value.specs.declared.told.ValueError.TheVariants as va
 
 use crate::engine::Engine;
 use parallel_streams::StreamError;
-use pipeline_meaning::{Spelled, Written};
+use pipeline_meaning::{Spelled, Written, text_of};
 use spliterator::NoMemory;
 use std::alloc::{AllocError, Global};
 
@@ -50,15 +50,6 @@ pub(crate) fn ran<V, R, H>(
         Err(StreamError::NoMemory) => Err(NoMemory),
         Err(StreamError::BadWorkers | StreamError::BadTarget) => unreachable!(),
     }
-}
-
-/// A value as a text of its own.
-pub(crate) fn text_of<V: Written>(alloc: Global, value: &V) -> Result<String, NoMemory>
-    ensures { IfOk result (λ text. string_bytes text ≡ V.text value.now) }
-{
-    let mut text = String::new(alloc);
-    value.write_to(&mut text)?;
-    Ok(text)
 }
 
 /// A value, told by its text.

@@ -10,3 +10,6 @@ returns-in-GroupBy-default-Base-Count-clause-told g c = search rules fits 60 dep
 
 pub returns-in-Teeing-clause-told : goal.returns-in-Teeing-clause-told
 returns-in-Teeing-clause-told g c = search rules fits 60 depth 3
+
+pub returns-in-Partition-clause-told : goal.returns-in-Partition-clause-told
+returns-in-Partition-clause-told g c = search rules fits 60 depth 3

@@ -1,16 +1,19 @@
 use Rattle.std.proofs.Common.{◌≡◌, [], ◌∷◌, ◌∙◌, ap, fold, map, sym, rules}
 use Rattle.std.proofs.lemmas.List.{nil_from_length}
+use Rattle.std.proofs.lemmas.Result.{IfOk-weaker}
 use Rattle.indexmap.specs.IndexSet.{insert_key}
 use Rattle.pipeline_value.proofs.distinct_items.DistinctItems.distinct_among.Goals as goal
 
 pub returns : goal.returns
 returns g c =
     let contents = map g.T.Value.content in
-    let items : c.in_ok-collect.field-0.items ≡ c.loop-x.all.kept.keys = search rules in
     let none : c.loop-x.x-iterator.rest.items ≡ [] = nil_from_length _ (sym c.loop-x.x-iterator.rest.ok.0 ∙ c.in-None.ensures.steps.0) in
+    IfOk-weaker c.into_items.result _ _
+    (λ v items.
     ap contents items
     ∙ sym (ap (λ xs. fold (insert_key g.T.Value.same) (contents c.loop-x.all.kept.keys) (contents xs)) none)
-    ∙ c.loop-x.invariant
+    ∙ c.loop-x.invariant)
+    c.into_items.ensures.items
 
 pub loop-x-preserved : goal.loop-x-preserved
 loop-x-preserved g c =

@@ -1,4 +1,5 @@
 use Rattle.std.proofs.Common.{◌≡◌, ◌++◌, [], ◌∙◌, ap, fold, map, sym}
+use Rattle.std.proofs.lemmas.Result.{on_ok_weaker}
 use Rattle.indexmap.specs.IndexSet.{insert_key}
 use Rattle.pipeline_value.specs.DistinctLaws.{kept-again}
 use Rattle.pipeline_value.proofs.FirstOnes.{fold-joined}
@@ -11,13 +12,17 @@ returns g c =
     let kept = fold insert in
     let left = c.args.left.now in
     let right = c.args.right in
+    let earlier = (left.earlier.items ++ left.last.kept.keys) ++ right.earlier.items in
     let again = kept-again g.T.Value.same g.met.T.Value.same_decides in
     let whole = kept (kept [] (contents left.earlier.items)) (contents left.last.kept.keys) in
     let last = contents right.last.kept.keys in
-    let items : c.append.new.self.items ≡ (left.earlier.items ++ left.last.kept.keys) ++ right.earlier.items = c.in_ok-append.ensures.items ∙ ap (λ xs. xs ++ right.earlier.items) c.in_ok-close_leaf.ensures in
-    ap (λ xs. kept (kept [] (contents xs)) last) items
+    on_ok_weaker c.append.result
+    (λ joined.
+    ap (λ xs. kept (kept [] (contents xs)) (contents c.append.new.self.last.kept.keys)) joined.0
+    ∙ ap (λ l. kept (kept [] (contents earlier)) (contents l.kept.keys)) joined.1
     ∙ ap (λ ks. kept ks last)
     (fold-joined insert g.T.Value.content [] (left.earlier.items ++ left.last.kept.keys) right.earlier.items
     ∙ ap (λ ks. kept ks (contents right.earlier.items)) (fold-joined insert g.T.Value.content [] left.earlier.items left.last.kept.keys)
     ∙ sym (again whole [] (contents right.earlier.items)))
-    ∙ sym (again whole (kept [] (contents right.earlier.items)) last)
+    ∙ sym (again whole (kept [] (contents right.earlier.items)) last))
+    c.append.ensures

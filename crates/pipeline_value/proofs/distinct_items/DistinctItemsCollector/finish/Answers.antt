@@ -1,5 +1,4 @@
-use Rattle.std.proofs.Common.{◌≡◌, [], ◌∙◌, ap, fold, map, sym, rules}
-use Rattle.std.specs.List.{IsDistinct}
+use Rattle.std.proofs.Common.{◌≡◌, [], ◌∙◌, ap, fold, map, sym}
 use Rattle.std.proofs.lemmas.Bool.{eqb-true}
 use Rattle.std.proofs.lemmas.List.{nil_from_length}
 use Rattle.std.proofs.lemmas.Result.{IfOk-weaker}
@@ -12,14 +11,15 @@ returns-then-is_empty g c = λ l values made.
     let contents = map g.T.Value.content in
     let kept = fold (insert_key g.T.Value.same) in
     let keys = c.args.acc.last.kept.keys in
-    let items : c.in_ok-collect.field-0.items ≡ keys = search rules in
     let none : c.args.acc.earlier.items ≡ [] = nil_from_length _ (sym c.args.acc.earlier.ok.0 ∙ eqb-true _ _ (sym c.is_empty.ensures ∙ c.if-is_empty.true)) in
-    let unique : IsDistinct g.T.PartialEq.eq keys = c.into_iter.ensures.into_iter_gives.3 in
+    IfOk-weaker c.into_items.result _ _
+    (λ v items.
     ap contents items
-    ∙ sym (unique-contents g.T.Value.content g.T.PartialEq.eq g.T.Value.same g.met.T.Value.eq_is_same g.met.T.Value.same_decides keys unique)
+    ∙ sym (unique-contents g.T.Value.content g.T.PartialEq.eq g.T.Value.same g.met.T.Value.eq_is_same g.met.T.Value.same_decides keys c.into_items.ensures.differ)
     ∙ sym (ap (λ xs. kept (kept [] (contents xs)) (contents keys)) none)
     ∙ made
-    ∙ kept-members g.T.Value.same g.met.T.Value.same_decides l
+    ∙ kept-members g.T.Value.same g.met.T.Value.same_decides l)
+    c.into_items.ensures.items
 
 pub returns : goal.returns
 returns g c = λ l values made.
