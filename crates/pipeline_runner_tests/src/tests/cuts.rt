@@ -101,10 +101,7 @@ static ENDLESS: [Row<'_>; 9] = [
         b"range 0 4611686018427387904\nfilter greater 3\nanymatch equals 9\n",
         "true\n",
     ),
-    (
-        b"range 0 4611686018427387904\nallmatch less 9\n",
-        "false\n",
-    ),
+    (b"range 0 4611686018427387904\nallmatch less 9\n", "false\n"),
     (
         b"range 0 4611686018427387904\nnonematch equals 9\n",
         "false\n",
@@ -140,7 +137,13 @@ static LISTS: [Row<'_>; 6] = [
 
 #[test]
 fn leave_what_barriers_leave(rt: HostRuntime) -> Result<(), Fail> {
-    all_right_at(&rt, rt.alloc(), &TARGETS_OF_LONG, &[TWO], &[&RANGES, &ENDLESS])?;
+    all_right_at(
+        &rt,
+        rt.alloc(),
+        &TARGETS_OF_LONG,
+        &[TWO],
+        &[&RANGES, &ENDLESS],
+    )?;
     all_right(&rt, rt.alloc(), &[TWO], &[&LISTS])?;
     Ok(())
 }

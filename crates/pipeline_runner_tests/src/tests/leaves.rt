@@ -202,6 +202,9 @@ const FAR: &[u8] = b"pipeline 1\nrange 0 200000\nfilter divisible 2\nskip 99999\
 fn are_counted_by_two_workers_behind_the_first_items(rt: HostRuntime) -> Result<(), Fail> {
     let gate = Watch::of_run(2);
     let written = watch(&rt, rt.alloc(), &Case::of(FAR, 2, 65_536), &gate)?;
-    assert!(rt; gate.worker_count() == 2 && written.as_str() == "199998\n", "{written}");
+    assert!(rt;
+        gate.worker_count() == 2 && written.as_str() == "199998\n",
+        "{written}"
+    );
     Ok(())
 }
