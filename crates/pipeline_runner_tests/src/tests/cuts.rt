@@ -71,6 +71,43 @@ static RANGES: [Row<'_>; 16] = [
     ),
 ];
 
+/// A range that nobody could read to its end: what is decided by its first numbers is answered without the others.
+static ENDLESS: [Row<'_>; 9] = [
+    (
+        b"range 0 4611686018427387904\nfilter greater 3\nfindfirst\n",
+        "Optional[4]\n",
+    ),
+    (
+        b"range 0 4611686018427387904\nfilter greater 3\nlimit 2\ntolist\n",
+        "[4, 5]\n",
+    ),
+    (
+        b"range 0 4611686018427387904\nfilter greater 3\ntakewhile less 6\ntolist\n",
+        "[4, 5]\n",
+    ),
+    (
+        b"range 0 4611686018427387904\nfilter greater 3\nskip 2\nfindfirst\n",
+        "Optional[6]\n",
+    ),
+    (
+        b"range 0 4611686018427387904\nflatmap repeat 2\nlimit 3\ntolist\n",
+        "[0, 0, 1]\n",
+    ),
+    (
+        b"range 0 4611686018427387904\nflatmap repeat 2\ntakewhile less 1\ntolist\n",
+        "[0, 0]\n",
+    ),
+    (
+        b"range 0 4611686018427387904\nfilter greater 3\nanymatch equals 9\n",
+        "true\n",
+    ),
+    (b"range 0 4611686018427387904\nallmatch less 9\n", "false\n"),
+    (
+        b"range 0 4611686018427387904\nnonematch equals 9\n",
+        "false\n",
+    ),
+];
+
 static LISTS: [Row<'_>; 6] = [
     (
         b"numbers 5 3 8 1 9 2\nfilter greater 2\nlimit 2\ntolist\n",
@@ -100,7 +137,13 @@ static LISTS: [Row<'_>; 6] = [
 
 #[test]
 fn leave_what_barriers_leave(rt: HostRuntime) -> Result<(), Fail> {
-    all_right_at(&rt, rt.alloc(), &TARGETS_OF_LONG, &[TWO], &[&RANGES])?;
+    all_right_at(
+        &rt,
+        rt.alloc(),
+        &TARGETS_OF_LONG,
+        &[TWO],
+        &[&RANGES, &ENDLESS],
+    )?;
     all_right(&rt, rt.alloc(), &[TWO], &[&LISTS])?;
     Ok(())
 }

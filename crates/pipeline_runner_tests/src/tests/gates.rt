@@ -8,10 +8,11 @@ use std::sync::atomic::{AtomicU64, Ordering};
 const TURNS: u64 = 10_000_000;
 
 /// Counts the leaves that were entered and ended, and the calls of no worker. It may hold the first worker at its first leaf until another
-/// worker has entered a leaf, or leaf 0 of each run until so many others of that run have ended.
+/// worker has entered a leaf, or leaf 0 of one run until another worker has, or leaf 0 of each run until so many others of that run have ended.
 #[derive(Drop)]
 pub struct Watch {
     holds: bool,
+    held_run: u64,
     others: u64,
     runs: AtomicU64,
     others_ended: AtomicU64,
@@ -28,6 +29,7 @@ impl Watch {
     pub fn new(holds: bool) -> Watch {
         Watch {
             holds,
+            held_run: 0,
             others: 0,
             runs: AtomicU64::new(0),
             others_ended: AtomicU64::new(0),
@@ -43,6 +45,13 @@ impl Watch {
     pub fn of_each_run(others: u64) -> Watch {
         let mut gate = Watch::new(false);
         gate.others = others;
+        gate
+    }
+
+    /// A gate that holds leaf 0 of one run until another worker has entered a leaf. Runs are counted from 1.
+    pub fn of_run(run: u64) -> Watch {
+        let mut gate = Watch::new(false);
+        gate.held_run = run;
         gate
     }
 
@@ -96,6 +105,9 @@ impl Gate for Watch {
         if leaf == 0 {
             // the other leaves of this run and of those before it
             let runs = self.runs.fetch_add(1, Ordering::SeqCst).wrapping_add(1);
+            if runs == self.held_run {
+                self.wait_for(&self.workers, own.wrapping_add(1));
+            }
             self.wait_for(&self.others_ended, self.others.wrapping_mul(runs));
         }
     }
