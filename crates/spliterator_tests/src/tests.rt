@@ -1,7 +1,7 @@
 use spliterator::characteristics::{
     CONCURRENT, DISTINCT, IMMUTABLE, NONNULL, ORDERED, SIZED, SORTED, SUBSIZED,
 };
-use spliterator::{MAX_ESTIMATE, NoMemory, OrderedValue, Text, Value};
+use spliterator::{ByFields, MAX_ESTIMATE, NoMemory, OrderedValue, Text, Value};
 use std::alloc::{AllocError, Global};
 use std::cmp::Ordering;
 use std::test::Fail;
@@ -64,6 +64,59 @@ fn lists_are_ordered_by_their_contents(rt: HostRuntime) -> Result<(), Fail> {
     ];
     assert!(rt; ascends(&texts) && ascends(&numbers));
     Ok(())
+}
+
+#[test]
+fn scalars_and_options_are_ordered_by_their_contents(rt: HostRuntime) {
+    assert!(rt; ascends(&[0, 9, u8::MAX]) && ascends(&[0, u16::MAX]) && ascends(&[0, u32::MAX]));
+    assert!(rt;
+        ascends(&[0, u64::MAX]) && ascends(&[0, usize::MAX]) && ascends(&['A', 'a', 'é', '😀'])
+    );
+    assert!(rt;
+        ascends(&[i8::MIN, -1, 0]) && ascends(&[i16::MIN, 0]) && ascends(&[i32::MIN, 0, 1])
+    );
+    assert!(rt; ascends(&[false, true]) && ascends(&[None, Some(false), Some(true)]));
+}
+
+/// An order of a customer's.
+#[derive(Clone, Copy, PartialEq, Eq, PartialOrd, Ord)]
+struct Order<'a> {
+    customer: &'a str,
+    cents: i64,
+}
+
+impl<'a> ByFields for Order<'a> {
+    type Fields = (&'a str, i64);
+
+    ghost fields = { λ o. (o.customer, o.cents) };
+
+    ghost eq_by_fields = { Prim.search };
+
+    ghost cmp_by_fields = { Prim.search };
+
+    fn fields_are_values(&self) -> bool {
+        self.customer.is_value() && self.cents.is_value()
+    }
+}
+
+fn of_customer(customer: &str, cents: i64) -> Order<'_> {
+    Order { customer, cents }
+}
+
+#[test]
+fn tuples_and_structs_are_ordered_by_their_first_part_that_differs(rt: HostRuntime) {
+    assert!(rt; ascends(&[("a", 9), ("b", -1), ("b", 0)]) && !ascends(&[("b", 0), ("a", 1)]));
+    assert!(rt;
+        ascends(&[(0, 1, 'b'), (0, 2, 'a'), (0, 2, 'b')]) && !ascends(&[(0, 1, 'b'), (0, 1, 'a')])
+    );
+    assert!(rt;
+        ascends(&[
+            of_customer("a", 9),
+            of_customer("b", -1),
+            of_customer("b", 0)
+        ])
+    );
+    assert!(rt; !ascends(&[of_customer("b", 0), of_customer("a", 1)]));
 }
 
 /// The number of bytes of a text.
