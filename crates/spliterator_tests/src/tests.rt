@@ -66,18 +66,6 @@ fn lists_are_ordered_by_their_contents(rt: HostRuntime) -> Result<(), Fail> {
     Ok(())
 }
 
-#[test]
-fn scalars_and_options_are_ordered_by_their_contents(rt: HostRuntime) {
-    assert!(rt; ascends(&[0, 9, u8::MAX]) && ascends(&[0, u16::MAX]) && ascends(&[0, u32::MAX]));
-    assert!(rt;
-        ascends(&[0, u64::MAX]) && ascends(&[0, usize::MAX]) && ascends(&['A', 'a', 'é', '😀'])
-    );
-    assert!(rt;
-        ascends(&[i8::MIN, -1, 0]) && ascends(&[i16::MIN, 0]) && ascends(&[i32::MIN, 0, 1])
-    );
-    assert!(rt; ascends(&[false, true]) && ascends(&[None, Some(false), Some(true)]));
-}
-
 /// An order of a customer's.
 #[derive(Clone, Copy, PartialEq, Eq, PartialOrd, Ord)]
 struct Order<'a> {
@@ -103,20 +91,45 @@ fn of_customer(customer: &str, cents: i64) -> Order<'_> {
     Order { customer, cents }
 }
 
+/// Each part by its own type's order, the first that differs.
 #[test]
-fn tuples_and_structs_are_ordered_by_their_first_part_that_differs(rt: HostRuntime) {
-    assert!(rt; ascends(&[("a", 9), ("b", -1), ("b", 0)]) && !ascends(&[("b", 0), ("a", 1)]));
+fn tuples_and_structs_are_ordered_part_by_part(rt: HostRuntime) {
+    let unsigned = [
+        (0u8, 0u16, 0u32),
+        (0, 0, u32::MAX),
+        (0, u16::MAX, 0),
+        (u8::MAX, 0, 0),
+    ];
+    let signed = [
+        (i8::MIN, 9i16, 0i32),
+        (-1, i16::MIN, 0),
+        (-1, -1, i32::MIN),
+        (-1, -1, -1),
+        (0, -1, -1),
+    ];
+    let long = [
+        (0u64, 9usize, 'z'),
+        (u64::MAX, 0, 'z'),
+        (u64::MAX, usize::MAX, 'a'),
+        (u64::MAX, usize::MAX, '😀'),
+    ];
+    let optional = [
+        (false, None),
+        (false, Some("")),
+        (false, Some("a")),
+        (true, None),
+    ];
+    let orders = [
+        of_customer("a", 9),
+        of_customer("b", -1),
+        of_customer("b", 0),
+    ];
+    assert!(rt; ascends(&unsigned) && ascends(&signed) && ascends(&long));
+    assert!(rt; ascends(&optional) && ascends(&orders));
     assert!(rt;
-        ascends(&[(0, 1, 'b'), (0, 2, 'a'), (0, 2, 'b')]) && !ascends(&[(0, 1, 'b'), (0, 1, 'a')])
+        !ascends(&[(true, None), (false, Some(""))])
+            && !ascends(&[of_customer("b", 0), of_customer("a", 1)])
     );
-    assert!(rt;
-        ascends(&[
-            of_customer("a", 9),
-            of_customer("b", -1),
-            of_customer("b", 0)
-        ])
-    );
-    assert!(rt; !ascends(&[of_customer("b", 0), of_customer("a", 1)]));
 }
 
 /// The number of bytes of a text.
