@@ -1,5 +1,5 @@
 -- Equality and order of pairs and triples, part by part from the first.
-use Rattle.std.specs.Prelude.{◌≡◌, Bool, ◌&&◌, Decides}
+use Rattle.std.specs.Prelude.{◌≡◌, Bool, ◌&&◌}
 use Rattle.std.specs.Cmp.{IsTotalOrder, then_total, on_total, both_tied}
 use Rattle.std.specs.declared.cmp.Ordering.{Ordering}
 use Rattle.std.specs.Ordering.{is_eq, ordering_then}
