@@ -142,7 +142,9 @@ def owner_name(owner, with_arguments=False):
     parameters, trait, arguments, of = split_impl(owner)
     own = [camel(it) for it in arguments if it and it not in parameters]
     lent = "Ref" if of.startswith("&") and of[1:] in parameters else ""
-    return (lent or camel(of)) + (camel(trait) if trait else "") + "".join(own if with_arguments else [])
+    # (an impl of `Run<'static, NoGate>` by itself is Run+NoGate)
+    at = [] if trait else [it for it in re.findall(r"[<,] ?(\w+)(?=[,>])", of) if it not in parameters]
+    return "+".join([lent or camel(of), *at]) + (camel(trait) if trait else "") + "".join(own if with_arguments else [])
 
 
 def path_of(function):

@@ -3,6 +3,7 @@ ghost use Rattle.std.specs.Prelude.{◌≡◌};
 
 use spliterator::NoMemory;
 use std::fmt::Display;
+use stealing_pool::NoGate;
 use thiserror::Error;
 
 /// How a terminal operation runs: on how many workers, 1 to 64; down to which estimate of a leaf, at most 2^62, where 0 stands for
@@ -12,6 +13,20 @@ pub struct Run<'a, H> {
     pub workers: u32,
     pub target: u64,
     pub gate: &'a H,
+}
+
+impl Run<'static, NoGate> {
+    /// On so many workers, 1 to 64, with four leaves a worker, and nobody is told of a leaf.
+    pub fn new(workers: u32) -> Run<'static, NoGate>
+        ensures workers { result.workers ≡ workers }
+        ensures target { result.target ≡ 0 }
+    {
+        Run {
+            workers,
+            target: 0,
+            gate: &NoGate,
+        }
+    }
 }
 
 /// Why a terminal operation gave no value. Unlawful settings are told before anything runs.

@@ -13,6 +13,7 @@ mod divisor;
 mod itself;
 mod logic;
 mod numbers;
+mod pairs;
 mod small_divisor;
 mod texts;
 
@@ -24,4 +25,5 @@ pub use divisor::Divisor;
 pub use itself::{Cloned, Itself};
 pub use logic::{And, Not, Or};
 pub use numbers::{Modulo, Negated, Plus, Times};
+pub use pairs::{OnFirst, OnSecond};
 pub use texts::{Length, StartsWith};

@@ -6,7 +6,7 @@ ghost use Rattle.stages.specs.Choices.{last_of};
 
 use parts::{
     Above, And, Below, Cloned, Composed, Divisible, Divisor, Equal, Even, Itself, Length, Modulo,
-    Negated, Not, Or, Plus, StartsWith, Times, mapping, operator, test,
+    Negated, Not, OnFirst, OnSecond, Or, Plus, StartsWith, Times, mapping, operator, test,
 };
 use spliterator::{NoMemory, Value};
 use stages::{
@@ -75,6 +75,9 @@ fn functions_of_texts(rt: HostRuntime) -> Result<(), Fail> {
     let owned = String::from_str(rt.alloc(), "ab")?;
     let clone = image(&Cloned::new(), &owned)?;
     assert!(rt; holds(&StartsWith(""), &owned) && clone == owned);
+    let pair = ("ab", 9);
+    assert!(rt; image(&OnFirst(Length), &pair)? == 2 && image(&OnSecond(Plus(1)), &pair)? == 10);
+    assert!(rt; holds(&OnFirst(StartsWith("a")), &pair) && !holds(&OnSecond(Above(9)), &pair));
     Ok(())
 }
 

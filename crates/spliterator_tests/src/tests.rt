@@ -66,6 +66,38 @@ fn lists_of_texts_are_ordered_by_their_contents(rt: HostRuntime) -> Result<(), A
     Ok(())
 }
 
+/// Each part by its own type's order, the first that differs.
+#[test]
+fn tuples_are_ordered_part_by_part(rt: HostRuntime) {
+    let unsigned = [
+        (0u8, 0u16, 0u32),
+        (0, 0, u32::MAX),
+        (0, u16::MAX, 0),
+        (u8::MAX, 0, 0),
+    ];
+    let signed = [
+        (i8::MIN, 9i16, 0i32),
+        (-1, i16::MIN, 0),
+        (-1, -1, i32::MIN),
+        (-1, -1, -1),
+        (0, -1, -1),
+    ];
+    let long = [
+        (0u64, 9usize, 'z'),
+        (u64::MAX, 0, 'z'),
+        (u64::MAX, usize::MAX, 'a'),
+        (u64::MAX, usize::MAX, '😀'),
+    ];
+    let optional = [
+        (false, None),
+        (false, Some("")),
+        (false, Some("a")),
+        (true, None),
+    ];
+    assert!(rt; ascends(&unsigned) && ascends(&signed) && ascends(&long));
+    assert!(rt; ascends(&optional) && !ascends(&[(true, None), (false, Some(""))]));
+}
+
 /// The number of bytes of a text.
 fn length_in_bytes<T: Text>(text: &T) -> usize {
     text.text().len()

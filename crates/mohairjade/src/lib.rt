@@ -1,0 +1,27 @@
+//! All that a program needs of this library, under one name.
+//!
+//! ```text
+//! use mohairjade::{Even, RangeSplit, Run, Stream, Times, WrapAdd, of};
+//!
+//! let numbers = of(RangeSplit::range(0, 100)?).filter(Even).map(Times(3));
+//! let sum = numbers.reduce(&rt, rt.alloc(), &Run::new(4), 0, &WrapAdd::new())?;
+//! ```
+#![tactic(auto)]
+
+pub use collectors::{
+    Collector, CollectorDefinition, CollectorOf, Counting, DuplicateKey, FilteringTo, First,
+    GroupingBy, Joining, MappingTo, Pairing, Partition, PartitioningBy, Reducing, SummingLong,
+    Teeing, ToList, ToMap, ToMapStrict,
+};
+pub use parallel_streams::{MapError, Run, Stream, StreamError, of};
+pub use parts::{
+    Above, And, Below, Cloned, Composed, Divisible, Equal, Even, Itself, Length, Modulo, Negated,
+    Not, OnFirst, OnSecond, Or, Plus, StartsWith, Times, mapping, operator, test,
+};
+pub use sources::{Concat, DequeSplit, LinesSplit, RangeSplit, RangeTooLong, SliceSplit};
+pub use spliterator::{NoMemory, OrderedValue, Spliterator, Text, Value};
+pub use stages::{
+    FirstOf, FromFn, LastOf, ListValue, Mapping, MappingDefinition, Max, Min, Operator,
+    OperatorDefinition, OperatorFn, Sink, Stage, Test, TestDefinition, TestFn, WrapAdd, WrapMul,
+};
+pub use stealing_pool::{Gate, NoGate, RunEntry, RunReport};
