@@ -1,5 +1,5 @@
 -- The place in the leaf is one in the source.
-use Rattle.std.proofs.Common.{◌+◌, arith}
+use Rattle.std.proofs.Common.{arith}
 use Rattle.pipeline_value.proofs.LeafPlaces.{leaf-enough, place-in-leaf}
 use Rattle.split_tree.specs.Plan.{leaves_of}
 use Rattle.pipeline_value.proofs.places.place_in_leaf.Goals as goal

@@ -1,4 +1,4 @@
-use Rattle.std.proofs.Common.{◌≡◌, ◌++◌, [], ◌∙◌, ap, fold, map, sym}
+use Rattle.std.proofs.Common.{◌++◌, [], ◌∙◌, ap, fold, map, sym}
 use Rattle.std.proofs.lemmas.Result.{on_ok_weaker}
 use Rattle.indexmap.specs.IndexSet.{insert_key}
 use Rattle.pipeline_value.specs.DistinctLaws.{kept-again}
