@@ -1,5 +1,5 @@
 -- The texts of results, by what the results are seen as.
-use Rattle.std.specs.Prelude.{◌≡◌, ℕ, Bool, List, [], ◌∷◌, ◌++◌, All, fold, map, refl, codes, Option, Some, None, option_map}
+use Rattle.std.specs.Prelude.{◌≡◌, ⊤, ℕ, Bool, List, [], ◌∷◌, ◌++◌, All, fold, map, refl, codes, Option, Some, None, option_map}
 use Rattle.std.specs.Option.{option_map_or}
 use Rattle.std.proofs.Common.{ap, ap₂, ◌∙◌}
 use Rattle.std.proofs.lemmas.List.Elements.{All-head, All-tail}
@@ -8,7 +8,10 @@ use Rattle.either.specs.declared.Either.TheVariants.{Left, Right}
 use Rattle.either.specs.Either.{either}
 use Rattle.stages.specs.Choices.{first_of}
 use Rattle.stages.specs.Distinct.{distinct}
-use Rattle.collectors.specs.Reductions.{reduced, first}
+use Rattle.collectors.specs.Laws.{CollectorLaws}
+use Rattle.collectors.specs.NestedLaws.{add_image, mapping_laws}
+use Rattle.collectors.specs.Reductions.{reduced, first, reduce_add, reduce_merge}
+use Rattle.collectors.specs.Texts.{join_with, joining_laws}
 use Rattle.collectors.specs.Either.{either_gives}
 use Rattle.collectors.specs.Grouping.{IsGrouping, of_key, pairs, contents}
 use Rattle.pipeline_meaning.specs.Texts.{optional_text, list_text, map_text, entry_text, with_commas}
@@ -19,12 +22,11 @@ module _ {A C : Type 0} (text : A → List ℕ) (content : A → C) (spelling : 
   optional_tells None p h = ap (optional_text spelling) h
   optional_tells (Some x) p h = ap (λ t. codes "Optional[" ++ t ++ codes "]") (spelled x) ∙ ap (optional_text spelling) h
 
-  texts-same : (l : List A) → map text l ≡ map spelling (map content l)
-  texts-same [] = refl
-  texts-same (x ∷ l) = ap₂ (λ t ts. t ∷ ts) (spelled x) (texts-same l)
-
-  pub list_tells : (l : List A) (m : List C) → map content l ≡ m → list_text text l ≡ list_text spelling m
-  list_tells l m h = ap (λ ts. codes "[" ++ with_commas ts ++ codes "]") (texts-same l) ∙ ap (list_text spelling) h
+-- items' texts that are joined
+pub joined_text_laws : {X : Type 0} (spelling : X → List ℕ) (between : List ℕ) (is_value : X → Type 0)
+    → CollectorLaws is_value None (add_image spelling None (reduce_add (join_with between))) (reduce_merge (join_with between))
+joined_text_laws spelling between is_value =
+    mapping_laws spelling None (reduce_add (join_with between)) is_value (λ _. ⊤) (λ _ _. tt) (reduce_merge (join_with between)) (joining_laws between (λ _. ⊤))
 
 -- the text of the side that is there
 pub either_tells : {C D L R S : Type 0} (gives : C → L → R → Type 0) (gives' : D → L → S → Type 0) (text : R → List ℕ) (text' : S → List ℕ)

@@ -6,11 +6,12 @@ mod at_most_one;
 mod block_functions;
 mod failing;
 mod functions;
-mod list_text;
+mod joined_text;
 mod number_bases;
 mod number_copies;
 mod number_steps;
 mod number_summaries;
+mod rope;
 mod seeded_hashes;
 mod spelled;
 mod summarizes;
@@ -27,13 +28,14 @@ pub use functions::{
     NumberChange, NumberCheck, NumberComparison, NumberMapping, NumberMerging, TextCheck,
     TextMerging,
 };
-pub use list_text::ListText;
+pub use joined_text::JoinedText;
 pub use number_bases::{NumberBaseCollector, NumberBaseContainer, NumberBaseResult, number_base};
 pub use number_steps::NumberSteps;
 pub use number_summaries::{
     NumberInnerCollector, NumberSummaryCollector, NumberSummaryContainer, NumberSummaryResult,
     number_inner, number_summary,
 };
+pub use rope::Rope;
 pub use seeded_hashes::{Seed, SeededHashes};
 pub use spelled::Spelled;
 pub use summarizes::{Both, Summarizes, grouped, write_result};

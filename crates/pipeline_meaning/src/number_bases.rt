@@ -6,16 +6,15 @@ ghost use Rattle.std.specs.Ordering.{int_eq};
 ghost use Rattle.spliterator.specs.Values.{IsI64, int_eq-decides};
 ghost use Rattle.stages.specs.Operators.{associative-tested};
 ghost use Rattle.collectors.specs.Either.{either_laws};
-ghost use Rattle.collectors.specs.NestedLaws.{list_laws};
 ghost use Rattle.collectors.specs.Reductions.{reduced, reduce_laws};
 ghost use Rattle.collectors.specs.Sums.{sum_laws};
 ghost use Rattle.pipeline_meaning.specs.Functions.{number_join};
 ghost use Rattle.pipeline_meaning.specs.PreparedLaws.{number_join-value};
 ghost use Rattle.pipeline_meaning.specs.Summaries.{number_base_text};
-ghost use Rattle.pipeline_meaning.specs.SummaryLaws.{optional_tells, list_tells, either_tells};
+ghost use Rattle.pipeline_meaning.specs.SummaryLaws.{optional_tells, either_tells, joined_text_laws};
 
-use crate::{NumberMerging, Summarizes, Written};
-use collectors::{Collector, Counting, Reducing, SummingLong, ToList};
+use crate::{JoinedText, NumberMerging, Summarizes, Written};
+use collectors::{Collector, Counting, Reducing, SummingLong};
 use either::{Either, Left, Right};
 use parts::Itself;
 use pipeline_language::{NumberBase, NumberMerge};
@@ -25,7 +24,7 @@ use std::alloc::Global;
 // What is made of numbers at once, as is chosen at run time.
 type NumberBaseChoice = Either<
     Either<Counting<i64>, SummingLong<i64, Itself>>,
-    Either<Reducing<i64, NumberMerging>, ToList<i64>>,
+    Either<Reducing<i64, NumberMerging>, JoinedText<'static, i64>>,
 >;
 
 /// What is made of numbers at once. It has a type of its own, since a tower of `Either`s costs what stands over it.
@@ -75,7 +74,7 @@ impl Collector for NumberBaseCollector {
 
     ghost gives = { λ c l result. ⟦<NumberBaseChoice as Collector>⟧.gives c.chosen l result.made };
 
-    ghost laws = { λ c. either_laws IsI64 _ _ _ _ _ _ (either_laws IsI64 _ _ _ _ _ _ (λ _. sum_laws (λ _. pos 1) IsI64) (λ _. sum_laws (λ x. x) IsI64)) (either_laws IsI64 _ _ _ _ _ _ (λ r. reduce_laws (number_join r.operator.merge) IsI64 (number_join-value r.operator.merge) (associative-tested int_eq int_eq-decides IsI64 (number_join r.operator.merge) r.associative)) (λ _. list_laws IsI64)) c.chosen };
+    ghost laws = { λ c. either_laws IsI64 _ _ _ _ _ _ (either_laws IsI64 _ _ _ _ _ _ (λ _. sum_laws (λ _. pos 1) IsI64) (λ _. sum_laws (λ x. x) IsI64)) (either_laws IsI64 _ _ _ _ _ _ (λ r. reduce_laws (number_join r.operator.merge) IsI64 (number_join-value r.operator.merge) (associative-tested int_eq int_eq-decides IsI64 (number_join r.operator.merge) r.associative)) (λ joined. joined_text_laws signed_decimal joined.between.now IsI64)) c.chosen };
 
     fn supply(&self) -> Result<NumberBaseContainer, NoMemory> {
         let held = self.chosen.supply()?;
@@ -112,7 +111,7 @@ impl Collector for NumberBaseCollector {
 impl Summarizes for NumberBaseCollector {
     ghost summary = { λ c. ⟦<NumberBaseChoice as Summarizes>⟧.summary c.chosen };
 
-    ghost tells = { λ c l result. either_tells _ _ _ _ _ _ (either_tells _ _ _ _ _ _ (λ _ _ _ h. ap signed_decimal h) (λ _ _ _ h. ap signed_decimal h)) (either_tells _ _ _ _ _ _ (λ r l made. optional_tells signed_decimal (λ x. x) signed_decimal (λ _. refl) made (reduced (number_join r.operator.merge) l)) (λ _ l made. list_tells signed_decimal (λ x. x) signed_decimal (λ _. refl) made.items l)) c.chosen l result.made };
+    ghost tells = { λ c l result. either_tells _ _ _ _ _ _ (either_tells _ _ _ _ _ _ (λ _ _ _ h. ap signed_decimal h) (λ _ _ _ h. ap signed_decimal h)) (either_tells _ _ _ _ _ _ (λ r l made. optional_tells signed_decimal (λ x. x) signed_decimal (λ _. refl) made (reduced (number_join r.operator.merge) l)) (λ _ _ _ h. h)) c.chosen l result.made };
 }
 
 /// The collector of a base of numbers.
@@ -126,7 +125,7 @@ pub fn number_base(alloc: Global, base: NumberBase) -> NumberBaseCollector
         NumberBase::Max => Right(Left(Reducing::new(NumberMerging::of(NumberMerge::Max)))),
         NumberBase::Min => Right(Left(Reducing::new(NumberMerging::of(NumberMerge::Min)))),
         NumberBase::First => Right(Left(Reducing::new(NumberMerging::of(NumberMerge::First)))),
-        NumberBase::ToList => Right(Right(ToList::new(alloc))),
+        NumberBase::ToList => Right(Right(JoinedText::list(alloc))),
     };
     NumberBaseCollector { chosen }
 }

@@ -3,21 +3,21 @@ ghost use Rattle.std.specs.Prelude.{◌≡◌, ◌++◌, ℕ, pos, List, OnOk, s
 ghost use Rattle.std.specs.Fmt.{signed_decimal};
 ghost use Rattle.either.specs.Either.{either};
 ghost use Rattle.stages.specs.Wrapping.{wrapped};
-ghost use Rattle.collectors.specs.Reductions.{reduced, first, delimited};
+ghost use Rattle.collectors.specs.Reductions.{reduced, first};
 ghost use Rattle.collectors.specs.Sums.{int_sum};
 ghost use Rattle.pipeline_meaning.specs.Summaries.{groups_text, parts_text, merged_text};
-ghost use Rattle.pipeline_meaning.specs.Texts.{optional_text, list_text, partition_text, pair_text};
-ghost use Rattle.pipeline_meaning.specs.SummaryLaws.{optional_tells, list_tells, either_tells, groups_tell, merged_tells};
+ghost use Rattle.pipeline_meaning.specs.Texts.{optional_text, partition_text, pair_text};
+ghost use Rattle.pipeline_meaning.specs.SummaryLaws.{optional_tells, either_tells, groups_tell, merged_tells};
 ghost use Rattle.std.proofs.Common.{ap, ap₂, ◌∙◌};
 ghost use Rattle.collectors.specs.NestedLaws.{fails};
 
 use crate::{Spelled, Written};
 use collectors::{
-    Collector, Counting, FilteringTo, First, GroupingBy, Joining, MappingTo, Pairing,
-    PartitioningBy, Reducing, SummingLong, Teeing, ToList, ToMap,
+    Collector, Counting, FilteringTo, First, GroupingBy, MappingTo, Pairing, PartitioningBy,
+    Reducing, SummingLong, Teeing, ToMap,
 };
 use either::Either;
-use spliterator::{NoMemory, Text, Value};
+use spliterator::{NoMemory, Value};
 use stages::{Mapping, Operator, Test};
 use std::alloc::Global;
 use std::hash::{BuildHasher, Hash};
@@ -99,18 +99,6 @@ impl<T: Spelled + Clone + Drop> Summarizes for First<T> {
     ghost summary = { λ _ l. optional_text T.spelling (first l) };
 
     ghost tells = { λ _ l made. optional_tells T.text T.content T.spelling T.spelled made (first l) };
-}
-
-impl<T: Spelled + Clone + Drop> Summarizes for ToList<T> {
-    ghost summary = { λ _ l. list_text T.spelling l };
-
-    ghost tells = { λ _ l made. list_tells T.text T.content T.spelling T.spelled made.items l };
-}
-
-impl<'a, T: Text> Summarizes for Joining<'a, T> {
-    ghost summary = { λ c l. c.prefix.now ++ delimited c.delimiter.now l ++ c.suffix.now };
-
-    ghost tells = { λ _ _ _ h. h };
 }
 
 impl<A: Summarizes, B: Summarizes + Collector<Item = A::Item>> Summarizes for Either<A, B>

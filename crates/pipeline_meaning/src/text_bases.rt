@@ -3,15 +3,13 @@ ghost use Rattle.std.proofs.Common.{ap};
 ghost use Rattle.std.specs.Prelude.{◌≡◌, ⊤, ℕ, pos, refl, List};
 ghost use Rattle.std.specs.Fmt.{signed_decimal};
 ghost use Rattle.collectors.specs.Either.{either_laws};
-ghost use Rattle.collectors.specs.NestedLaws.{list_laws};
 ghost use Rattle.collectors.specs.Reductions.{first, first_laws};
 ghost use Rattle.collectors.specs.Sums.{sum_laws};
-ghost use Rattle.collectors.specs.Texts.{joining_laws};
 ghost use Rattle.pipeline_meaning.specs.Summaries.{itself, text_base_text};
-ghost use Rattle.pipeline_meaning.specs.SummaryLaws.{optional_tells, list_tells, either_tells};
+ghost use Rattle.pipeline_meaning.specs.SummaryLaws.{optional_tells, either_tells, joined_text_laws};
 
-use crate::{Summarizes, Written};
-use collectors::{Collector, Counting, First, Joining, ToList};
+use crate::{JoinedText, Summarizes, Written};
+use collectors::{Collector, Counting, First};
 use either::{Either, Left, Right};
 use pipeline_language::TextBase;
 use spliterator::NoMemory;
@@ -20,7 +18,7 @@ use std::alloc::Global;
 // What is made of texts at once, as is chosen at run time.
 type TextBaseChoice<'a> = Either<
     Either<Counting<&'a str>, First<&'a str>>,
-    Either<ToList<&'a str>, Joining<'a, &'a str>>,
+    JoinedText<'a, &'a str>,
 >;
 
 /// What is made of texts at once.
@@ -70,7 +68,7 @@ impl<'a> Collector for TextBaseCollector<'a> {
 
     ghost gives = { λ c l result. ⟦<TextBaseChoice<'a> as Collector>⟧.gives c.chosen l result.made };
 
-    ghost laws = { λ c. either_laws (λ _. ⊤) _ _ _ _ _ _ (either_laws (λ _. ⊤) _ _ _ _ _ _ (λ _. sum_laws (λ _. pos 1) (λ _. ⊤)) (λ _. first_laws (λ _. ⊤))) (either_laws (λ _. ⊤) _ _ _ _ _ _ (λ _. list_laws (λ _. ⊤)) (λ joining. joining_laws joining.delimiter.now (λ _. ⊤))) c.chosen };
+    ghost laws = { λ c. either_laws (λ _. ⊤) _ _ _ _ _ _ (either_laws (λ _. ⊤) _ _ _ _ _ _ (λ _. sum_laws (λ _. pos 1) (λ _. ⊤)) (λ _. first_laws (λ _. ⊤))) (λ joined. joined_text_laws (λ text. text) joined.between.now (λ _. ⊤)) c.chosen };
 
     fn supply(&self) -> Result<TextBaseContainer<'a>, NoMemory> {
         let held = self.chosen.supply()?;
@@ -111,7 +109,7 @@ impl<'a> Collector for TextBaseCollector<'a> {
 impl<'a> Summarizes for TextBaseCollector<'a> {
     ghost summary = { λ c. ⟦<TextBaseChoice<'a> as Summarizes>⟧.summary c.chosen };
 
-    ghost tells = { λ c l result. either_tells _ _ _ _ _ _ (either_tells _ _ _ _ _ _ (λ _ _ _ h. ap signed_decimal h) (λ _ l made. optional_tells (λ text. text.now) (λ text. text.now) itself (λ _. refl) made (first l))) (either_tells _ _ _ _ _ _ (λ _ l made. list_tells (λ text. text.now) (λ text. text.now) itself (λ _. refl) made.items l) (λ _ _ _ h. h)) c.chosen l result.made };
+    ghost tells = { λ c l result. either_tells _ _ _ _ _ _ (either_tells _ _ _ _ _ _ (λ _ _ _ h. ap signed_decimal h) (λ _ l made. optional_tells (λ text. text.now) (λ text. text.now) itself (λ _. refl) made (first l))) (λ _ _ _ h. h) c.chosen l result.made };
 }
 
 /// The collector of a base of texts.
@@ -122,8 +120,8 @@ pub fn text_base<'a>(alloc: Global, base: TextBase<'a>) -> TextBaseCollector<'a>
     let chosen = match base {
         TextBase::Count => Left(Left(Counting::new())),
         TextBase::First => Left(Right(First::new())),
-        TextBase::ToList => Right(Left(ToList::new(alloc))),
-        TextBase::Joining(delimiter) => Right(Right(Joining::new(alloc, delimiter, "", ""))),
+        TextBase::ToList => Right(JoinedText::list(alloc)),
+        TextBase::Joining(delimiter) => Right(JoinedText::new(alloc, delimiter)),
     };
     TextBaseCollector { chosen }
 }

@@ -2,8 +2,9 @@
 ghost use Rattle.either.specs.Either.{either};
 ghost use Rattle.std.specs.Prelude.{◌≡◌, ◌++◌, ℕ, List, IfOk, OnOk, string_bytes};
 ghost use Rattle.std.specs.Fmt.{signed_decimal};
-ghost use Rattle.pipeline_meaning.specs.Texts.{truth_text, optional_text, list_text, entry_text, map_text, partition_text, pair_text};
+ghost use Rattle.pipeline_meaning.specs.Texts.{truth_text, optional_text, entry_text, map_text, partition_text, pair_text};
 
+use crate::Rope;
 use collectors::Partition;
 use either::{Either, Left, Right};
 use indexmap::IndexMap;
@@ -63,6 +64,16 @@ impl Written for String {
     }
 }
 
+/// The text as it stands.
+impl Written for Rope {
+    ghost text = { λ text. text };
+
+    fn write_to(&self, out: &mut String) -> Result<(), NoMemory> {
+        self.copy_to(out)?;
+        Ok(())
+    }
+}
+
 /// A value's text.
 pub fn text_of<V: Written>(alloc: Global, value: &V) -> Result<String, NoMemory>
     ensures { IfOk result (λ text. string_bytes text ≡ V.text value.now) }
@@ -96,21 +107,6 @@ impl<T: Written> Written for Option<T> {
             }
             None => "Optional.empty".write_to(out),
         }
-    }
-}
-
-/// `[a, b]`.
-impl<T: Written> Written for Vec<T> {
-    ghost text = { λ v. list_text T.text v.items };
-
-    fn write_to(&self, out: &mut String) -> Result<(), NoMemory> {
-        "[".write_to(out)?;
-        let mut between = "";
-        for item in self {
-            write_behind(between, item, out)?;
-            between = ", ";
-        }
-        "]".write_to(out)
     }
 }
 

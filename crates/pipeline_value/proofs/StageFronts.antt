@@ -117,7 +117,7 @@ stages-decided [] d s front whole within is same = absurd (omega arith)
 stages-decided (t ∷ stages) d s front whole within is same = ap (number_stages stages) (subst (λ u. number_stage u whole ≡ number_stage u front) is same)
 
 -- what is told of a front that is enough is told of the whole
-pub told-by-front : (terminal : NumberTerminal) (stages before asking : List NumberStage) (size : ℕ) (whole items : List ℤ) (r : Result (String Global) ValueError)
+pub told-by-front : (terminal : NumberTerminal) (stages before asking : List NumberStage) (size : ℕ) (whole items : List ℤ) (r : Result (List ℕ) ValueError)
     → before ++ asking ≡ stages → items ≡ number_stages before (take size whole)
     → ((l : List ℤ) → IsFrontOf items l → number_told terminal (number_stages asking l) ≡ number_told terminal (number_stages asking items))
     → Tells (number_told terminal (number_stages asking items)) r → Tells (number_told terminal (number_stages stages whole)) r

@@ -117,7 +117,7 @@ pipeline_told (pipelines.Numbers source body) = number_body_told body (source_nu
 pipeline_told (pipelines.Texts texts body) = text_body_told body (map (λ text. text.now) texts.items)
 
 -- the answer is what is told; want of memory says nothing
-abbrev pub Tells : Told → Result (String Global) ValueError → Type 0
-Tells told (Ok text) = told ≡ Ok (string_bytes text)
+abbrev pub Tells : Told → Result (List ℕ) ValueError → Type 0
+Tells told (Ok text) = told ≡ Ok text
 Tells told (Err errors.NoMemory) = Unit {0}
 Tells told (Err (errors.DuplicateKey key)) = told ≡ Err (string_bytes key)

@@ -13,7 +13,7 @@ use crate::nested::{paired, parted};
 use crate::told::ValueError;
 use collectors::{Collector, Counting};
 use parallel_streams::Stream;
-use pipeline_meaning::{Spelled, Summarizes, Written, grouped};
+use pipeline_meaning::{Rope, Spelled, Summarizes, Written, grouped};
 use stages::{Mapping, Test};
 use std::hash::Hash;
 use std::thread::Threads;
@@ -24,7 +24,7 @@ pub(crate) fn arranged_value<R, X, K, P, D, H>(
     engine: &Engine<'_, R, H>,
     stream: &X,
     arrangement: Arrangement<K, P, D>,
-) -> Result<String, ValueError>
+) -> Result<Rope, ValueError>
 where
     R: Threads + Sync,
     X: Stream + Sync,
@@ -56,7 +56,7 @@ pub(crate) fn grouped_value<R, X, K, D, H>(
     stream: &X,
     key: K,
     downstream: D,
-) -> Result<String, ValueError>
+) -> Result<Rope, ValueError>
 where
     R: Threads + Sync,
     X: Stream + Sync,
@@ -84,7 +84,7 @@ pub(crate) fn parted_value<R, X, P, D, H>(
     stream: &X,
     test: P,
     downstream: D,
-) -> Result<String, ValueError>
+) -> Result<Rope, ValueError>
 where
     R: Threads + Sync,
     X: Stream + Sync,
@@ -111,7 +111,7 @@ pub(crate) fn paired_value<R, X, D, H>(
     stream: &X,
     first: D,
     second: D,
-) -> Result<String, ValueError>
+) -> Result<Rope, ValueError>
 where
     R: Threads + Sync,
     X: Stream + Sync,

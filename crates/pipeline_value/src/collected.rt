@@ -7,7 +7,7 @@ use crate::engine::Engine;
 use crate::told::{ValueError, ran};
 use collectors::Collector;
 use parallel_streams::Stream;
-use pipeline_meaning::{Summarizes, Written, write_result};
+use pipeline_meaning::{Rope, Summarizes, Written, write_result};
 use std::alloc::Global;
 use std::thread::Threads;
 use stealing_pool::Gate;
@@ -17,7 +17,7 @@ pub(crate) fn collected<R, X, C, H>(
     engine: &Engine<'_, R, H>,
     stream: &X,
     collector: &C,
-) -> Result<String, ValueError>
+) -> Result<Rope, ValueError>
 where
     R: Threads + Sync,
     X: Stream + Sync,
@@ -44,12 +44,12 @@ fn told_summary<C: Summarizes>(
     alloc: Global,
     collector: &C,
     made: &C::Out,
-) -> Result<String, ValueError>
+) -> Result<Rope, ValueError>
 where
     C::Out: Written,
     ensures { (l : List C.Item.Content) → C.gives collector.now l made.now → Tells (Ok (C.summary collector.now l)) result }
 {
     let mut text = String::new(alloc);
     write_result(collector, made, &mut text)?;
-    Ok(text)
+    Ok(Rope::of(alloc, text))
 }

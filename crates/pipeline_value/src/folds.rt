@@ -8,6 +8,7 @@ use crate::told::{ValueError, ran_optional, ran_told};
 use collectors::SummingLong;
 use parallel_streams::Stream;
 use parts::Itself;
+use pipeline_meaning::Rope;
 use stages::{Max, Min, WrapMul};
 use std::thread::Threads;
 use stealing_pool::Gate;
@@ -27,7 +28,7 @@ pub(crate) fn fold_value<R, X, H>(
     engine: &Engine<'_, R, H>,
     stream: &X,
     fold: Fold,
-) -> Result<String, ValueError>
+) -> Result<Rope, ValueError>
 where
     R: Threads + Sync,
     X: Stream<Item = i64> + Sync,

@@ -12,7 +12,7 @@ use crate::numbers::{list_value, range_items};
 use crate::told::ValueError;
 use barriers::{Demand, FirstHit, TakeWhile};
 use pipeline_language::{NumberBody, NumberStage, NumberTerminal, NumberTest};
-use pipeline_meaning::NumberCheck;
+use pipeline_meaning::{NumberCheck, Rope};
 use sources::{RangeSplit, Windowed};
 use spliterator::Spliterator;
 use std::thread::Threads;
@@ -37,7 +37,7 @@ pub(crate) fn front_value<R: Threads + Sync, H: Gate + Sync>(
     range: RangeSplit,
     size: u64,
     body: &NumberBody,
-) -> Option<Result<String, ValueError>>
+) -> Option<Result<Rope, ValueError>>
     requires body { NumberBodyFits body.now }
     ensures { IfSome result (Tells (number_body_told body.now (⟦<RangeSplit as Spliterator>⟧.items range))) }
 {

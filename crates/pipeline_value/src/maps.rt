@@ -12,7 +12,7 @@ use crate::told::{ValueError, ran, told};
 use collectors::{Collector, DuplicateKey, ToMapStrict};
 use indexmap::IndexMap;
 use parallel_streams::Stream;
-use pipeline_meaning::{SeededHashes, Spelled, text_of};
+use pipeline_meaning::{Rope, SeededHashes, Spelled, text_of};
 use spliterator::Value;
 use stages::{Mapping, Operator};
 use std::alloc::Global;
@@ -27,7 +27,7 @@ pub(crate) fn merged_value<R, X, U, K, V, M, H>(
     key: K,
     value: V,
     merge: M,
-) -> Result<String, ValueError>
+) -> Result<Rope, ValueError>
 where
     R: Threads + Sync,
     X: Stream + Sync,
@@ -57,7 +57,7 @@ pub(crate) fn strict_value<R, X, K, V, H>(
     stream: &X,
     key: K,
     value: V,
-) -> Result<String, ValueError>
+) -> Result<Rope, ValueError>
 where
     R: Threads + Sync,
     X: Stream + Sync,
@@ -87,7 +87,7 @@ fn told_strict<T: Value, K: Mapping<T>, V: Mapping<T>>(
     alloc: Global,
     _strict: &ToMapStrict<T, K, V, SeededHashes>,
     made: &Result<IndexMap<K::Out, V::Out, SeededHashes>, DuplicateKey<K::Out>>,
-) -> Result<String, ValueError>
+) -> Result<Rope, ValueError>
 where
     K::Out: Spelled + Hash + Drop,
     V::Out: Spelled + Drop,

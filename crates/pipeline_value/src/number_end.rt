@@ -10,7 +10,7 @@ use crate::number_maps::{map_value, strict_map_value};
 use crate::told::{ValueError, ran_optional, ran_text, ran_told};
 use parallel_streams::Stream;
 use pipeline_language::NumberTerminal;
-use pipeline_meaning::{ListText, NumberCheck as Check};
+use pipeline_meaning::{JoinedText, NumberCheck as Check, Rope};
 use std::thread::Threads;
 use stealing_pool::Gate;
 
@@ -19,7 +19,7 @@ pub(crate) fn number_end<R, X, H>(
     engine: &Engine<'_, R, H>,
     stream: &X,
     terminal: &NumberTerminal,
-) -> Result<String, ValueError>
+) -> Result<Rope, ValueError>
 where
     R: Threads + Sync,
     X: Stream<Item = i64> + Sync,
@@ -41,7 +41,7 @@ where
         NumberTerminal::Count => fold_value(engine, stream, Fold::Count),
         NumberTerminal::FindFirst => ran_optional(engine, stream.find_first(rt, alloc, run)),
         NumberTerminal::ToList => {
-            let list = ListText::new(alloc);
+            let list = JoinedText::list(alloc);
             ran_text(engine, stream.collect(rt, alloc, run, &list))
         }
         NumberTerminal::AllMatch(test) => {

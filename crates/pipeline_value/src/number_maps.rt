@@ -8,7 +8,7 @@ use crate::maps::{merged_value, strict_value};
 use crate::told::ValueError;
 use parallel_streams::Stream;
 use pipeline_language::{NumberFunction, NumberMerge};
-use pipeline_meaning::{NumberMapping, NumberMerging};
+use pipeline_meaning::{NumberMapping, NumberMerging, Rope};
 use std::thread::Threads;
 use stealing_pool::Gate;
 
@@ -19,7 +19,7 @@ pub(crate) fn map_value<R, X, H>(
     key: NumberFunction,
     value: NumberFunction,
     merge: NumberMerge,
-) -> Result<String, ValueError>
+) -> Result<Rope, ValueError>
 where
     R: Threads + Sync,
     X: Stream<Item = i64> + Sync,
@@ -41,7 +41,7 @@ pub(crate) fn strict_map_value<R, X, H>(
     stream: &X,
     key: NumberFunction,
     value: NumberFunction,
-) -> Result<String, ValueError>
+) -> Result<Rope, ValueError>
 where
     R: Threads + Sync,
     X: Stream<Item = i64> + Sync,

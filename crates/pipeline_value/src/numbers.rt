@@ -13,7 +13,7 @@ use crate::told::ValueError;
 use barriers::{DropWhile, Limit, Skip, TakeWhile};
 use parallel_streams::{Stream, of};
 use pipeline_language::{NumberBody, NumberStage, NumberTerminal};
-use pipeline_meaning::{AtMostOne, NumberCheck, NumberSteps};
+use pipeline_meaning::{AtMostOne, NumberCheck, NumberSteps, Rope};
 use sources::{RangeSplit, SliceSplit, Windowed};
 use spliterator::{NoMemory, Spliterator};
 use stages::{Nothing, Stage, Then};
@@ -26,7 +26,7 @@ pub(crate) fn number_value<R, S, A, H>(
     source: S,
     front: A,
     body: &NumberBody,
-) -> Result<String, ValueError>
+) -> Result<Rope, ValueError>
 where
     R: Threads + Sync,
     S: Windowed + Copy + Drop + Send + Sync,
@@ -55,7 +55,7 @@ pub(crate) fn list_value<R: Threads + Sync, H: Gate + Sync>(
     items: Vec<i64>,
     stages: &[NumberStage],
     terminal: &NumberTerminal,
-) -> Result<String, ValueError>
+) -> Result<Rope, ValueError>
     requires fits { All NumberStageFits stages.now }
     ensures { Tells (number_told terminal.now (number_stages stages.now items.items)) result }
 {

@@ -11,10 +11,9 @@ use crate::text_groups::text_arrangement;
 use crate::text_maps::{map_value, strict_map_value};
 use crate::text_parts::text_arranged_value;
 use crate::told::{ValueError, ran_optional, ran_text, ran_told};
-use collectors::Joining;
 use parallel_streams::{Source, Staged, Stream};
 use pipeline_language::TextTerminal;
-use pipeline_meaning::{ListText, Spelled, TextCheck, TextSteps};
+use pipeline_meaning::{JoinedText, Rope, Spelled, TextCheck, TextSteps};
 use sources::SliceSplit;
 use spliterator::{OrderedValue, Text};
 use std::hash::Hash;
@@ -29,7 +28,7 @@ pub(crate) fn text_end<'s, 'a, R: Threads + Sync, H: Gate + Sync>(
     engine: &Engine<'_, R, H>,
     stream: &Texts<'s, 'a>,
     terminal: &TextTerminal<'a>,
-) -> Result<String, ValueError>
+) -> Result<Rope, ValueError>
     requires stream { ⟦<Texts<'s, 'a> as Stream>⟧.ready stream.now }
     ensures { Tells (text_told terminal.now (⟦<Texts<'s, 'a> as Stream>⟧.value stream.now)) result }
 {
@@ -44,7 +43,7 @@ fn plain_end<T, R, X, H>(
     engine: &Engine<'_, R, H>,
     stream: &X,
     terminal: &TextTerminal<'_>,
-) -> Result<String, ValueError>
+) -> Result<Rope, ValueError>
 where
     T: Text + OrderedValue + Spelled + Hash + Clone + Copy + Drop + Send + Sync,
     R: Threads + Sync,
@@ -64,7 +63,7 @@ where
         TextTerminal::Count => ran_told(engine, stream.count(rt, alloc, run)),
         TextTerminal::FindFirst => ran_optional(engine, stream.find_first(rt, alloc, run)),
         TextTerminal::ToList => {
-            let list = ListText::new(alloc);
+            let list = JoinedText::list(alloc);
             ran_text(engine, stream.collect(rt, alloc, run, &list))
         }
         TextTerminal::AllMatch(test) => {
@@ -80,11 +79,11 @@ where
             ran_told(engine, stream.none_match(rt, alloc, run, &check))
         }
         TextTerminal::Joining(between) => {
-            let joining = Joining::new(alloc, between, "", "");
+            let joining = JoinedText::new(alloc, between);
             ran_text(engine, stream.collect(rt, alloc, run, &joining))
         }
         TextTerminal::JoiningWithin(between, front, back) => {
-            let joining = Joining::new(alloc, between, front, back);
+            let joining = JoinedText::within(alloc, between, front, back);
             ran_text(engine, stream.collect(rt, alloc, run, &joining))
         }
         TextTerminal::ToMap(key, value) => map_value(engine, stream, key, value),

@@ -11,7 +11,7 @@ use crate::told::ValueError;
 use parallel_streams::Stream;
 use parts::{Itself, Length};
 use pipeline_language::{TextFunction, TextValue};
-use pipeline_meaning::{NumberMerging, Spelled, TextMerging};
+use pipeline_meaning::{NumberMerging, Rope, Spelled, TextMerging};
 use spliterator::{OrderedValue, Text};
 use stages::Mapping;
 use std::hash::Hash;
@@ -24,7 +24,7 @@ pub(crate) fn map_value<T, R, X, H>(
     stream: &X,
     key: TextFunction,
     value: TextValue,
-) -> Result<String, ValueError>
+) -> Result<Rope, ValueError>
 where
     T: Text + OrderedValue + Spelled + Hash + Copy + Drop + Send + Sync,
     R: Threads + Sync,
@@ -49,7 +49,7 @@ pub(crate) fn strict_map_value<T, R, X, H>(
     stream: &X,
     key: TextFunction,
     value: TextFunction,
-) -> Result<String, ValueError>
+) -> Result<Rope, ValueError>
 where
     T: Text + OrderedValue + Spelled + Hash + Copy + Drop + Send + Sync,
     R: Threads + Sync,
@@ -74,7 +74,7 @@ fn text_map<T, R, X, K, H>(
     stream: &X,
     key: K,
     value: TextValue,
-) -> Result<String, ValueError>
+) -> Result<Rope, ValueError>
 where
     T: Text + OrderedValue + Spelled + Copy + Drop + Send + Sync,
     R: Threads + Sync,
@@ -107,7 +107,7 @@ fn text_strict_map<T, R, X, K, H>(
     stream: &X,
     key: K,
     value: TextFunction,
-) -> Result<String, ValueError>
+) -> Result<Rope, ValueError>
 where
     T: Text + OrderedValue + Spelled + Copy + Drop + Send + Sync,
     R: Threads + Sync,

@@ -13,7 +13,7 @@ use collectors::{Collector, Counting};
 use parallel_streams::Stream;
 use parts::{Itself, Length};
 use pipeline_language::TextFunction;
-use pipeline_meaning::{Spelled, Summarizes, Written};
+use pipeline_meaning::{Rope, Spelled, Summarizes, Written};
 use spliterator::{OrderedValue, Text};
 use stages::Test;
 use std::hash::Hash;
@@ -25,7 +25,7 @@ pub(crate) fn text_arranged_value<T, R, X, P, D, H>(
     engine: &Engine<'_, R, H>,
     stream: &X,
     arrangement: Arrangement<TextFunction, P, D>,
-) -> Result<String, ValueError>
+) -> Result<Rope, ValueError>
 where
     T: Text + OrderedValue + Spelled + Hash + Copy + Drop + Send + Sync,
     R: Threads + Sync,
@@ -57,7 +57,7 @@ fn groups_value<T, R, X, D, H>(
     stream: &X,
     key: TextFunction,
     downstream: D,
-) -> Result<String, ValueError>
+) -> Result<Rope, ValueError>
 where
     T: Text + OrderedValue + Spelled + Hash + Copy + Drop + Send + Sync,
     R: Threads + Sync,

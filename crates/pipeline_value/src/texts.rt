@@ -16,7 +16,7 @@ use barriers::{DropWhile, Limit, Skip, TakeWhile};
 use parallel_streams::{Stream, of};
 use parts::Length;
 use pipeline_language::{NumberBody, TextEnd, TextStage};
-use pipeline_meaning::{AtMostOne, TextCheck, TextSteps};
+use pipeline_meaning::{AtMostOne, Rope, TextCheck, TextSteps};
 use sources::{SliceSplit, Windowed};
 use spliterator::{NoMemory, OrderedValue, Spliterator, Text};
 use stages::{Map, Stage, Then};
@@ -30,7 +30,7 @@ pub(crate) fn text_value<'a, R: Threads + Sync, H: Gate + Sync>(
     items: Vec<&'a str>,
     stages: &[TextStage<'a>],
     end: &TextEnd<'a>,
-) -> Result<String, ValueError>
+) -> Result<Rope, ValueError>
     requires fits { All TextStageFits stages.now }
     requires end { TextEndFits end.now }
     ensures { Tells (text_end_told end.now (text_stages stages.now (map (λ t. t.now) items.entry.items))) result }
@@ -51,7 +51,7 @@ fn end_value<'s, 'a, R: Threads + Sync, H: Gate + Sync>(
     source: SliceSplit<'s, &'a str>,
     steps: TextSteps<'a>,
     end: &TextEnd<'a>,
-) -> Result<String, ValueError>
+) -> Result<Rope, ValueError>
     requires steps { ⟦<TextSteps<'a> as Stage>⟧.ready steps }
     requires end { TextEndFits end.now }
     ensures { Tells (text_end_told end.now (flat_map (⟦<TextSteps<'a> as Stage>⟧.expand steps.entry) (⟦<SliceSplit<'s, &'a str> as Spliterator>⟧.items source.entry))) result }
@@ -68,7 +68,7 @@ fn lengths_value<T, R, S, A, H>(
     source: S,
     stage: A,
     body: &NumberBody,
-) -> Result<String, ValueError>
+) -> Result<Rope, ValueError>
 where
     T: Text + OrderedValue + Drop + Send + Sync,
     R: Threads + Sync,

@@ -1,6 +1,6 @@
 //! What a pipeline tells: the text of its value, or of a repeated key.
 
-ghost use Rattle.std.specs.Prelude.{◌≡◌, ℕ, List, Option, Ok, Err, IfOk, IsErr, option_map, string_bytes};
+ghost use Rattle.std.specs.Prelude.{◌≡◌, ℕ, List, Option, Ok, Err, IfOk, IsErr, option_map};
 ghost use Rattle.parallel_streams.specs.Runs.{AnswersUnder};
 ghost use Rattle.pipeline_meaning.specs.Texts.{optional_text};
 ghost use Rattle.pipeline_value.specs.Value.{Tells};
@@ -8,7 +8,7 @@ ghost use Rattle.pipeline_value.specs.declared.told.ValueError.TheVariants as va
 
 use crate::engine::Engine;
 use parallel_streams::StreamError;
-use pipeline_meaning::{Spelled, Written, text_of};
+use pipeline_meaning::{Rope, Spelled, Written, text_of};
 use spliterator::NoMemory;
 use std::alloc::{AllocError, Global};
 
@@ -53,17 +53,18 @@ pub(crate) fn ran<V, R, H>(
 }
 
 /// A value, told by its text.
-pub(crate) fn told<V: Written>(alloc: Global, value: &V) -> Result<String, ValueError>
+pub(crate) fn told<V: Written>(alloc: Global, value: &V) -> Result<Rope, ValueError>
     ensures { Tells (Ok (V.text value.now)) result }
 {
-    Ok(text_of(alloc, value)?)
+    let text = text_of(alloc, value)?;
+    Ok(Rope::of(alloc, text))
 }
 
 /// What a stream made under lawful settings, told by its text.
 pub(crate) fn ran_told<V: Written + Drop, R, H>(
     engine: &Engine<'_, R, H>,
     made: Result<V, StreamError>,
-) -> Result<String, ValueError>
+) -> Result<Rope, ValueError>
     requires answers { AnswersUnder engine.now.run.workers engine.now.run.target made }
     ensures { (value : V) → IfOk made (λ v. v ≡ value) → Tells (Ok (V.text value)) result }
 {
@@ -75,7 +76,7 @@ pub(crate) fn ran_told<V: Written + Drop, R, H>(
 pub(crate) fn ran_optional<T: Spelled + Drop, R, H>(
     engine: &Engine<'_, R, H>,
     made: Result<Option<T>, StreamError>,
-) -> Result<String, ValueError>
+) -> Result<Rope, ValueError>
     requires answers { AnswersUnder engine.now.run.workers engine.now.run.target made }
     ensures { (item : Option T.Content) → IfOk made (λ found. option_map T.content found ≡ item) → Tells (Ok (optional_text T.spelling item)) result }
 {
@@ -86,10 +87,10 @@ pub(crate) fn ran_optional<T: Spelled + Drop, R, H>(
 /// A text that a stream made under lawful settings.
 pub(crate) fn ran_text<R, H>(
     engine: &Engine<'_, R, H>,
-    made: Result<String, StreamError>,
-) -> Result<String, ValueError>
+    made: Result<Rope, StreamError>,
+) -> Result<Rope, ValueError>
     requires answers { AnswersUnder engine.now.run.workers engine.now.run.target made }
-    ensures { (bytes : List ℕ) → IfOk made (λ text. string_bytes text ≡ bytes) → Tells (Ok bytes) result }
+    ensures { (bytes : List ℕ) → IfOk made (λ text. text ≡ bytes) → Tells (Ok bytes) result }
 {
     Ok(ran(engine, made)?)
 }

@@ -14,7 +14,7 @@ use crate::texts::text_value;
 use crate::told::{ValueError, told};
 use parallel_streams::Run;
 use pipeline_language::{NumberBody, NumberSource, Pipeline};
-use pipeline_meaning::SeededHashes;
+use pipeline_meaning::{Rope, SeededHashes};
 use sources::RangeSplit;
 use spliterator::{Spliterator, Value};
 use stages::Nothing;
@@ -30,7 +30,7 @@ pub fn pipeline_value<R: Threads + Sync, H: Gate + Sync>(
     hashes: SeededHashes,
     pipeline: Pipeline<'_>,
     run: &Run<'_, H>,
-) -> Result<String, ValueError>
+) -> Result<Rope, ValueError>
     requires settings { IsLawfulRun run.now.workers run.now.target }
     requires fits { PipelineFits pipeline }
     ensures { Tells (pipeline_told pipeline.entry) result }
@@ -61,7 +61,7 @@ fn source_value<R: Threads + Sync, H: Gate + Sync>(
     engine: &Engine<'_, R, H>,
     source: NumberSource,
     body: NumberBody,
-) -> Result<String, ValueError>
+) -> Result<Rope, ValueError>
     requires source { NumberSourceFits source }
     requires body { NumberBodyFits body }
     ensures { Tells (number_body_told body (source_numbers source)) result }
@@ -84,7 +84,7 @@ fn listed_value<R: Threads + Sync, H: Gate + Sync>(
     engine: &Engine<'_, R, H>,
     numbers: Vec<i64>,
     mut body: NumberBody,
-) -> Result<String, ValueError>
+) -> Result<Rope, ValueError>
     requires body { NumberBodyFits body }
     ensures { Tells (number_body_told body numbers.items) result }
 {
@@ -100,7 +100,7 @@ fn narrowed_value<R: Threads + Sync, H: Gate + Sync>(
     engine: &Engine<'_, R, H>,
     range: RangeSplit,
     mut body: NumberBody,
-) -> Result<String, ValueError>
+) -> Result<Rope, ValueError>
     requires body { NumberBodyFits body }
     ensures { Tells (number_body_told body (⟦<RangeSplit as Spliterator>⟧.items range)) result }
 {

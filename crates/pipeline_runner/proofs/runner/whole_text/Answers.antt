@@ -1,5 +1,5 @@
 use Rattle.std.proofs.lemmas.Result.{err_from_is_err_and}
-use Rattle.std.specs.Prelude.{string_bytes}
+use Rattle.std.proofs.Common.{◌∙◌}
 use Rattle.pipeline_value.specs.FitLaws.{fits}
 use Rattle.pipeline_runner.proofs.RunLemmas.{value_passed_on}
 use Rattle.pipeline_runner.proofs.runner.whole_text.Goals as goal
@@ -16,5 +16,4 @@ returns-in_err-text-clause-errors g c =
     value_passed_on c.args.file.now c.in_ok-pipeline.pipeline c.in_err-text.field-0.0 _ c.from_residual-in_err-text.result c.in_ok-pipeline.ensures.meaning c.in_err-text.ensures p.2 p.1
 
 pub returns-clause-text : goal.returns-clause-text
-unfolding lib.Utf8.encode
-returns-clause-text g c = (c.in_ok-pipeline.pipeline, string_bytes c.in_ok-text.text, c.in_ok-pipeline.ensures.meaning, c.in_ok-text.ensures, c.in_ok-push.ensures.bytes)
+returns-clause-text g c = (c.in_ok-pipeline.pipeline, c.in_ok-text.text, c.in_ok-pipeline.ensures.meaning, c.in_ok-text.ensures, c.in_ok-into_segments.ensures ∙ c.in_ok-push_str.ensures)

@@ -5,7 +5,7 @@ pub returns-in-FindFirst : goal.returns-in-FindFirst
 returns-in-FindFirst g c = rw c.in-FindFirst.is (c.ran_optional.ensures _ c.find_first.ensures.value)
 
 pub returns-in-ToList : goal.returns-in-ToList
-returns-in-ToList g c = rw c.in-ToList.is (c.ran_text.ensures _ c.collect.ensures.value)
+returns-in-ToList g c = rw c.in-ToList.is (c.ran_text.ensures _ (rw (c.list-list.ensures.between, c.list-list.ensures.front, c.list-list.ensures.back) at c.collect.ensures.value))
 
 pub returns-in-AllMatch : goal.returns-in-AllMatch
 returns-in-AllMatch g c = rw c.in-AllMatch.is (c.ran_told.ensures _ (rw c.of-check.ensures at c.all_match.ensures.value))

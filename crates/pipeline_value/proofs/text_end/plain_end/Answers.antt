@@ -1,4 +1,5 @@
-use Rattle.std.proofs.Common.{append-nil, ◌∙◌}
+use Rattle.std.proofs.Common.{◌++◌, ap, append-nil, map-id, ◌∙◌}
+use Rattle.collectors.specs.Reductions.{delimited}
 use Rattle.std.proofs.lemmas.Result.{IfOk-weaker}
 use Rattle.pipeline_value.proofs.text_end.plain_end.Goals as goal
 
@@ -9,7 +10,7 @@ pub returns-in-FindFirst : goal.returns-in-FindFirst
 returns-in-FindFirst g c = rw c.in-FindFirst.is (rw c.requires.spelling at (c.ran_optional.ensures _ c.find_first.ensures.value))
 
 pub returns-in-ToList : goal.returns-in-ToList
-returns-in-ToList g c = rw c.in-ToList.is (c.ran_text.ensures _ (rw c.requires.spelling at c.collect.ensures.value))
+returns-in-ToList g c = rw c.in-ToList.is (c.ran_text.ensures _ (rw (c.requires.spelling, c.list-list.ensures.between, c.list-list.ensures.front, c.list-list.ensures.back) at c.collect.ensures.value))
 
 pub returns-in-AllMatch : goal.returns-in-AllMatch
 returns-in-AllMatch g c = rw c.in-AllMatch.is (c.ran_told-in-AllMatch.ensures _ (rw c.of-check.ensures at c.all_match.ensures.value))
@@ -22,8 +23,10 @@ returns-in-NoneMatch g c = rw c.in-NoneMatch.is (c.ran_told-in-NoneMatch.ensures
 
 pub returns-in-Joining : goal.returns-in-Joining
 returns-in-Joining g c =
-    rw c.in-Joining.is (c.ran_text-in-Joining.ensures _ (IfOk-weaker c.collect-in-Joining.result _ _ (λ text is. (rw (c.new-joining.ensures.prefix, c.new-joining.ensures.delimiter, c.new-joining.ensures.suffix) at is) ∙ append-nil _) c.collect-in-Joining.ensures.value))
+    rw c.in-Joining.is (c.ran_text-in-Joining.ensures _ (IfOk-weaker c.collect-in-Joining.result _ _ (λ text is. (rw (c.requires.spelling, c.new-joining.ensures.front, c.new-joining.ensures.between, c.new-joining.ensures.back) at is) ∙ append-nil _ ∙ ap (delimited c.in-Joining.between.now) (map-id (g.X.Stream.value c.args.stream.now))) c.collect-in-Joining.ensures.value))
 
 pub returns-in-JoiningWithin : goal.returns-in-JoiningWithin
 returns-in-JoiningWithin g c =
-    rw c.in-JoiningWithin.is (c.ran_text-in-JoiningWithin.ensures _ (rw (c.new-joining-in-JoiningWithin.ensures.prefix, c.new-joining-in-JoiningWithin.ensures.delimiter, c.new-joining-in-JoiningWithin.ensures.suffix) at c.collect-in-JoiningWithin.ensures.value))
+    rw c.in-JoiningWithin.is (c.ran_text-in-JoiningWithin.ensures _ (IfOk-weaker c.collect-in-JoiningWithin.result _ _
+    (λ text is. (rw (c.requires.spelling, c.within-joining.ensures.front, c.within-joining.ensures.between, c.within-joining.ensures.back) at is) ∙ ap (λ t. c.in-JoiningWithin.front.now ++ t ++ c.in-JoiningWithin.back.now) (ap (delimited c.in-JoiningWithin.between.now) (map-id (g.X.Stream.value c.args.stream.now))))
+    c.collect-in-JoiningWithin.ensures.value))
