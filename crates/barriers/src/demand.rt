@@ -36,6 +36,19 @@ pub trait Demand<T: Value> {
         requires { ready self.now }
         ensures { result ≡ counted self.now (T.content x.now) };
 
+    /// How many items of a block count.
+    fn counting(&self, items: &[T]) -> usize
+        requires { ready self.now }
+        ensures { result ≡ count_by (counted self.now) (map T.content items.now) }
+    {
+        // (no item costs a branch, so that a compiler looks at several at once)
+        let mut counting = 0;
+        for item in items {
+            counting += usize::from(self.counts(item));
+        }
+        counting
+    }
+
     /// How many items of a block are taken until so many count, and how many of these count: all items, where fewer count. No item is
     /// taken behind the last that is wanted.
     fn front(&self, items: &[T], wanted: u64) -> (usize, u64)
@@ -47,11 +60,7 @@ pub trait Demand<T: Value> {
         ensures shortest { let before_last = map T.content (take (result.0 - 1) items.now) in
             0 < result.0 → count_by (counted self.now) before_last < wanted }
     {
-        // (without an exit, so that a compiler looks at several items at once)
-        let mut all = 0;
-        for item in items {
-            all += u64::from(self.counts(item));
-        }
+        let all = self.counting(items) as u64;
         if all < wanted {
             return (items.len(), all);
         }
@@ -147,5 +156,9 @@ impl<T: Value, P: Test<T>> Demand<T> for FirstHit<P> {
 
     fn counts(&self, x: &T) -> bool {
         self.test.holds(x)
+    }
+
+    fn counting(&self, items: &[T]) -> usize {
+        self.test.count_meeting(items)
     }
 }

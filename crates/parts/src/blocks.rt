@@ -1,7 +1,7 @@
 //! Tight loops over a block of numbers: one for every function, one for every test, and one for copies.
 //!
 //! A function or a test comes by value: its numbers stay in registers, where through a reference they are read again behind each write.
-ghost use Rattle.std.specs.Prelude.{◌≡◌, ◌≤◌, OnOk, [], ◌∷◌, cond, count_by, filter, flat_map, length, map, pos, take};
+ghost use Rattle.std.specs.Prelude.{◌≡◌, ◌≤◌, OnOk, [], ◌∷◌, cond, filter, flat_map, length, map, pos, take};
 ghost use Rattle.std.specs.Int.{int_rem_euclid};
 ghost use Rattle.std.proofs.Math.ListN.{replicate};
 
@@ -74,24 +74,12 @@ pub fn keep_all<P: Test<i64> + Copy>(test: P, items: &mut Vec<i64>)
     items.truncate(kept);
 }
 
-/// How many of the numbers meet a test. No number costs a branch.
-fn count_meeting<P: Test<i64> + Copy>(test: P, items: &[i64]) -> usize
-    requires { P.ready test }
-    ensures { result ≡ count_by (P.holds test) items.now }
-{
-    let mut meeting = 0;
-    for x in items {
-        meeting += usize::from(test.holds(x));
-    }
-    meeting
-}
-
 /// Leaves the numbers that meet a test which mostly tells the same of neighbours: where it does so of a whole block, no number moves.
 pub fn keep_runs<P: Test<i64> + Copy>(test: P, items: &mut Vec<i64>)
     requires { P.ready test }
     ensures { items.new.items ≡ flat_map (λ x. cond (P.holds test x) (x ∷ []) []) items.old.items }
 {
-    let meeting = count_meeting(test, items.as_slice());
+    let meeting = test.count_meeting(items.as_slice());
     if meeting == 0 {
         items.clear();
     } else if meeting < items.len() {

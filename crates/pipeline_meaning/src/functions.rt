@@ -1,12 +1,12 @@
 //! The functions of a pipeline, each made of what the file names, with what is worth preparing once.
-ghost use Rattle.std.specs.Prelude.{◌≡◌, ⊤};
+ghost use Rattle.std.specs.Prelude.{◌≡◌, count_by, map, ⊤};
 ghost use Rattle.spliterator.specs.Values.{IsI64};
 ghost use Rattle.stages.specs.Operators.{IsAssociative};
 ghost use Rattle.pipeline_meaning.specs.Functions.{number_image, number_holds, number_join, text_holds, text_join};
 ghost use Rattle.pipeline_meaning.specs.Prepared.{change_image, mapping_image, comparison_holds, check_holds};
 ghost use Rattle.pipeline_meaning.specs.PreparedLaws.{mapping_image-value, number_join-value, text_join-value};
 
-use parts::Divisor;
+use parts::{Above, Below, Divisible, Divisor, Equal};
 use pipeline_language::{NumberFunction, NumberMerge, NumberTest, TextMerge, TextTest};
 use spliterator::{NoMemory, Text, Value};
 use stages::{Mapping, Operator, Test};
@@ -94,6 +94,16 @@ impl NumberComparison {
             NumberComparison::Equals(n) => x == *n,
         }
     }
+
+    fn count_meeting(self, items: &[i64]) -> usize
+        ensures { result ≡ count_by (comparison_holds self) (map (λ x. x) items.now) }
+    {
+        match self {
+            NumberComparison::Less(n) => Below(n).count_meeting(items),
+            NumberComparison::Greater(n) => Above(n).count_meeting(items),
+            NumberComparison::Equals(n) => Equal(n).count_meeting(items),
+        }
+    }
 }
 
 /// What is asked of a number.
@@ -123,6 +133,14 @@ impl Test<i64> for NumberCheck {
         match self {
             NumberCheck::Divisible(divisor) => divisor.divides(*x),
             NumberCheck::Comparison(comparison) => comparison.holds(*x),
+        }
+    }
+
+    // Which check it is is asked once for all items.
+    fn count_meeting(&self, items: &[i64]) -> usize {
+        match *self {
+            NumberCheck::Divisible(divisor) => Divisible { divisor }.count_meeting(items),
+            NumberCheck::Comparison(comparison) => comparison.count_meeting(items),
         }
     }
 }

@@ -24,6 +24,10 @@ impl<T: Value, P: Test<T>> Test<T> for &P {
     fn holds(&self, x: &T) -> bool {
         (**self).holds(x)
     }
+
+    fn count_meeting(&self, items: &[T]) -> usize {
+        (**self).count_meeting(items)
+    }
 }
 
 impl<T: Value, O: Operator<T>> Operator<T> for &O {

@@ -1,12 +1,12 @@
 //! The texts of values, and of what the language's collectors make.
-use collectors::{Collector, GroupingBy, Joining, PartitioningBy, Teeing, ToMap, collect};
+use collectors::{Collector, GroupingBy, PartitioningBy, Teeing, ToMap, collect};
 use pipeline_language::{
     NumberBase, NumberFunction, NumberInner, NumberMerge, NumberSummary, NumberTest, TextBase,
     TextFunction, TextInner, TextSummary,
 };
 use pipeline_meaning::{
-    Both, NumberCheck, NumberMapping, NumberMerging, Seed, SeededHashes, Summarizes, Written,
-    number_base, number_summary, text_summary, write_result,
+    Both, JoinedText, NumberCheck, NumberMapping, NumberMerging, Seed, SeededHashes, Summarizes,
+    Written, number_base, number_summary, text_summary, write_result,
 };
 use spliterator::NoMemory;
 use std::alloc::Global;
@@ -154,7 +154,7 @@ fn summaries_of_texts(rt: HostRuntime) -> Result<(), Fail> {
 
 #[test]
 fn a_frame_of_no_texts(rt: HostRuntime) -> Result<(), Fail> {
-    let framed = Joining::<&str>::new(rt.alloc(), ",", "[", "]");
+    let framed = JoinedText::<&str>::within(rt.alloc(), ",", "[", "]");
     check(&rt, &framed, &[], "[]")?;
     Ok(())
 }

@@ -2,11 +2,6 @@ use Rattle.std.proofs.Common.{◌≡◌, ◌≤◌, ◌<◌, ◌-◌, map, take}
 use Rattle.std.specs.Prelude.{count_by}
 use Rattle.barriers.proofs.demand.Demand.front.Given as goal
 
-abbrev pub invariant-loop-item : goal.invariant-loop-item
-invariant-loop-item g l =
-    (l.all ≡ count_by (g.Self.Demand.counted l.self) (map g.T.Value.content (take l.item-index l.items)))
-    × (l.all ≤ l.item-index)
-
 abbrev pub invariant-loop-taken : goal.invariant-loop-taken
 invariant-loop-taken g l =
     (l.counting ≡ count_by (g.Self.Demand.counted l.self) (map g.T.Value.content (take l.taken l.items)))
