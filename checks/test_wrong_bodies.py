@@ -54,6 +54,13 @@ pub fn fifth(number: u8) -> u8
     number + STEP
 }
 
+pub fn fifth_again(number: u8) -> u8
+    requires { number < 5 }
+    ensures { result ≡ number + 5 }
+{
+    number + STEP
+}
+
 pub trait Counter {
     fn start(&self) -> u8
         ensures { result ≡ 1 }
@@ -76,6 +83,9 @@ EDITS = {
     "does_not_parse": ("    number + 4", "    number +", "FAILED: sample/does_not_parse: the edited text can't be read"),
     "stands_nowhere": ("    number + 9", "    number", "FAILED: sample/stands_nowhere: it can't be applied"),
     "steps_too_far": ("STEP: u8 = 5", "STEP: u8 = 6\nfunction: fifth", "sample/steps_too_far: refused: "),
+    # (its text stands in two functions)
+    "adds_one_more": ("number + STEP", "number + STEP + 1\nfunction: fifth_again", "sample/adds_one_more: refused: "),
+    "adds_one_more_somewhere": ("number + STEP", "number + STEP + 1", "FAILED: sample/adds_one_more_somewhere: it can't be applied"),
     "names_no_function": ("STEP: u8 = 5", "STEP: u8 = 6\nfunction: sixth", "FAILED: sample/names_no_function: it can't be applied"),
 }
 
@@ -97,9 +107,9 @@ def told(edits, *words):
 def main():
     lines, status = told(EDITS, "--anew")
     cases = {name: any(line.startswith(wanted) for line in lines) for name, (_, _, wanted) in EDITS.items()}
-    cases |= {"the sums": lines[-1:] == ["5 passed, 6 failed"], "the status": status == 1}
+    cases |= {"the sums": lines[-1:] == ["6 passed, 7 failed"], "the status": status == 1}
     again, _ = told({name: edit for name, edit in EDITS.items() if "FAILED" not in edit[2]})
-    cases["what passed is kept, where the kit keeps it"] = [line.endswith(" (by an earlier run of the same)") for line in again[:-1]] == [KEEPS] * 5
+    cases["what passed is kept, where the kit keeps it"] = [line.endswith(" (by an earlier run of the same)") for line in again[:-1]] == [KEEPS] * 6
     lines += again
     for name, good in cases.items():
         print(f"{'ok' if good else 'FAILED'}: {name}")

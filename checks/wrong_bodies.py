@@ -8,9 +8,10 @@ a line `file: src/..`, then pairs of lines `old: TEXT` and `new: TEXT`. One chec
 several touch one function, it stands there once more for each, under a name of its own, unless it is a method that an impl gives a trait, or calls itself.
 The check proves no others than these: the proof of each other function is a hole, which stands for what its contract says, and its body is empty. An edit
 passes where the check says of the edited function itself that a goal isn't proved. That the function calls one that was refused, that a proof file names what
-the edit took away, or that the text can't be read is no refusal. What a pack doesn't show so is tried alone. An edit outside functions, of a constant say, has a line
-`function: NAME` with the check's name of the function that has to be refused; without one it is tried alone, on the whole crate, and passes
-where any function is refused so.
+the edit took away, or that the text can't be read is no refusal. What a pack doesn't show so is tried alone. A line `function: NAME` has the check's name of
+the function that has to be refused. What stands in that function is meant there, also where the file has the same text elsewhere; any other text has to stand
+once in its file. An edit outside functions, of a constant say, needs that line; without one it is tried alone, on the whole crate, and passes where any
+function is refused so.
 
 Where `rt ci` keeps on this machine what passed, so does this: by the checksums of all that it rests on, which are the edit, the crate, the crates below
 it, the toolchain, and this script. A later run tries what changed; --anew tries all.
@@ -263,9 +264,8 @@ class Edit:
     """A wrong body: what it changes, and the functions that it changes."""
 
     def __init__(self, path, crate):
-        self.path, self.name, self.pairs, self.functions, self.fault = path, path.stem, [], [], None
+        self.path, self.name, self.pairs, self.functions = path, path.stem, [], []
         text = path.read_text(encoding="utf-8")
-        self.fault = RT.edited(text, crate.folder)[1]
         file = old = named = None
         for line in text.split("\n"):
             if line.startswith("file: "):
@@ -276,13 +276,31 @@ class Edit:
                 old = line[len("old: ") :]
             elif line.startswith("new:"):
                 self.pairs.append((file, old, line[len("new:") :].removeprefix(" ")))
-        if not self.fault:
-            self.is_inside = all([self.find(crate, file, old) for file, old, _ in self.pairs])
-        self.is_within = not self.fault and self.is_inside
-        if not self.fault and named:
-            self.functions = [it for it in functions_in(crate) if path_of(it) == named]
-            self.is_inside = len(self.functions) == 1
-            self.fault = None if self.is_inside else f"it names a function that isn't one of the crate: {named}"
+        found = [it for it in functions_in(crate) if path_of(it) == named]
+        texts = self.texts_within(crate, found[0]) if len(found) == 1 else None
+        self.texts, self.fault = (texts, None) if texts else RT.edited(text, crate.folder)
+        if named and len(found) != 1:
+            self.fault = self.fault or f"it names a function that isn't one of the crate: {named}"
+        self.is_within = bool(texts) or not self.fault and all([self.find(crate, file, old) for file, old, _ in self.pairs])
+        self.is_inside = self.is_within or bool(named)
+        self.functions = found or self.functions
+
+    def made_in(self, lines):
+        """Lines with the edit made, or None where not each text that it changes stands in them once."""
+        text = "\n".join(lines)
+        for _, old, new in self.pairs:
+            if text.count(old) != 1:
+                return None
+            text = text.replace(old, new)
+        return text.split("\n")
+
+    def texts_within(self, crate, function):
+        """The file with the edit made in the function, or None where what it changes doesn't all stand there."""
+        lines = lines_of(crate, function.file)
+        made = self.made_in(lines[function.first : function.last + 1])
+        if not made or any(file != function.file for file, _, _ in self.pairs):
+            return None
+        return {function.file: "\n".join([*lines[: function.first], *made, *lines[function.last + 1 :]])}
 
     def find(self, crate, file, old):
         """Notes the function that a pair changes, and answers whether there is one."""
@@ -298,8 +316,7 @@ class Edit:
 
     def changes(self, crate):
         """What the edit changes in each file of the crate."""
-        texts = RT.edited(self.path.read_text(encoding="utf-8"), crate.folder)[0]
-        return {file: changes_of(lines_of(crate, file), text.split("\n")) for file, text in texts.items()}
+        return {file: changes_of(lines_of(crate, file), text.split("\n")) for file, text in self.texts.items()}
 
     def changes_in(self, made, crate):
         """The change that puts a copy of a function, in which the edit is made, behind it, or None where the edit isn't within the function."""
@@ -307,12 +324,8 @@ class Edit:
         first = made.of.first
         while text[first - 1].strip().startswith("#["):
             first -= 1
-        lines = "\n".join(text[first : made.of.last + 1])
-        for _, old, new in self.pairs:
-            if lines.count(old) != 1:
-                return None
-            lines = lines.replace(old, new)
-        return {made.of.file: [made.change(lines.split("\n"))]}
+        lines = self.made_in(text[first : made.of.last + 1])
+        return lines and {made.of.file: [made.change(lines)]}
 
 
 class Pack:

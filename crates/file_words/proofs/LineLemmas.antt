@@ -1,15 +1,19 @@
 -- Cutting a file into lines.
-use Rattle.std.proofs.Common.{◌≡◌, ◌==◌, ℕ, suc, ◌+◌, ◌<◌, ◌≤◌, Bool, false, List, [], ◌∷◌, ◌++◌, length, take, drop, slice_index, get_or, All, le_refl, suc-le-suc, refl, subst, sym, ap, ◌∙◌, arith}
-use Rattle.std.specs.List.{slice_split}
+use Rattle.std.proofs.Common.{◌≡◌, ◌==◌, ℕ, suc, ◌+◌, ◌<◌, ◌≤◌, Bool, true, false, List, [], ◌∷◌, ◌++◌, length, take, drop, slice_index, get_or, All, le_refl, suc-le-suc, refl, subst, sym, ap, ◌∙◌, arith}
+use Rattle.std.specs.List.{slice_split, join_with_byte}
 use Rattle.std.proofs.lemmas.Bool.{false_from_ne_true, eqb-true}
 use Rattle.std.proofs.lemmas.List.{take-append-drop, drop-drop, take_all, length-take, get_or-take, get_or-drop, length-drop}
-use Rattle.std.proofs.lemmas.List.Elements.{All-from_get_or}
+use Rattle.std.proofs.lemmas.List.Elements.{All-cons, All-from_get_or, All-head, All-tail}
 use Rattle.std.proofs.Math.Seq.{drop-cons}
 use Rattle.std.proofs.lemmas.List.Sums.{count_by-le-length}
-use Rattle.std.proofs.lemmas.List.Splits.{slice_split_none, slice_split_at, length-slice_split}
-use Rattle.std.specs.Prelude.{IsUtf8}
+use Rattle.std.proofs.lemmas.List.Splits.{slice_split_none, slice_split_at, length-slice_split, join_with_byte-slice_split}
+use Rattle.std.specs.Prelude.{IsUtf8, IsSome, Result, Ok, Err}
+use Rattle.std.specs.Result.{result_ok}
+use Rattle.std.specs.Borrow.{Bor}
 use Rattle.std.specs.Str.{IsCharBoundary}
-use Rattle.std.proofs.lemmas.Str.{IsUtf8-drop, IsUtf8-take, IsCharBoundary-before_ascii, IsCharBoundary-after_ascii}
+use Rattle.std.proofs.lemmas.Str.{IsUtf8-append, IsUtf8-drop, IsUtf8-encode, IsUtf8-nil, IsUtf8-take, IsCharBoundary-before_ascii, IsCharBoundary-after_ascii, is_utf8-from_IsUtf8}
+use Rattle.file_words.specs.declared.fault.FileError.{FileError}
+use Rattle.file_words.specs.Pieces.{IsTextOf}
 use Rattle.file_words.specs.Words.{lines_of, without_empty_last, words_of}
 use Rattle.memchr.specs.Find.{Nowhere, NoneBefore, Passes, is_byte}
 
@@ -104,3 +108,32 @@ fewer (piece ∷ next ∷ pieces) = suc-le-suc (fewer (next ∷ pieces))
 
 pub line_count : (bytes : List ℕ) → length (lines_of bytes) ≤ length bytes + 1
 line_count bytes = omega (arith, fewer (slice_split is_end bytes), length-slice_split is_end bytes, count_by-le-length is_end bytes)
+
+line_end : IsUtf8 (10 ∷ [])
+unfolding lib.Utf8.encode
+line_end = IsUtf8-encode 10 refl
+
+-- where each line is text, so is the file
+joined : (pieces : List (List ℕ)) → All IsUtf8 pieces → IsUtf8 (join_with_byte 10 pieces)
+joined [] texts = IsUtf8-nil
+joined (piece ∷ []) texts = All-head IsUtf8 piece [] texts
+joined (piece ∷ next ∷ pieces) texts =
+    let behind : List ℕ = join_with_byte 10 (next ∷ pieces) in
+    let rest : IsUtf8 behind = joined (next ∷ pieces) (All-tail IsUtf8 piece (next ∷ pieces) texts) in
+    IsUtf8-append piece (10 ∷ behind) (All-head IsUtf8 piece (next ∷ pieces) texts) (IsUtf8-append (10 ∷ []) behind line_end rest)
+
+all_pieces : (pieces : List (List ℕ)) → All IsUtf8 (without_empty_last pieces) → All IsUtf8 pieces
+all_pieces [] texts = texts
+all_pieces ([] ∷ []) texts = All-cons IsUtf8 [] [] IsUtf8-nil texts
+all_pieces ((b ∷ bs) ∷ []) texts = texts
+all_pieces (piece ∷ next ∷ pieces) texts =
+    let kept : List (List ℕ) = without_empty_last (next ∷ pieces) in
+    All-cons IsUtf8 piece (next ∷ pieces) (All-head IsUtf8 piece kept texts) (all_pieces (next ∷ pieces) (All-tail IsUtf8 piece kept texts))
+
+file_is_text : (bytes : List ℕ) → All IsUtf8 (lines_of bytes) → IsUtf8 bytes
+file_is_text bytes texts = subst IsUtf8 (join_with_byte-slice_split 10 bytes) (joined (slice_split is_end bytes) (all_pieces (slice_split is_end bytes) texts))
+
+-- so it is given as one
+pub given_as_text : (bytes : List ℕ) (result : Result (Bor (List ℕ)) FileError) → All IsUtf8 (lines_of bytes) → IsTextOf bytes result → IsSome (result_ok result)
+given_as_text bytes (Ok text) texts told = refl
+given_as_text bytes (Err e) texts told = absurd (let e : true ≡ false = sym (is_utf8-from_IsUtf8 bytes (file_is_text bytes texts)) ∙ told.1 in cc)

@@ -1,6 +1,6 @@
 //! Lines of a file and words of a line.
 
-ghost use Rattle.std.specs.Prelude.{◌≡◌, ◌≤◌, ◌+◌, ◌∷◌, ℕ, List, length, IfSome, IsUtf8};
+ghost use Rattle.std.specs.Prelude.{◌≡◌, ◌≤◌, ◌+◌, ◌∷◌, ℕ, List, length, All, IfSome, IsSome, IsUtf8};
 ghost use Rattle.file_words.specs.Pieces.{CutsLine, IsTextOf, TakesLine, piece_bytes};
 ghost use Rattle.file_words.specs.Words.{lines_of, words_left, words_of};
 
@@ -88,14 +88,12 @@ impl<'a> Lines<'a> {
         }
     }
 
-    /// What is left of a file that is text.
+    /// What is left, where it is text.
     pub fn text(&self) -> Option<&'a str>
-        ensures { IfSome result (λ text. lines_of text.now ≡ self.now) }
+        ensures lines { IfSome result (λ text. lines_of text.now ≡ self.now) }
+        ensures given { All IsUtf8 self.now → IsSome result }
     {
-        match self.rest {
-            Piece::Text(text) => Some(text),
-            Piece::Bytes(_) => None,
-        }
+        self.rest.text().ok()
     }
 
     /// The next line, which is taken away.
