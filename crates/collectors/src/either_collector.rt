@@ -81,11 +81,7 @@ impl<A: Collector, B: Collector<Item = A::Item>> Collector for Either<A, B> {
         }
     }
 
-    fn accumulate_owned(
-        &self,
-        acc: &mut Either<A::Acc, B::Acc>,
-        x: A::Item,
-    ) -> Result<(), NoMemory>
+    fn accumulate_owned(&self, acc: &mut Either<A::Acc, B::Acc>, x: A::Item) -> Result<(), NoMemory>
     where
         A::Item: Drop,
     {

@@ -2,9 +2,7 @@
 ghost use Rattle.std.specs.Prelude.{int_lt};
 
 use crate::order::{Cents, Customer, Order};
-use mohairjade::{
-    Gate, GroupingBy, LentSplit, Run, Stream, StreamError, SummingLong, Test, of,
-};
+use mohairjade::{Gate, GroupingBy, LentSplit, Run, Stream, StreamError, SummingLong, Test, of};
 use std::alloc::Global;
 use std::thread::Threads;
 

@@ -76,11 +76,7 @@ where
 }
 
 /// The result on a list whose items a container may keep: a block of all but the last, and then the last.
-fn kept<C: Collector>(
-    alloc: Global,
-    collector: &C,
-    items: &[C::Item],
-) -> Result<C::Out, NoMemory>
+fn kept<C: Collector>(alloc: Global, collector: &C, items: &[C::Item]) -> Result<C::Out, NoMemory>
 where
     C::Item: Clone + Drop,
     requires { C.ready collector.now }
@@ -119,9 +115,11 @@ where
     let of_block = collector.finish(block)?;
     let at_once = collect(collector, items)?;
     let of_kept = kept(alloc, collector, items)?;
-    Ok(has_text(alloc, of_block, wanted)?
-        && has_text(alloc, at_once, wanted)?
-        && has_text(alloc, of_kept, wanted)?)
+    Ok(
+        has_text(alloc, of_block, wanted)?
+            && has_text(alloc, at_once, wanted)?
+            && has_text(alloc, of_kept, wanted)?,
+    )
 }
 
 /// Checks the results on lists, each beside the result that is wanted.
