@@ -15,19 +15,14 @@ import java.util.function.Supplier;
 import java.util.stream.LongStream;
 import java.util.stream.Stream;
 
-/** The same by streams, parallel ones where there is more than one worker. The common pool has as many threads as there are workers, the caller's among them. */
+/**
+ * The same by streams, parallel ones where there is more than one worker. The common pool has as many threads as there are workers, the caller's
+ * among them. A list of Java's has references, so nothing is cloned here.
+ */
 class Service {
-    record Order(String customer, long cents) {
-        Order copy() {
-            return new Order(new String(customer), cents);
-        }
-    }
+    record Order(String customer, long cents) {}
 
-    record Pair(long customer, long cents) {
-        Pair copy() {
-            return new Pair(customer, cents);
-        }
-    }
+    record Pair(long customer, long cents) {}
 
     private static long time;
 
@@ -110,12 +105,8 @@ class Service {
                         .collect(groupingBy(Order::customer, LinkedHashMap::new, summingLong(Order::cents)))), rows -> rows);
             case "all":
                 return timed(() -> stream(list, workers).toList(), Service::told);
-            case "dear":
-                return timed(() -> stream(list, workers).filter(order -> order.cents() > 1000).toList(), Service::told);
-            case "clones":
-                return timed(() -> stream(list, workers).map(Order::copy).toList(), Service::told);
             default:
-                return timed(() -> stream(list, workers).filter(order -> order.cents() > 1000).map(Order::copy).toList(), Service::told);
+                return timed(() -> stream(list, workers).filter(order -> order.cents() > 1000).toList(), Service::told);
         }
     }
 
@@ -148,10 +139,10 @@ class Service {
         switch (work) {
             case "pairs":
                 List<Pair> all = pairs(count);
-                return timed(() -> stream(all, workers).map(Pair::copy).toList(), Service::toldPairs);
+                return timed(() -> stream(all, workers).toList(), Service::toldPairs);
             case "dear-pairs":
                 List<Pair> some = pairs(count);
-                return timed(() -> stream(some, workers).filter(pair -> pair.cents() > 1000).map(Pair::copy).toList(), Service::toldPairs);
+                return timed(() -> stream(some, workers).filter(pair -> pair.cents() > 1000).toList(), Service::toldPairs);
             case "words", "first-error", "errors":
                 return ofLog(work, workers, log(count));
             case "squares", "front":
