@@ -82,7 +82,9 @@ where
     requires { C.ready collector.now }
 {
     let mut owned = Vec::new(alloc);
-    owned.extend_from_slice(items)?;
+    for item in items {
+        owned.push(item.clone()?)?;
+    }
     let mut acc = collector.supply_for(items.len() as u64)?;
     if let Some(last) = owned.pop() {
         collector.accumulate_all_owned(&mut acc, &mut owned)?;
