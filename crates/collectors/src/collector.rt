@@ -43,6 +43,14 @@ pub trait Collector {
         requires { ready self.now }
         ensures { IfOk result (λ acc. content self.now acc ≡ empty self.now) };
 
+    /// A new container, for about so many items. No result depends on their number.
+    fn supply_for(&self, _number: u64) -> Result<Self::Acc, NoMemory>
+        requires { ready self.now }
+        ensures { IfOk result (λ acc. content self.now acc ≡ empty self.now) }
+    {
+        self.supply()
+    }
+
     /// Takes an item into a container.
     fn accumulate(&self, acc: &mut Self::Acc, x: &Self::Item) -> Result<(), NoMemory>
         requires { ready self.now }
@@ -57,6 +65,30 @@ pub trait Collector {
             self.accumulate(acc, item)?;
         }
         Ok(())
+    }
+
+    /// Takes an item into a container, which may keep it as it is.
+    fn accumulate_owned(&self, acc: &mut Self::Acc, x: Self::Item) -> Result<(), NoMemory>
+    where
+        Self::Item: Drop,
+        requires { ready self.now }
+        ensures { OnOk result (content self.now acc.new ≡ add self.now (content self.now acc.old) (Self.Item.content x)) }
+    {
+        self.accumulate(acc, &x)
+    }
+
+    /// Takes a block of items into a container, in order, which may keep them as they are. What the list holds afterwards is of no use.
+    fn accumulate_all_owned(
+        &self,
+        acc: &mut Self::Acc,
+        items: &mut Vec<Self::Item>,
+    ) -> Result<(), NoMemory>
+    where
+        Self::Item: Drop,
+        requires { ready self.now }
+        ensures { OnOk result (content self.now acc.new ≡ fold (add self.now) (content self.now acc.old) (map Self.Item.content items.old.items)) }
+    {
+        self.accumulate_all(acc, items.as_slice())
     }
 
     /// Takes the container of what follows into the container of what comes first.

@@ -54,6 +54,13 @@ impl<A: Collector, B: Collector<Item = A::Item>> Collector for Either<A, B> {
         }
     }
 
+    fn supply_for(&self, number: u64) -> Result<Either<A::Acc, B::Acc>, NoMemory> {
+        match self {
+            Left(side) => Ok(Left(side.supply_for(number)?)),
+            Right(side) => Ok(Right(side.supply_for(number)?)),
+        }
+    }
+
     fn accumulate(&self, acc: &mut Either<A::Acc, B::Acc>, x: &A::Item) -> Result<(), NoMemory> {
         match (self, acc) {
             (Left(side), Left(acc)) => side.accumulate(acc, x),
@@ -70,6 +77,32 @@ impl<A: Collector, B: Collector<Item = A::Item>> Collector for Either<A, B> {
         match (self, acc) {
             (Left(side), Left(acc)) => side.accumulate_all(acc, items),
             (Right(side), Right(acc)) => side.accumulate_all(acc, items),
+            _ => Ok(()),
+        }
+    }
+
+    fn accumulate_owned(&self, acc: &mut Either<A::Acc, B::Acc>, x: A::Item) -> Result<(), NoMemory>
+    where
+        A::Item: Drop,
+    {
+        match (self, acc) {
+            (Left(side), Left(acc)) => side.accumulate_owned(acc, x),
+            (Right(side), Right(acc)) => side.accumulate_owned(acc, x),
+            _ => Ok(()),
+        }
+    }
+
+    fn accumulate_all_owned(
+        &self,
+        acc: &mut Either<A::Acc, B::Acc>,
+        items: &mut Vec<A::Item>,
+    ) -> Result<(), NoMemory>
+    where
+        A::Item: Drop,
+    {
+        match (self, acc) {
+            (Left(side), Left(acc)) => side.accumulate_all_owned(acc, items),
+            (Right(side), Right(acc)) => side.accumulate_all_owned(acc, items),
             _ => Ok(()),
         }
     }

@@ -210,6 +210,24 @@ where
         add_group(&self.downstream, acc, key, x)
     }
 
+    fn accumulate_owned(
+        &self,
+        acc: &mut Groups<K::Out, D::Acc, S>,
+        x: D::Item,
+    ) -> Result<(), NoMemory>
+    where
+        D::Item: Drop,
+    {
+        let key = self.key.image(&x)?;
+        if let Some(at) = acc.place_of(&key) {
+            acc.expected = acc.expected_behind(at);
+            acc.last = at;
+            let kept = acc.entries.get_index_mut(at).unwrap();
+            return self.downstream.accumulate_owned(kept, x);
+        }
+        add_group(&self.downstream, acc, key, &x)
+    }
+
     fn combine(
         &self,
         left: &mut Groups<K::Out, D::Acc, S>,

@@ -53,6 +53,13 @@ impl<T: Value + Clone> Collector for ToList<T> {
         Ok(Vec::new(self.alloc))
     }
 
+    // Where that room is refused, it grows as items come.
+    fn supply_for(&self, number: u64) -> Result<Vec<T>, NoMemory> {
+        let mut acc = Vec::new(self.alloc);
+        let _refused = acc.reserve_exact(number as usize);
+        Ok(acc)
+    }
+
     fn accumulate(&self, acc: &mut Vec<T>, x: &T) -> Result<(), NoMemory> {
         acc.push(x.clone()?)?;
         Ok(())
@@ -60,6 +67,16 @@ impl<T: Value + Clone> Collector for ToList<T> {
 
     fn accumulate_all(&self, acc: &mut Vec<T>, items: &[T]) -> Result<(), NoMemory> {
         acc.extend_from_slice(items)?;
+        Ok(())
+    }
+
+    fn accumulate_owned(&self, acc: &mut Vec<T>, x: T) -> Result<(), NoMemory> {
+        acc.push(x)?;
+        Ok(())
+    }
+
+    fn accumulate_all_owned(&self, acc: &mut Vec<T>, items: &mut Vec<T>) -> Result<(), NoMemory> {
+        acc.append(items)?;
         Ok(())
     }
 

@@ -18,7 +18,9 @@ pub use parts::{
     Above, And, Below, Cloned, Composed, Divisible, Equal, Even, Itself, Length, Modulo, Negated,
     Not, OnFirst, OnSecond, Or, Plus, StartsWith, Times, mapping, operator, test,
 };
-pub use sources::{Concat, DequeSplit, LinesSplit, RangeSplit, RangeTooLong, SliceSplit};
+pub use sources::{
+    Concat, DequeSplit, LentSplit, LinesSplit, RangeSplit, RangeTooLong, SliceSplit,
+};
 pub use spliterator::{NoMemory, OrderedValue, Spliterator, Text, Value};
 pub use stages::{
     FirstOf, FromFn, LastOf, ListValue, Mapping, MappingDefinition, Max, Min, Operator,

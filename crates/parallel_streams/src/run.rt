@@ -2,6 +2,7 @@
 ghost use Rattle.std.specs.Prelude.{◌≡◌};
 
 use spliterator::NoMemory;
+use std::alloc::{AllocError, AllocFailed};
 use std::fmt::Display;
 use stealing_pool::NoGate;
 use thiserror::Error;
@@ -46,6 +47,26 @@ impl From<NoMemory> for StreamError {
     ghost from_gives = { λ _ e. e ≡ StreamError.NoMemory };
 
     fn from(_refused: NoMemory) -> StreamError {
+        StreamError::NoMemory
+    }
+}
+
+impl From<AllocError> for StreamError {
+    ghost use Rattle.parallel_streams.specs.declared.run.StreamError.{StreamError};
+
+    ghost from_gives = { λ _ e. e ≡ StreamError.NoMemory };
+
+    fn from(_refused: AllocError) -> StreamError {
+        StreamError::NoMemory
+    }
+}
+
+impl<T: Drop> From<AllocFailed<T>> for StreamError {
+    ghost use Rattle.parallel_streams.specs.declared.run.StreamError.{StreamError};
+
+    ghost from_gives = { λ _ e. e ≡ StreamError.NoMemory };
+
+    fn from(_refused: AllocFailed<T>) -> StreamError {
         StreamError::NoMemory
     }
 }

@@ -43,15 +43,15 @@ impl OrderedValue for Order {
 #[derive(Clone, Copy)]
 pub struct Customer;
 
-impl Mapping<Order> for Customer {
-    type Out = String;
+impl<'a> Mapping<&'a Order> for Customer {
+    type Out = &'a str;
 
     ghost image = { λ _ o. o.0 };
 
     ghost images_are_values = { Prim.search };
 
-    fn image(&self, order: &Order) -> Result<String, NoMemory> {
-        Ok(order.customer.clone()?)
+    fn image(&self, order: &&'a Order) -> Result<&'a str, NoMemory> {
+        Ok(order.customer.as_str())
     }
 }
 
@@ -59,14 +59,14 @@ impl Mapping<Order> for Customer {
 #[derive(Clone, Copy)]
 pub struct Cents;
 
-impl Mapping<Order> for Cents {
+impl Mapping<&Order> for Cents {
     type Out = i64;
 
     ghost image = { λ _ o. o.1 };
 
     ghost images_are_values = { λ _ _ value. value };
 
-    fn image(&self, order: &Order) -> Result<i64, NoMemory> {
+    fn image(&self, order: &&Order) -> Result<i64, NoMemory> {
         Ok(order.cents)
     }
 }

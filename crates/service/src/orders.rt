@@ -2,10 +2,7 @@
 ghost use Rattle.std.specs.Prelude.{int_lt};
 
 use crate::order::{Cents, Customer, Order};
-use indexmap::IndexMap;
-use mohairjade::{
-    Gate, GroupingBy, NoMemory, Run, SliceSplit, Stream, StreamError, SummingLong, Test, of,
-};
+use mohairjade::{Gate, GroupingBy, LentSplit, Run, Stream, StreamError, SummingLong, Test, of};
 use std::alloc::Global;
 use std::thread::Threads;
 
@@ -13,38 +10,31 @@ use std::thread::Threads;
 #[derive(Clone, Copy)]
 struct CostsMore(i64);
 
-impl Test<Order> for CostsMore {
+impl Test<&Order> for CostsMore {
     ghost holds = { λ t o. int_lt t.0 o.1 };
 
-    fn holds(&self, order: &Order) -> bool {
+    fn holds(&self, order: &&Order) -> bool {
         order.cents > self.0
     }
 }
 
 /// `orders.filter(o -> o.cents > 1000).collect(groupingBy(o -> o.customer, summingLong(o -> o.cents)))`, and of it the five greatest.
-pub fn best_five<R: Threads + Alloc<A = Global> + Sync, H: Gate + Sync>(
+pub fn best_five<'a, R: Threads + Alloc<A = Global> + Sync, H: Gate + Sync>(
     rt: &R,
     run: &Run<'_, H>,
-    orders: &[Order],
-) -> Result<Vec<(i64, String)>, StreamError> {
-    let sums = GroupingBy::new(rt.alloc(), Customer, SummingLong::new(Cents));
-    let sums = of(SliceSplit::new(orders))
+    orders: &'a [Order],
+) -> Result<Vec<(i64, &'a str)>, StreamError> {
+    let alloc = rt.alloc();
+    let sums = GroupingBy::new(alloc, Customer, SummingLong::new(Cents));
+    let sums = of(LentSplit::new(orders))
         .filter(CostsMore(1000))
-        .collect(rt, rt.alloc(), run, &sums)?;
-    Ok(greatest(rt.alloc(), sums, 5)?)
-}
-
-fn greatest(
-    alloc: Global,
-    sums: IndexMap<String, i64>,
-    most: usize,
-) -> Result<Vec<(i64, String)>, NoMemory> {
+        .collect(rt, alloc, run, &sums)?;
     let mut rows = Vec::new(alloc);
     for (customer, cents) in sums {
         rows.push((cents, customer))?;
     }
     rows.sort()?;
     rows.reverse();
-    rows.truncate(most);
+    rows.truncate(5);
     Ok(rows)
 }

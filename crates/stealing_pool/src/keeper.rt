@@ -15,24 +15,24 @@ use spliterator::{NoMemory, Value};
 use stages::Sink;
 
 /// Keeps one item.
-fn keep<T: Value, D: Demand<T>, C: Collector<Item = T>>(
+fn keep<T: Value + Drop, D: Demand<T>, C: Collector<Item = T>>(
     demand: &D,
     collector: &C,
     portion: &mut Portion<C::Acc>,
-    item: &T,
+    item: T,
 ) -> Result<(), NoMemory>
     requires demand { D.ready demand.now }
     requires collector { C.ready collector.now }
-    requires room { D.counted demand.now (T.content item.now) ≡ true → portion.old.count < 2 ^ 63 }
-    ensures value { T.is_value (T.content item.now) }
-    ensures content { OnOk result (C.content collector.now portion.new.kept ≡ C.add collector.now (C.content collector.now portion.old.kept) (T.content item.now)) }
-    ensures count { portion.new.count ≡ portion.old.count + cond (D.counted demand.now (T.content item.now)) 1 0 }
+    requires room { D.counted demand.now (T.content item) ≡ true → portion.old.count < 2 ^ 63 }
+    ensures value { T.is_value (T.content item) }
+    ensures content { OnOk result (C.content collector.now portion.new.kept ≡ C.add collector.now (C.content collector.now portion.old.kept) (T.content item)) }
+    ensures count { portion.new.count ≡ portion.old.count + cond (D.counted demand.now (T.content item)) 1 0 }
 {
     let _value = item.is_value();
-    if demand.counts(item) {
+    if demand.counts(&item) {
         portion.count += 1;
     }
-    collector.accumulate(&mut portion.kept, item)
+    collector.accumulate_owned(&mut portion.kept, item)
 }
 
 /// How many items of a block are taken behind so many counting ones, which are not enough, and how many of these count.
@@ -62,21 +62,21 @@ fn are_values<T: Value>(items: &[T])
 }
 
 /// Keeps a block of items.
-fn keep_each<T: Value, C: Collector<Item = T>>(
+fn keep_each<T: Value + Drop, C: Collector<Item = T>>(
     collector: &C,
     portion: &mut Portion<C::Acc>,
-    items: &[T],
+    items: &mut Vec<T>,
     counting: u64,
 ) -> Result<(), NoMemory>
     requires collector { C.ready collector.now }
     requires room { portion.old.count + counting < 2 ^ 64 }
-    ensures values { All T.is_value (map T.content items.now) }
-    ensures content { OnOk result (C.content collector.now portion.new.kept ≡ fold (C.add collector.now) (C.content collector.now portion.old.kept) (map T.content items.now)) }
+    ensures values { All T.is_value (map T.content items.old.items) }
+    ensures content { OnOk result (C.content collector.now portion.new.kept ≡ fold (C.add collector.now) (C.content collector.now portion.old.kept) (map T.content items.old.items)) }
     ensures count { portion.new.count ≡ portion.old.count + counting }
 {
-    are_values(items);
+    are_values(items.as_slice());
     portion.count += counting;
-    collector.accumulate_all(&mut portion.kept, items)
+    collector.accumulate_all_owned(&mut portion.kept, items)
 }
 
 /// A container with its demand, which takes items until they are enough.
@@ -110,7 +110,7 @@ impl<T: Value + Drop, D: Demand<T>, C: Collector<Item = T>> Sink<T> for Keeper<'
         if is_enough(self.need, self.portion.count) {
             return Ok(());
         }
-        keep(self.demand, self.collector, &mut self.portion, &x)?;
+        keep(self.demand, self.collector, &mut self.portion, x)?;
         Ok(())
     }
 
@@ -118,9 +118,10 @@ impl<T: Value + Drop, D: Demand<T>, C: Collector<Item = T>> Sink<T> for Keeper<'
         if is_enough(self.need, self.portion.count) {
             return Ok(());
         }
-        let items = items.as_slice();
-        let (taken, counting) = front_of(self.demand, self.need, self.portion.count, items);
-        keep_each(self.collector, &mut self.portion, &items[..taken], counting)?;
+        let block = items.as_slice();
+        let (taken, counting) = front_of(self.demand, self.need, self.portion.count, block);
+        items.truncate(taken);
+        keep_each(self.collector, &mut self.portion, items, counting)?;
         Ok(())
     }
 

@@ -6,12 +6,21 @@ ghost use Rattle.stealing_pool.specs.Fronts.{folding, EndsList};
 use crate::job::{LeafEnd, Portion};
 use crate::keeper::Keeper;
 use crate::stretch::feed_until_cut;
-use barriers::Demand;
+use barriers::{Demand, Need};
 use collectors::Collector;
 use leaf_board::Handout;
 use spliterator::{NoMemory, Spliterator};
 use stages::Stage;
 use std::alloc::Global;
+
+/// How many items a container is made for. Those of a leaf, where their number is known, and no more than are needed.
+fn expected(need: Need, size: Option<u64>) -> u64 {
+    match (need, size) {
+        (_, None) => 0,
+        (Need::Never, Some(number)) => number,
+        (Need::Reach(needed), Some(number)) => number.min(needed),
+    }
+}
 
 /// Runs one leaf: feeds its source's items through a stage into a container, until the source ends or enough is kept.
 ///
@@ -42,7 +51,8 @@ pub fn run_leaf<
     ensures same { SameFrom (B.status seat.old) (B.status seat.new) }
     ensures end { IfOk result (EndsList (folding (D.needed demand.now) (D.counted demand.now) G.Out.is_value (C.empty collector.now) (C.add collector.now)) (C.content collector.now) (flat_map (G.expand stage.now) (S.items source)) (B.cut seat.new) leaf) }
 {
-    let kept = collector.supply()?;
+    let size = stage.size_after(source.exact_size());
+    let kept = collector.supply_for(expected(demand.need(), size))?;
     let mut keeper = Keeper {
         demand,
         need: demand.need(),

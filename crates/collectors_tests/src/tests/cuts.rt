@@ -75,8 +75,26 @@ where
     Ok(true)
 }
 
-/// Whether this is the result on a list: folded on one thread, taken in as a block, and by all ways of cutting it in up to three parts.
-/// Empty parts are among them.
+/// The result on a list whose items a container may keep: a block of all but the last, and then the last.
+fn kept<C: Collector>(alloc: Global, collector: &C, items: &[C::Item]) -> Result<C::Out, NoMemory>
+where
+    C::Item: Clone + Drop,
+    requires { C.ready collector.now }
+{
+    let mut owned = Vec::new(alloc);
+    for item in items {
+        owned.push(item.clone()?)?;
+    }
+    let mut acc = collector.supply_for(items.len() as u64)?;
+    if let Some(last) = owned.pop() {
+        collector.accumulate_all_owned(&mut acc, &mut owned)?;
+        collector.accumulate_owned(&mut acc, last)?;
+    }
+    collector.finish(acc)
+}
+
+/// Whether this is the result on a list: folded on one thread, taken in as a block, of items that may be kept, and by all ways of cutting it
+/// in up to three parts. Empty parts are among them.
 fn gives<C: Collector>(
     alloc: Global,
     collector: &C,
@@ -84,6 +102,7 @@ fn gives<C: Collector>(
     wanted: &str,
 ) -> Result<bool, NoMemory>
 where
+    C::Item: Clone + Drop,
     C::Out: Shown,
     requires { C.ready collector.now }
 {
@@ -97,7 +116,12 @@ where
     collector.accumulate_all(&mut block, items)?;
     let of_block = collector.finish(block)?;
     let at_once = collect(collector, items)?;
-    Ok(has_text(alloc, of_block, wanted)? && has_text(alloc, at_once, wanted)?)
+    let of_kept = kept(alloc, collector, items)?;
+    Ok(
+        has_text(alloc, of_block, wanted)?
+            && has_text(alloc, at_once, wanted)?
+            && has_text(alloc, of_kept, wanted)?,
+    )
 }
 
 /// Checks the results on lists, each beside the result that is wanted.
@@ -108,6 +132,7 @@ pub fn check<C: Collector + Drop>(
     rows: &[(&[C::Item], &str)],
 ) -> Result<(), NoMemory>
 where
+    C::Item: Clone + Drop,
     C::Out: Shown,
     requires { C.ready collector }
 {

@@ -22,6 +22,7 @@ pub fn check_groups<K: Mapping<D::Item> + Drop, D: Collector + Drop>(
 ) -> Result<(), NoMemory>
 where
     K::Out: Hash + Drop + Shown,
+    D::Item: Clone + Drop,
     D::Out: Shown,
     requires key { K.ready key }
     requires downstream { D.ready downstream }
@@ -45,6 +46,7 @@ pub fn check_groups_of_groups<
 where
     K::Out: Hash + Drop + Shown,
     L::Out: Hash + Drop + Shown,
+    D::Item: Clone + Drop,
     D::Out: Shown,
     requires key { K.ready key }
     requires inner_key { L.ready inner_key }
@@ -88,7 +90,12 @@ pub fn check_reduced<O: Operator<i64> + Drop>(
 }
 
 /// Checks a map whose values of one key are merged.
-pub fn check_map<T: Value, K: Mapping<T> + Drop, V: Mapping<T> + Drop, O: Operator<V::Out> + Drop>(
+pub fn check_map<
+    T: Value + Clone + Drop,
+    K: Mapping<T> + Drop,
+    V: Mapping<T> + Drop,
+    O: Operator<V::Out> + Drop,
+>(
     rt: &impl Abort,
     alloc: Global,
     key: K,
@@ -109,7 +116,7 @@ where
 }
 
 /// Checks a map whose keys may not repeat.
-pub fn check_strict<T: Value, K: Mapping<T> + Drop, V: Mapping<T> + Drop>(
+pub fn check_strict<T: Value + Clone + Drop, K: Mapping<T> + Drop, V: Mapping<T> + Drop>(
     rt: &impl Abort,
     alloc: Global,
     key: K,

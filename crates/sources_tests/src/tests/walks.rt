@@ -1,6 +1,6 @@
 use super::{Side, check_row, range};
 use either::{Left, Right};
-use sources::{Concat, LinesSplit, RangeSplit, SliceSplit};
+use sources::{Concat, LentSplit, LinesSplit, RangeSplit, SliceSplit};
 use spliterator::{NoMemory, Spliterator};
 use std::alloc::Global;
 use std::process::Abort;
@@ -133,6 +133,8 @@ fn numbers_are_read_in_five_ways(rt: HostRuntime) -> Result<(), NoMemory> {
     }
     for &slice in &SLICES {
         check(&rt, rt.alloc(), SliceSplit::new(slice), slice)?;
+        let lent: Vec<&i64> = slice.iter().collect(rt.alloc())?;
+        check(&rt, rt.alloc(), LentSplit::new(slice), lent.as_slice())?;
     }
     Ok(())
 }

@@ -1,5 +1,5 @@
 use Rattle.std.proofs.Common.{◌≡◌, ◌+◌, ℕ, Option, refl, subst, sym, ap, ◌∙◌, map, take, drop, true, arith, [], ◌++◌, ⊎_elim, inl, inr}
-use Rattle.std.specs.Prelude.{◌⊎◌}
+use Rattle.std.specs.Prelude.{◌⊎◌, count_by}
 use Rattle.std.proofs.lemmas.List.{take-append-drop, map-append, drop_all}
 use Rattle.barriers.specs.Needs.{Reaches}
 use Rattle.stealing_pool.specs.Jobs.{IsWithin}
@@ -22,11 +22,14 @@ returns-clause-taken g c =
     let R : Option ℕ → Type 0 = λ need. Reaches need k.portion.count in
     let under : R f.needed → ⊥ = λ reached. let t : c.is_enough.result ≡ true = c.is_enough.ensures.1 (subst R (sym needs.same) reached) in let e = c.if-is_enough.false in cc in
     let content = g.T.Value.content in
-    let block = c.as_slice-items.result.now in
+    let block = c.as_slice-block.result.now in
     let taken = c.front_of-taken.result.0 in
     let more = c.front_of-taken.result.1 in
-    let parts : map content c.args.items.now.items ≡ map content (take taken block) ++ map content (drop taken block) =
-    ap (map content) (sym c.as_slice-items.ensures.value ∙ sym (take-append-drop taken block)) ∙ map-append content (take taken block) (drop taken block) in
+    let front = c.truncate.new.self.items in
+    let same : take taken block ≡ front = ap (take taken) c.as_slice-block.ensures.value ∙ sym c.truncate.ensures.items in
+    let parts : map content c.args.items.now.items ≡ map content front ++ map content (drop taken block) =
+    ap (map content) (sym c.as_slice-block.ensures.value ∙ sym (take-append-drop taken block)) ∙ map-append content (take taken block) (drop taken block)
+    ∙ ap (λ l. map content l ++ map content (drop taken block)) same in
     let N : ℕ → Type 0 = λ n. IsWithin f.needed n in
     let E : ℕ → Type 0 = λ n. Reaches f.needed n in
     let W : Option ℕ → Type 0 = λ need. IsWithin need k.portion.count → IsWithin need (k.portion.count + more) in
@@ -40,6 +43,6 @@ returns-clause-taken g c =
       refl,
       refl,
       refl,
-      front_block f (g.C.Collector.content k.collector.now) k.portion c.keep_each.new.portion (map content c.args.items.now.items) (map content (take taken block)) (map content (drop taken block))
-          parts under c.keep_each.ensures.values (c.keep_each.ensures.count ∙ ap (λ n. k.portion.count + n) c.front_of-taken.ensures.counting) c.in_ok-keep_each.ensures.content stays ends,
+      front_block f (g.C.Collector.content k.collector.now) k.portion c.keep_each.new.portion (map content c.args.items.now.items) (map content front) (map content (drop taken block))
+          parts under c.keep_each.ensures.values (c.keep_each.ensures.count ∙ ap (λ n. k.portion.count + n) (c.front_of-taken.ensures.counting ∙ ap (λ l. count_by f.counted (map content l)) same)) c.in_ok-keep_each.ensures.content stays ends,
     )
