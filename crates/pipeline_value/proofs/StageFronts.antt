@@ -2,8 +2,7 @@
 use Rattle.std.proofs.Common.{◌≡◌, ◌≤◌, Bool, true, false, ℕ, zero, suc, ℤ, List, [], ◌∷◌, ◌++◌, length, take, drop, map, flat_map, ap, refl, sym, subst, ◌<◌, ◌+◌, arith, ◌∙◌}
 use Rattle.std.specs.Prelude.{cond, not, filter, take_while, count_by}
 use Rattle.std.specs.List.{list_any, prefix_len, slice_index_or}
-use Rattle.std.specs.Global.{Global}
-use Rattle.std.specs.Prelude.{String, Result}
+use Rattle.std.specs.Prelude.{Result}
 use Rattle.std.specs.Ordering.{int_eq}
 use Rattle.std.proofs.lemmas.Grind.{flat_map-append}
 use Rattle.std.proofs.lemmas.List.Elements.{filter-append}

@@ -1,9 +1,8 @@
 -- What is told of stages that were cut at a barrier.
 use Rattle.std.proofs.Common.{◌≡◌, ◌<◌, ◌+◌, ◌-◌, ℕ, ℤ, List, [], ◌∷◌, length, take, drop, map, flat_map, ap, refl, sym, subst, ◌∙◌}
 use Rattle.std.proofs.lemmas.List.Concat.{flat_map_single}
-use Rattle.std.specs.Global.{Global}
 use Rattle.std.specs.List.{slice_index_or}
-use Rattle.std.specs.Prelude.{String, Result}
+use Rattle.std.specs.Prelude.{Result}
 use Rattle.pipeline_language.specs.declared.pipeline.NumberBody.{NumberBody}
 use Rattle.pipeline_language.specs.declared.pipeline.NumberStage.{NumberStage}
 use Rattle.pipeline_language.specs.declared.pipeline.NumberTerminal.{NumberTerminal}

@@ -1,7 +1,6 @@
 -- The value of a pipeline, as the text that is written of it.
-use Rattle.std.specs.Prelude.{String, ◌≡◌, ◌+ℤ◌, ℕ, ℤ, pos, not, Bool, bytes_eq, List, [], ◌∷◌, ◌++◌, map, fold, length, string_bytes, Option, Some, None, Result, Ok, Err, if◌then◌else◌}
+use Rattle.std.specs.Prelude.{◌≡◌, ◌+ℤ◌, ℕ, ℤ, pos, not, Bool, bytes_eq, List, [], ◌∷◌, ◌++◌, map, fold, length, string_bytes, Option, Some, None, Result, Ok, Err, if◌then◌else◌}
 use Rattle.std.specs.Fmt.{signed_decimal}
-use Rattle.std.specs.Global.{Global}
 use Rattle.std.specs.List.{list_any}
 use Rattle.std.specs.Ordering.{int_eq, int_cmp}
 use Rattle.sources.specs.Integers.{integers_between}
