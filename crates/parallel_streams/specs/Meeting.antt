@@ -1,6 +1,7 @@
 -- Whether some item meets a test, as the content of a container.
-use Rattle.std.specs.Prelude.{◌≡◌, ◌≤◌, ◌+◌, ℕ, Bool, true, false, cond, not, List, [], ◌∷◌, ◌++◌, Some, count_by, fold, refl}
-use Rattle.std.proofs.Common.{sym, ap, ◌∙◌, arith}
+use Rattle.std.specs.Prelude.{◌≡◌, ◌≤◌, ◌+◌, ℕ, suc, Bool, true, false, cond, not, nat_lt, List, [], ◌∷◌, ◌++◌, Some, count_by, fold, length, refl}
+use Rattle.std.proofs.Common.{sym, ap, ap₂, ◌∙◌, arith}
+use Rattle.std.proofs.lemmas.Bool.Decides.{nat_tests}
 use Rattle.std.proofs.lemmas.List.Sums.{sum_by-cons}
 use Rattle.barriers.specs.Needs.{KeepsEnough}
 use Rattle.collectors.specs.Laws.{CollectorLaws}
@@ -62,3 +63,34 @@ module _ {C : Type 0} (p : C → Bool) where
   KeepsEnough-any front more enough =
       let met = met-of front enough in
       any-append front more ∙ ap (λ b. cond b true (any_meets p more)) met ∙ sym met
+
+  met-counted : (b : Bool) (n : ℕ) (rest : Bool) → rest ≡ nat_lt 0 n → cond b true rest ≡ nat_lt 0 (cond b 1 0 + n)
+  met-counted true n rest is = grind (arith, nat_tests)
+  met-counted false n rest is =
+      let count : n ≡ 0 + n = omega arith in
+      is ∙ ap (nat_lt 0) count
+
+  -- some member meets it exactly where more than none do
+  any-by-count : (l : List C) → any_meets p l ≡ nat_lt 0 (count_by p l)
+  any-by-count [] = refl
+  any-by-count (x ∷ l) =
+      met-counted (p x) (count_by p l) (any_meets p l) (any-by-count l) ∙ ap (nat_lt 0) (sym (sum_by-cons (λ x. cond (p x) 1 0) x l))
+
+  -- what a container that says no takes in at once
+  pub fold-counted : (l : List C) → fold (meet_add p) false l ≡ nat_lt 0 (count_by p l)
+  fold-counted l = fold-meets l ∙ any-by-count l
+
+  -- one that says yes stays so
+  pub fold-met : (l : List C) → fold (meet_add p) true l ≡ true
+  fold-met l = meets_from true l
+
+  one-apart : (b : Bool) (n m k : ℕ) → n + m ≡ k → (cond b 1 0 + n) + (cond (not b) 1 0 + m) ≡ suc k
+  one-apart true n m k is = omega (arith, is)
+  one-apart false n m k is = omega (arith, is)
+
+  -- each member meets it or doesn't
+  pub counted-apart : (l : List C) → count_by p l + count_by (λ x. not (p x)) l ≡ length l
+  counted-apart [] = refl
+  counted-apart (x ∷ l) =
+      ap₂ (λ n m. n + m) (sum_by-cons (λ x. cond (p x) 1 0) x l) (sum_by-cons (λ x. cond (not (p x)) 1 0) x l)
+      ∙ one-apart (p x) (count_by p l) (count_by (λ x. not (p x)) l) (length l) (counted-apart l)

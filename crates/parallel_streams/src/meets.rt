@@ -49,6 +49,13 @@ impl<T: Value, P: Test<T>> Collector for Meets<'_, T, P> {
         Ok(())
     }
 
+    fn accumulate_all(&self, acc: &mut bool, items: &[T]) -> Result<(), NoMemory> {
+        if !*acc {
+            *acc = self.test.count_meeting(items) > 0;
+        }
+        Ok(())
+    }
+
     fn combine(&self, left: &mut bool, right: bool) -> Result<(), NoMemory> {
         if !*left {
             *left = right;
@@ -78,5 +85,9 @@ impl<T: Value, P: Test<T>> Test<T> for Contrary<'_, P> {
 
     fn holds(&self, x: &T) -> bool {
         !self.test.holds(x)
+    }
+
+    fn count_meeting(&self, items: &[T]) -> usize {
+        items.len() - self.test.count_meeting(items)
     }
 }
