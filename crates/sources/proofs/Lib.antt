@@ -1,1 +1,2 @@
 pub mod RangeBlocks
+pub mod ProgressionBlocks
