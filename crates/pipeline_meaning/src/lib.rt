@@ -7,6 +7,7 @@ mod block_functions;
 mod failing;
 mod functions;
 mod joined_text;
+mod list_text;
 mod number_bases;
 mod number_copies;
 mod number_steps;
@@ -29,6 +30,7 @@ pub use functions::{
     TextMerging,
 };
 pub use joined_text::JoinedText;
+pub use list_text::ListText;
 pub use number_bases::{NumberBaseCollector, NumberBaseContainer, NumberBaseResult, number_base};
 pub use number_steps::NumberSteps;
 pub use number_summaries::{

@@ -1,6 +1,6 @@
 //! The collector of a base of numbers, chosen at run time.
 ghost use Rattle.std.proofs.Common.{ap};
-ghost use Rattle.std.specs.Prelude.{◌≡◌, ℤ, pos, refl, List};
+ghost use Rattle.std.specs.Prelude.{◌≡◌, ℤ, pos, refl, codes, List};
 ghost use Rattle.std.specs.Fmt.{signed_decimal};
 ghost use Rattle.std.specs.Ordering.{int_eq};
 ghost use Rattle.spliterator.specs.Values.{IsI64, int_eq-decides};
@@ -13,7 +13,7 @@ ghost use Rattle.pipeline_meaning.specs.PreparedLaws.{number_join-value};
 ghost use Rattle.pipeline_meaning.specs.Summaries.{number_base_text};
 ghost use Rattle.pipeline_meaning.specs.SummaryLaws.{optional_tells, either_tells, joined_text_laws};
 
-use crate::{JoinedText, NumberMerging, Summarizes, Written};
+use crate::{ListText, NumberMerging, Summarizes, Written};
 use collectors::{Collector, Counting, Reducing, SummingLong};
 use either::{Either, Left, Right};
 use parts::Itself;
@@ -24,7 +24,7 @@ use std::alloc::Global;
 // What is made of numbers at once, as is chosen at run time.
 type NumberBaseChoice = Either<
     Either<Counting<i64>, SummingLong<i64, Itself>>,
-    Either<Reducing<i64, NumberMerging>, JoinedText<'static, i64>>,
+    Either<Reducing<i64, NumberMerging>, ListText<i64>>,
 >;
 
 /// What is made of numbers at once. It has a type of its own, since a tower of `Either`s costs what stands over it.
@@ -74,7 +74,7 @@ impl Collector for NumberBaseCollector {
 
     ghost gives = { λ c l result. ⟦<NumberBaseChoice as Collector>⟧.gives c.chosen l result.made };
 
-    ghost laws = { λ c. either_laws IsI64 _ _ _ _ _ _ (either_laws IsI64 _ _ _ _ _ _ (λ _. sum_laws (λ _. pos 1) IsI64) (λ _. sum_laws (λ x. x) IsI64)) (either_laws IsI64 _ _ _ _ _ _ (λ r. reduce_laws (number_join r.operator.merge) IsI64 (number_join-value r.operator.merge) (associative-tested int_eq int_eq-decides IsI64 (number_join r.operator.merge) r.associative)) (λ joined. joined_text_laws signed_decimal joined.between.now IsI64)) c.chosen };
+    ghost laws = { λ c. either_laws IsI64 _ _ _ _ _ _ (either_laws IsI64 _ _ _ _ _ _ (λ _. sum_laws (λ _. pos 1) IsI64) (λ _. sum_laws (λ x. x) IsI64)) (either_laws IsI64 _ _ _ _ _ _ (λ r. reduce_laws (number_join r.operator.merge) IsI64 (number_join-value r.operator.merge) (associative-tested int_eq int_eq-decides IsI64 (number_join r.operator.merge) r.associative)) (λ _. joined_text_laws signed_decimal (codes ", ") IsI64)) c.chosen };
 
     fn supply(&self) -> Result<NumberBaseContainer, NoMemory> {
         let held = self.chosen.supply()?;
@@ -125,7 +125,7 @@ pub fn number_base(alloc: Global, base: NumberBase) -> NumberBaseCollector
         NumberBase::Max => Right(Left(Reducing::new(NumberMerging::of(NumberMerge::Max)))),
         NumberBase::Min => Right(Left(Reducing::new(NumberMerging::of(NumberMerge::Min)))),
         NumberBase::First => Right(Left(Reducing::new(NumberMerging::of(NumberMerge::First)))),
-        NumberBase::ToList => Right(Right(JoinedText::list(alloc))),
+        NumberBase::ToList => Right(Right(ListText::new(alloc))),
     };
     NumberBaseCollector { chosen }
 }

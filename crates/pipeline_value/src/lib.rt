@@ -21,6 +21,7 @@ mod number_maps;
 mod numbers;
 mod places;
 mod settled;
+mod stepped;
 mod text_end;
 mod text_groups;
 mod text_maps;

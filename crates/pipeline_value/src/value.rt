@@ -10,6 +10,7 @@ use crate::fronts::{FRONTS, front_value};
 use crate::known_size::known_count;
 use crate::narrowed::narrowed;
 use crate::numbers::{list_value, number_value};
+use crate::stepped::stepped;
 use crate::texts::text_value;
 use crate::told::{ValueError, told};
 use parallel_streams::Run;
@@ -95,7 +96,8 @@ fn listed_value<R: Threads + Sync, H: Gate + Sync>(
 }
 
 /// The text of the value of a body, over a range. A `distinct` that its numbers come to without repeats is dropped, limits and skips that look
-/// at no item narrow the range, and a short front of it may be enough.
+/// at no item narrow the range, and a short front of it may be enough. Sums, products and negatives that come first are taken by the numbers
+/// themselves.
 fn narrowed_value<R: Threads + Sync, H: Gate + Sync>(
     engine: &Engine<'_, R, H>,
     range: RangeSplit,
@@ -111,5 +113,6 @@ fn narrowed_value<R: Threads + Sync, H: Gate + Sync>(
             return told;
         }
     }
-    number_value(engine, range, Nothing::new(), &body)
+    let numbers = stepped(range, &mut body.stages);
+    number_value(engine, numbers, Nothing::new(), &body)
 }

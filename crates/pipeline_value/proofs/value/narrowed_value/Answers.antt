@@ -1,6 +1,7 @@
 use Rattle.std.proofs.Common.{rules, w64, ℤ, List, subst, ◌∙◌}
 use Rattle.std.specs.Prelude.{FitsSigned}
 use Rattle.sources.specs.Integers.{integers}
+use Rattle.sources.specs.Progressions.{progression}
 use Rattle.pipeline_value.specs.Differing.{range-told}
 use Rattle.pipeline_value.specs.Value.{Tells, number_told}
 use Rattle.pipeline_value.proofs.Telling.{narrowed-told}
@@ -18,8 +19,8 @@ pub returns : goal.returns
 returns g c =
     let body = c.args.body in
     let whole = c.args.range in
-    let range = c.narrowed-range.result in
+    let numbers = c.stepped-numbers.result in
     let items = integers whole.next whole.left in
     let first : FitsSigned w64 whole.next = search rules in
-    narrowed-told body.terminal body.stages.items c.narrowed-range.new.stages.items items (integers range.next range.left) c.number_value.result
-    (c.narrowed-range.ensures.value ∙ c.drop_distincts.ensures.value items (range-told whole.next whole.left first whole.within_type)) c.number_value.ensures
+    narrowed-told body.terminal body.stages.items c.stepped-numbers.new.stages.items items (progression numbers.next numbers.step numbers.left) c.number_value.result
+    (c.stepped-numbers.ensures.value ∙ c.narrowed-range.ensures.value ∙ c.drop_distincts.ensures.value items (range-told whole.next whole.left first whole.within_type)) c.number_value.ensures
