@@ -1,7 +1,8 @@
 use super::{Side, check_row, range, read, walks, wrapped};
 use either::{Left, Right};
 use sources::{
-    Concat, DequeSplit, LinesSplit, MAX_RANGE, RangeSplit, RangeTooLong, SliceSplit, Windowed,
+    Concat, DequeSplit, LinesSplit, MAX_RANGE, Progression, RangeSplit, RangeTooLong, SliceSplit,
+    Windowed,
 };
 use spliterator::{MAX_ESTIMATE, NoMemory, Spliterator};
 use std::alloc::{AllocError, Global};
@@ -171,6 +172,31 @@ fn a_deque_whose_storage_wraps_is_split_and_read_like_any_other(
     assert!(rt; queue.as_slices().1.len() == 2);
     let deque = DequeSplit::new(&queue);
     check(&rt, rt.alloc(), deque, OF_WRAPPED).and(walks::check(&rt, rt.alloc(), deque, &[1, 2, 3]))
+}
+
+/// What is made of the numbers 1 to 3 (times, then plus), and the split and the items of that.
+static STEPS: [(i64, i64, Split<'_, i64>, &[i64]); 3] = [
+    (3, -1, (0x4550, 3, Some(&[2]), &[5, 8]), &[2, 5, 8]),
+    (0, 7, (0x4550, 3, Some(&[7]), &[7, 7]), &[7, 7, 7]),
+    (
+        -1,
+        i64::MIN + 2,
+        (0x4550, 3, Some(&[i64::MIN + 1]), &[i64::MIN, i64::MAX]),
+        &[i64::MIN + 1, i64::MIN, i64::MAX],
+    ),
+];
+
+#[test]
+fn numbers_by_one_step_are_split_and_read_like_any_others(rt: HostRuntime) -> Result<(), NoMemory> {
+    let range = RangeSplit::closed(1, 3).expect(&rt, "a range");
+    for &(factor, summand, split, items) in &STEPS {
+        let numbers = Progression::of(range).times(factor).plus(summand);
+        check(&rt, rt.alloc(), numbers, split)?;
+        walks::check(&rt, rt.alloc(), numbers, items)?;
+    }
+    let negatives = read(rt.alloc(), Progression::of(range).negated())?;
+    assert!(rt; negatives.as_slice() == [-1, -2, -3]);
+    Ok(())
 }
 
 /// Texts, and their bytes, the part and the rest of their split into lines. A carriage return is no end of a line.
