@@ -195,7 +195,7 @@ fn numbers_by_one_step_are_split_and_read_like_any_others(rt: HostRuntime) -> Re
         walks::check(&rt, rt.alloc(), numbers, items)?;
     }
     let negatives = read(rt.alloc(), Progression::of(range).negated())?;
-    assert!(rt; negatives.as_slice() == [-1, -2, -3]);
+    assert!(rt; negatives.as_slice() == [-1, -2, -3].as_slice());
     Ok(())
 }
 
