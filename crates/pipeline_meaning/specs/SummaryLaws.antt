@@ -14,7 +14,7 @@ use Rattle.collectors.specs.Reductions.{reduced, first, reduce_add, reduce_merge
 use Rattle.collectors.specs.Texts.{join_with, joining_laws}
 use Rattle.collectors.specs.Either.{either_gives}
 use Rattle.collectors.specs.Grouping.{IsGrouping, of_key, pairs, contents}
-use Rattle.pipeline_meaning.specs.Texts.{optional_text, list_text, map_text, entry_text, with_commas}
+use Rattle.pipeline_meaning.specs.Texts.{optional_text, map_text, entry_text, with_commas}
 use Rattle.pipeline_meaning.specs.Summaries.{itself, groups_text}
 
 module _ {A C : Type 0} (text : A → List ℕ) (content : A → C) (spelling : C → List ℕ) (spelled : (x : A) → text x ≡ spelling (content x)) where

@@ -1,8 +1,8 @@
 -- Fronts of numbers by one step, and what follows them.
-use Rattle.std.specs.Prelude.{◌≡◌, ℕ, ◌-◌, ◌<◌, ◌≤◌, min, ℤ, FitsSigned, List, [], ◌++◌, length, take, drop, map}
+use Rattle.std.specs.Prelude.{◌≡◌, ℕ, ◌-◌, ◌≤◌, min, ℤ, FitsSigned, List, [], ◌++◌, length, take, drop, map}
 use Rattle.std.proofs.Common.{w64, sym, ap, ap₂, ◌∙◌, arith, ⊎_elim}
 use Rattle.std.proofs.lemmas.Bool.{cases_lt}
-use Rattle.std.proofs.lemmas.List.{map-id, take-append-drop, drop_all}
+use Rattle.std.proofs.lemmas.List.{map-id, take-append-drop}
 use Rattle.std.proofs.Math.Seq.{take-append_seam}
 use Rattle.sources.specs.Progressions.{progression, steps_on}
 use Rattle.sources.specs.ProgressionLaws.{length-progression, take-progression, take-progression_all, drop-progression, drop-progression_all}

@@ -1,4 +1,4 @@
-use Rattle.std.proofs.Common.{◌≡◌, ◌<◌, ◌+◌, ◌∷◌, ◌++◌, [], ◌+ℤ◌, rules, length, ap, ap₂, sym, ◌∙◌, arith, w64, to_z, of_z, ℤ}
+use Rattle.std.proofs.Common.{◌≡◌, ◌<◌, ◌∷◌, ◌++◌, [], ◌+ℤ◌, rules, length, ap, ap₂, sym, ◌∙◌, arith, w64, to_z, of_z, ℤ}
 use Rattle.std.specs.Int.{int_wrap}
 use Rattle.std.specs.Prelude.{FitsSigned}
 use Rattle.std.proofs.lemmas.List.{take_more_set}

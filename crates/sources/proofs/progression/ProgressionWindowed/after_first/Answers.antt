@@ -1,4 +1,4 @@
-use Rattle.std.proofs.Common.{◌≡◌, ◌<◌, ◌-◌, ◌^◌, ◌+ℤ◌, ◌*ℤ◌, pos, ap, ap₂, ◌∙◌, arith, rules, w64, to_z, of_z, min}
+use Rattle.std.proofs.Common.{◌≡◌, ◌<◌, ◌-◌, ◌^◌, ◌+ℤ◌, ◌*ℤ◌, pos, ap, ◌∙◌, arith, rules, w64, to_z, of_z, min}
 use Rattle.std.specs.Int.{int_wrap}
 use Rattle.std.specs.Prelude.{FitsSigned}
 use Rattle.std.proofs.lemmas.Int.{int_wrap-add_right, to_z_pos}
