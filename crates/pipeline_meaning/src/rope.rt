@@ -8,6 +8,9 @@ use std::alloc::{AllocError, Global};
 use std::marker::Model;
 use std::mem;
 
+/// The most bytes of a text that is copied.
+const SHORT: usize = 4096;
+
 /// A text in segments. What follows it is put behind it as it stands, so that a long text is written once and never moved.
 #[derive(Drop)]
 pub struct Rope {
@@ -47,11 +50,14 @@ impl Rope {
         write_behind(between, value, &mut self.last)
     }
 
-    /// Puts another text behind this one.
+    /// Puts another text behind this one. A short one is copied, so that many of these make no segment each.
     pub fn append(&mut self, later: Rope) -> Result<(), AllocError>
         ensures { OnOk result (self.new ≡ self.old ++ later) }
     {
         let Rope { mut before, last } = later;
+        if before.is_empty() && last.len() <= SHORT {
+            return self.last.push_str(&last);
+        }
         self.before.push(mem::replace(&mut self.last, last))?;
         self.before.append(&mut before)
     }
