@@ -106,5 +106,10 @@ pub trait Collector {
         false
     }
 
+    /// Whether a container keeps a list that is handed over as it stands, with no look at its items. No result depends on it.
+    fn keeps_lists(&self) -> bool {
+        false
+    }
+
     ghost laws: { (c : Self) → CollectorLaws Self.Item.is_value (empty c) (add c) (merge c) };
 }

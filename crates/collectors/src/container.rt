@@ -5,6 +5,7 @@ ghost use Rattle.std.specs.Prelude.{List, [], ◌∷◌, ◌++◌, IfOk, OnOk, m
 ghost use Rattle.collectors.specs.Laws.{IsContainerOf};
 
 use crate::Collector;
+use crate::strands::are_values;
 use spliterator::{NoMemory, Value};
 
 /// The container of no items.
@@ -70,6 +71,19 @@ pub fn fold_items<C: Collector>(collector: &C, items: &[C::Item]) -> Result<C::A
 {
     let mut acc = new_container(collector)?;
     accumulate_items(collector, &mut acc, items)?;
+    Ok(acc)
+}
+
+/// The container of the items of a list, which it may keep as they are.
+pub fn fold_owned<C: Collector>(collector: &C, mut items: Vec<C::Item>) -> Result<C::Acc, NoMemory>
+where
+    C::Item: Drop,
+    requires { C.ready collector.now }
+    ensures { IfOk result (IsContainerOf C.Item.is_value (C.content collector.now) (C.empty collector.now) (C.add collector.now) (map C.Item.content items.items)) }
+{
+    are_values(items.as_slice());
+    let mut acc = collector.supply()?;
+    collector.accumulate_all_owned(&mut acc, &mut items)?;
     Ok(acc)
 }
 

@@ -14,8 +14,11 @@ pub struct Groups<K: Eq + Hash, A, S: BuildHasher> {
     pub(crate) entries: IndexMap<K, A, S>,
     // No result depends on these two.
     pub(crate) last: usize,
-    pub(crate) expected: Option<usize>,
+    pub(crate) expected: usize,
 }
+
+// Where no group stands, however many there are.
+const NOWHERE: usize = usize::MAX;
 
 impl<K: Eq + Hash + Drop, A: Drop, S: BuildHasher> Groups<K, A, S> {
     /// Adds a group behind the others.
@@ -24,7 +27,7 @@ impl<K: Eq + Hash + Drop, A: Drop, S: BuildHasher> Groups<K, A, S> {
             OnOk result (self.new.entries.entries ≡ added) }
     {
         self.last = self.entries.len();
-        self.expected = Some(0);
+        self.expected = 0;
         add_entry(&mut self.entries, key, kept)
     }
 }
@@ -37,7 +40,7 @@ impl<K: Eq + Hash, A, S: BuildHasher> Groups<K, A, S> {
         Groups {
             entries: IndexMap::with_hasher(alloc, hash_builder),
             last: 0,
-            expected: None,
+            expected: NOWHERE,
         }
     }
 
@@ -61,13 +64,13 @@ impl<K: Eq + Hash, A, S: BuildHasher> Groups<K, A, S> {
     ///
     /// Items often come in a repeating order of keys, as the remainders of a range do, or in runs of one key, as sorted items do. Where they
     /// just did neither, no place is expected, so that scattered keys cost no comparison.
-    pub(crate) fn expected_behind(&self, at: usize) -> Option<usize> {
-        if at == self.behind(self.last) {
-            Some(self.behind(at))
-        } else if at == self.last {
-            Some(at)
+    pub(crate) fn expected_behind(&self, at: usize) -> usize {
+        if at == self.last {
+            at
+        } else if at == self.expected || at == self.behind(self.last) {
+            self.behind(at)
         } else {
-            None
+            NOWHERE
         }
     }
 
@@ -75,10 +78,8 @@ impl<K: Eq + Hash, A, S: BuildHasher> Groups<K, A, S> {
     pub(crate) fn place_of(&self, key: &K) -> Option<usize>
         ensures { result ≡ index_of K.eq self.now.entries key.now }
     {
-        if let Some(at) = self.expected
-            && self.stands_at(at, key)
-        {
-            return Some(at);
+        if self.stands_at(self.expected, key) {
+            return Some(self.expected);
         }
         self.entries.get_index_of(key)
     }

@@ -3,8 +3,8 @@ ghost use Rattle.std.specs.Prelude.{◌≡◌, List, [], ◌++◌, map};
 ghost use Rattle.spliterator.specs.Clones.{ClonesAlike, TestsClonesAlike};
 ghost use Rattle.collectors.specs.NestedLaws.{push, list_laws};
 
-use crate::Collector;
 use crate::collector::LIGHT_ENTRIES;
+use crate::{Collector, Pieces};
 use spliterator::{NoMemory, Value};
 use std::alloc::Global;
 use std::marker::PhantomData;
@@ -31,13 +31,13 @@ impl<T: Value + Clone> ToList<T> {
 impl<T: Value + Clone> Collector for ToList<T> {
     type Item = T;
 
-    type Acc = Vec<T>;
+    type Acc = Pieces<T>;
 
     type Out = Vec<T>;
 
     ghost Content = { List T.Content };
 
-    ghost content = { λ _ v. map T.content v.items };
+    ghost content = { λ _ v. map T.content v };
 
     ghost empty = { λ _. [] };
 
@@ -49,47 +49,52 @@ impl<T: Value + Clone> Collector for ToList<T> {
 
     ghost laws = { λ _. list_laws T.is_value };
 
-    fn supply(&self) -> Result<Vec<T>, NoMemory> {
-        Ok(Vec::new(self.alloc))
+    fn supply(&self) -> Result<Pieces<T>, NoMemory> {
+        Ok(Pieces::new(self.alloc))
     }
 
-    // Where that room is refused, it grows as items come.
-    fn supply_for(&self, number: u64) -> Result<Vec<T>, NoMemory> {
-        let mut acc = Vec::new(self.alloc);
-        let _refused = acc.reserve_exact(number as usize);
-        Ok(acc)
+    fn supply_for(&self, number: u64) -> Result<Pieces<T>, NoMemory> {
+        Ok(Pieces::with_room(self.alloc, number as usize))
     }
 
-    fn accumulate(&self, acc: &mut Vec<T>, x: &T) -> Result<(), NoMemory> {
+    fn accumulate(&self, acc: &mut Pieces<T>, x: &T) -> Result<(), NoMemory> {
         acc.push(x.clone()?)?;
         Ok(())
     }
 
-    fn accumulate_all(&self, acc: &mut Vec<T>, items: &[T]) -> Result<(), NoMemory> {
+    fn accumulate_all(&self, acc: &mut Pieces<T>, items: &[T]) -> Result<(), NoMemory> {
         acc.extend_from_slice(items)?;
         Ok(())
     }
 
-    fn accumulate_owned(&self, acc: &mut Vec<T>, x: T) -> Result<(), NoMemory> {
+    fn accumulate_owned(&self, acc: &mut Pieces<T>, x: T) -> Result<(), NoMemory> {
         acc.push(x)?;
         Ok(())
     }
 
-    fn accumulate_all_owned(&self, acc: &mut Vec<T>, items: &mut Vec<T>) -> Result<(), NoMemory> {
+    fn accumulate_all_owned(
+        &self,
+        acc: &mut Pieces<T>,
+        items: &mut Vec<T>,
+    ) -> Result<(), NoMemory> {
         acc.append(items)?;
         Ok(())
     }
 
-    fn combine(&self, left: &mut Vec<T>, mut right: Vec<T>) -> Result<(), NoMemory> {
-        left.append(&mut right)?;
+    fn combine(&self, left: &mut Pieces<T>, right: Pieces<T>) -> Result<(), NoMemory> {
+        left.join(right)?;
         Ok(())
     }
 
-    fn finish(&self, acc: Vec<T>) -> Result<Vec<T>, NoMemory> {
-        Ok(acc)
+    fn finish(&self, acc: Pieces<T>) -> Result<Vec<T>, NoMemory> {
+        Ok(acc.into_list()?)
     }
 
-    fn is_light(&self, acc: &Vec<T>) -> bool {
-        acc.len() <= LIGHT_ENTRIES
+    fn is_light(&self, acc: &Pieces<T>) -> bool {
+        acc.is_within(LIGHT_ENTRIES)
+    }
+
+    fn keeps_lists(&self) -> bool {
+        true
     }
 }

@@ -7,7 +7,8 @@ ghost use Rattle.collectors.specs.Reductions.{reduced};
 
 use crate::Collector;
 use crate::collector::LIGHT_ENTRIES;
-use crate::map_entries::{add_entry, entry_of};
+use crate::groups::Groups;
+use crate::map_entries::add_entry;
 use crate::reducing::join_into;
 use indexmap::IndexMap;
 use spliterator::{NoMemory, Value};
@@ -115,7 +116,7 @@ where
 {
     type Item = T;
 
-    type Acc = IndexMap<K::Out, U, S>;
+    type Acc = Groups<K::Out, U, S>;
 
     type Out = IndexMap<K::Out, U, S>;
 
@@ -123,7 +124,7 @@ where
 
     ghost Content = { List (K.Out.Content × U.Content) };
 
-    ghost content = { λ c m. contents K.Out.content U.content m.entries };
+    ghost content = { λ c m. contents K.Out.content U.content m.entries.entries };
 
     ghost empty = { λ _. [] };
 
@@ -135,28 +136,35 @@ where
 
     ghost laws = { λ c. map_laws K.Out.same K.Out.same_decides (K.image c.key) (V.image c.value) (M.join c.merge) T.is_value U.is_value (V.images_are_values c.value) (M.joins_are_values c.merge) (associative-tested U.same U.same_decides U.is_value (M.join c.merge) c.associative) };
 
-    fn supply(&self) -> Result<IndexMap<K::Out, U, S>, NoMemory> {
-        Ok(IndexMap::with_hasher(self.alloc, self.hash_builder))
+    fn supply(&self) -> Result<Groups<K::Out, U, S>, NoMemory> {
+        Ok(Groups::new(self.alloc, self.hash_builder))
     }
 
-    fn accumulate(&self, acc: &mut IndexMap<K::Out, U, S>, x: &T) -> Result<(), NoMemory> {
-        let entry = entry_of(&self.key, &self.value, x)?;
-        merge_value(&self.merge, acc, entry)
+    fn accumulate(&self, acc: &mut Groups<K::Out, U, S>, x: &T) -> Result<(), NoMemory> {
+        let key = self.key.image(x)?;
+        let value = self.value.image(x)?;
+        if let Some(at) = acc.place_of(&key) {
+            acc.expected = acc.expected_behind(at);
+            acc.last = at;
+            let earlier = acc.entries.get_index_mut(at).unwrap();
+            return join_into(&self.merge, earlier, &value);
+        }
+        acc.push(key, value)
     }
 
     fn combine(
         &self,
-        left: &mut IndexMap<K::Out, U, S>,
-        right: IndexMap<K::Out, U, S>,
+        left: &mut Groups<K::Out, U, S>,
+        right: Groups<K::Out, U, S>,
     ) -> Result<(), NoMemory> {
-        merge_values(&self.merge, left, right)
+        merge_values(&self.merge, &mut left.entries, right.entries)
     }
 
-    fn finish(&self, acc: IndexMap<K::Out, U, S>) -> Result<IndexMap<K::Out, U, S>, NoMemory> {
-        Ok(acc)
+    fn finish(&self, acc: Groups<K::Out, U, S>) -> Result<IndexMap<K::Out, U, S>, NoMemory> {
+        Ok(acc.entries)
     }
 
-    fn is_light(&self, acc: &IndexMap<K::Out, U, S>) -> bool {
-        acc.len() <= LIGHT_ENTRIES
+    fn is_light(&self, acc: &Groups<K::Out, U, S>) -> bool {
+        acc.entries.len() <= LIGHT_ENTRIES
     }
 }

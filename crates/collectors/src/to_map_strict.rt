@@ -166,11 +166,16 @@ where
         })
     }
 
-    fn accumulate(
-        &self,
-        acc: &mut StrictEntries<K::Out, V::Out, S>,
-        x: &T,
-    ) -> Result<(), NoMemory> {
+    // A repeat that is kept isn't hidden by a refusal.
+    fn accumulate(&self, acc: &mut StrictEntries<K::Out, V::Out, S>, x: &T) -> Result<(), NoMemory>
+        requires { K.ready self.now.key × V.ready self.now.value }
+        ensures added { let seen = contents K.Out.content V.Out.content in
+            let repeat = option_map K.Out.content in
+            let add = strict_add K.Out.same (K.image self.now.key) (V.image self.now.value) in
+            OnOk result ((seen acc.new.entries.entries, repeat acc.new.repeated)
+            ≡ add (seen acc.old.entries.entries, repeat acc.old.repeated) (T.content x.now)) }
+        ensures unhidden { IfErr result (λ _. acc.old.repeated ≡ None) }
+    {
         acc.put_item(&self.key, &self.value, x)
     }
 

@@ -1,17 +1,24 @@
 -- Numbers by the digits in front of a text.
-use Rattle.std.proofs.Common.{◌≡◌, ℕ, zero, suc, ◌+◌, ◌-◌, ◌^◌, ◌<◌, ◌≤◌, List, [], ◌∷◌, ◌++◌, length, take, drop, get_or, slice_index, Some, None, false, All, add-one, le_refl, refl, sym, ap, ◌∙◌, subst, arith}
-use Rattle.std.specs.Prelude.{ℤ, pos, negsuc, neg_ℤ, nat_eq, nat_lt, nat_le, ◌==◌, if◌then◌else◌}
+use Rattle.std.proofs.Common.{◌≡◌, ℕ, zero, suc, ◌+◌, ◌-◌, ◌*◌, ◌%◌, ◌^◌, ◌⊎◌, inl, inr, ⊎_elim, Option, ◌<◌, ◌≤◌, List, [], ◌∷◌, ◌++◌, length, take, drop, get_or, slice_index, Some, None, Bool, true, false, cond, All, add-one, le_refl, refl, sym, ap, ◌∙◌, subst, arith}
+use Rattle.std.specs.Prelude.{ℤ, min, slice_range, pos, negsuc, neg_ℤ, nat_eq, nat_lt, nat_le, ◌==◌, if◌then◌else◌}
 use Rattle.std.specs.Int.{IsInRange}
 use Rattle.std.specs.Fmt.{decimal}
 use Rattle.std.specs.Str.Parse.{AllDigits, digits_value}
-use Rattle.std.proofs.lemmas.Bool.{cond_both, ltb-true, leb-true, le-leb, lt-ltb, ne_eqb, false_from_ne_true, false≢true}
+use Rattle.std.proofs.lemmas.Bool.{eq-eqb, eqb-true, and_from, and_parts, cases_eq, cond_both, ltb-true, leb-true, le-leb, lt-ltb, ne_eqb, false_from_ne_true, false≢true}
 use Rattle.std.proofs.lemmas.Fmt.{decimal_is_IsNumeral, decimal_digit, decimal-digits_value}
-use Rattle.std.proofs.lemmas.Int.Digits.{digits_value_more}
-use Rattle.std.proofs.lemmas.List.{append-nil, take_all, take-append-le, length-append}
+use Rattle.std.proofs.lemmas.Int.Digits.{digits_value-lt, digits_value_more}
+use Rattle.std.proofs.lemmas.List.{append-nil, get_or-take, length-take, length-take-le, take-take, take_all, take-append-le, length-append}
 use Rattle.std.proofs.lemmas.List.Elements.{All-cons, All-from_get_or}
 use Rattle.std.proofs.lemmas.Str.Parse.{digit_at, digit_from_value, digits_value-take-le}
 use Rattle.file_words.specs.Words.{IsNumber}
 use Rattle.file_words.specs.WordReading.{NoLonger, number_of}
+use Rattle.std.specs.Char.{digit_value, is_ascii_digit}
+use Rattle.std.specs.Float.Numeral.{digits_len}
+use Rattle.std.proofs.lemmas.Grind.{pow_more}
+use Rattle.std.proofs.lemmas.Slice.{between_to_end}
+use Rattle.std.proofs.lemmas.List.Sums.{prefix_len-le-length, prefix_len_stops}
+use Rattle.std.proofs.lemmas.Str.{digit_value_digit}
+use Rattle.std.proofs.Math.Nat.{mod-eq_of_lt, pow-le-pow_right}
 use Rattle.file_words.proofs.NumberLemmas.{own, is_leading_digit, is_plain_number, leading_bounds, not_plain, number_of_number, number_of_other}
 
 -- Behind a greater value no digit can follow.
@@ -175,10 +182,6 @@ behind_sign line digits end is = ap (take (end + 1)) is ∙ rw add-one refl
 next_behind : (line digits : List ℕ) (end : ℕ) → line ≡ 45 ∷ digits → slice_index line (end + 1) ≡ slice_index digits end
 next_behind line digits end is = ap (λ l. slice_index l (end + 1)) is ∙ rw add-one refl
 
-pub has_sign : (line : List ℕ) → 1 ≤ length line → get_or line 0 0 ≡ 45 → line ≡ 45 ∷ take (length line - 1) (drop 1 line)
-has_sign [] some is = absurd (omega (arith, some))
-has_sign (b ∷ line) some is = ap (λ c. c ∷ line) is ∙ ap (λ l. 45 ∷ l) (sym (take_all _ line (omega arith)))
-
 pub negative_front : (line digits : List ℕ) (value end : ℕ) → line ≡ 45 ∷ digits → AreFront digits value end → (if nat_le value 9223372036854775808 then Some (neg_ℤ (pos value)) else None) ≡ number_of (take (end + 1) line)
 negative_front line digits value end is f =
     negative_number (take end digits) value f.digits f.value (first_digit digits value end f) f.fits ∙ ap number_of (sym (behind_sign line digits end is))
@@ -194,10 +197,149 @@ negative_solid line digits value end is f =
     subst (All (λ b. (b == 32) ≡ false)) (sym (behind_sign line digits end is)) (All-cons (λ b. (b == 32) ≡ false) 45 (take end digits) refl (no_space_in (take end digits) f.digits))
 
 -- a sign with no number behind it
-pub sign_front : (line : List ℕ) → 1 ≤ length line → get_or line 0 0 ≡ 45 → None ≡ number_of (take 1 line)
-sign_front line some is = sym (ap number_of (first_alone line 45 some is) ∙ not_plain (45 ∷ []) refl)
-
 pub sign_past : (line digits : List ℕ) → line ≡ 45 ∷ digits → (49 ≤ get_or digits 0 0 → get_or digits 0 0 ≤ 57 → ⊥) → NoLonger 1 line
 sign_past line digits is wrong more =
     ap (λ l. number_of (take 1 l ++ slice_index l 1 ∷ more)) is
     ∙ not_plain (45 ∷ slice_index digits 0 ∷ more) (false_from_ne_true _ (λ t. let b = leading_bounds (slice_index digits 0) t in wrong b.0 b.1))
+
+-- Digits that are read from the front of a text, up to 19.
+front_of_digits : (bytes : List ℕ) (n : ℕ) → n ≤ digits_len bytes → AllDigits 10 (take n bytes)
+front_of_digits bytes zero few = tt
+front_of_digits [] (suc n) few = tt
+front_of_digits (b ∷ bytes) (suc n) few = by_test (front_of_digits bytes n) (is_ascii_digit b) refl few
+  where
+    by_test : (n ≤ digits_len bytes → AllDigits 10 (take n bytes)) → (t : Bool) → is_ascii_digit b ≡ t → suc n ≤ cond t (1 + digits_len bytes) 0 → (digit_value b < 10) × AllDigits 10 (take n bytes)
+    by_test later true is few =
+        let range = and_parts _ _ is in
+        let low : 48 ≤ b = leb-true 48 b range.0 in
+        let high : b ≤ 57 = leb-true b 57 range.1 in
+        (omega (arith, digit_value_digit b (low, high), high), later (omega (arith, few)))
+    by_test later false is few = absurd (omega (arith, few))
+
+-- so many digits, of which the first isn't 0, have at least that value
+at_least : (ds : List ℕ) (n : ℕ) → n < length ds → 49 ≤ get_or ds 0 0 → get_or ds 0 0 ≤ 57 → 10 ^ n ≤ digits_value 10 (take (n + 1) ds)
+at_least ds zero some low high =
+    omega (arith, digits_value_more 10 ds 0 some, digit_value_digit (get_or ds 0 0) (omega (arith, low), high), low)
+at_least ds (suc n) some low high =
+    let before : 10 ^ n ≤ digits_value 10 (take (n + 1) ds) = at_least ds n (omega (arith, some)) low high in
+    let next : suc n + 1 ≡ n + 1 + 1 = omega arith in
+    omega (arith, before, ap (λ k. 10 ^ k) (sym (add-one n)), pow_more 10 n, digits_value_more 10 ds (n + 1) (omega (arith, some)), ap (λ k. digits_value 10 (take k ds)) next)
+
+inside_of_digit : (bytes : List ℕ) (i : ℕ) → 48 ≤ get_or bytes i 0 → i < length bytes
+inside_of_digit [] i some = absurd (omega (arith, some))
+inside_of_digit (b ∷ bytes) zero some = omega arith
+inside_of_digit (b ∷ bytes) (suc i) some = let inside = inside_of_digit bytes i some in omega (arith, inside)
+
+module _ (bytes : List ℕ) (n end value : ℕ) (most : n ≤ 19) (inside : n ≤ length bytes) (ends : end ≡ 0 + digits_len (take n bytes)) (is : value ≡ (0 * 10 ^ (end - 0) + digits_value 10 (slice_range (take n bytes) 0 end)) % 2 ^ 64) where
+  room : length (take n bytes) ≡ n
+  room = length-take-le n bytes inside
+
+  within : end ≤ n
+  within = omega (arith, ends, prefix_len-le-length is_ascii_digit (take n bytes), room)
+
+  pub front_digits : AllDigits 10 (take end bytes)
+  front_digits = subst (AllDigits 10) (take-take end n bytes within) (front_of_digits (take n bytes) end (omega (arith, ends)))
+
+  fits : digits_value 10 (take end bytes) < 2 ^ 64
+  fits =
+      let below = digits_value-lt 10 (take end bytes) front_digits in
+      let long : length (take end bytes) ≤ 19 = omega (arith, length-take end bytes, within, most) in
+      let tens : 10 ^ length (take end bytes) ≤ 10 ^ 19 = pow-le-pow_right (omega arith) long in
+      omega (arith, below, tens)
+
+  pub front_value : value ≡ digits_value 10 (take end bytes)
+  front_value =
+      let all : end - 0 ≡ end = omega arith in
+      let whole : slice_range (take n bytes) 0 end ≡ take end bytes = ap (λ k. take k (take n bytes)) all ∙ take-take end n bytes within in
+      let sum : 0 * 10 ^ (end - 0) + digits_value 10 (take end bytes) ≡ digits_value 10 (take end bytes) = omega arith in
+      is ∙ ap (λ ds. (0 * 10 ^ (end - 0) + digits_value 10 ds) % 2 ^ 64) whole ∙ ap (λ v. v % 2 ^ 64) sum ∙ mod-eq_of_lt fits
+
+  -- where they end among those, no digit follows
+  pub front_stops : end < n → IsInRange 48 57 (slice_index bytes end) → ⊥
+  front_stops less range =
+      let whole : digits_len (take n bytes) ≡ end = omega (arith, ends) in
+      let stops : is_ascii_digit (get_or (take n bytes) (digits_len (take n bytes)) 0) ≡ false = prefix_len_stops is_ascii_digit (take n bytes) 0 (omega (arith, whole, less, room)) in
+      let next : get_or (take n bytes) (digits_len (take n bytes)) 0 ≡ get_or bytes end 0 = ap (λ k. get_or (take n bytes) k 0) whole ∙ get_or-take n bytes end 0 less in
+      let digit : is_ascii_digit (get_or bytes end 0) ≡ true = and_from _ _ (le-leb 48 _ range.0) (le-leb _ 57 range.1) in
+      false≢true (sym stops ∙ ap is_ascii_digit next ∙ digit)
+
+  -- what follows is no digit, or there are 19
+  pub front_end : n ≡ min (length bytes) 19 → 49 ≤ get_or bytes 0 0 → IsInRange 48 57 (slice_index bytes end) → 922337203685477580 < value
+  front_end all first range = ⊎_elim at_end (λ other. absurd (front_stops (omega (arith, other, within)) range)) (cases_eq end n)
+    where
+      at_end : end ≡ n → 922337203685477580 < value
+      at_end same =
+          let more : end < length bytes = inside_of_digit bytes end range.0 in
+          let count : end ≡ 19 = omega (arith, same, all, more) in
+          let digit : IsInRange 48 57 (get_or (take end bytes) 0 0) = digit_at (take end bytes) 0 front_digits (omega (arith, length-take end bytes, count, more)) in
+          let high : get_or bytes 0 0 ≤ 57 = omega (arith, digit, get_or-take end bytes 0 0 (omega (arith, count))) in
+          let least : 10 ^ 18 ≤ digits_value 10 (take 19 bytes) = at_least bytes 18 (omega (arith, more, count)) first high in
+          omega (arith, least, front_value, ap (λ k. digits_value 10 (take k bytes)) count)
+
+-- A line behind its sign, where it has one.
+abbrev pub IsSplit : List ℕ → List ℕ → ℕ → Type 0
+IsSplit line digits sign = ((sign ≡ 0) × (digits ≡ line) × (get_or line 0 0 ≡ 45 → ⊥)) ⊎ ((sign ≡ 1) × (line ≡ 45 ∷ digits))
+
+split_at : (line : List ℕ) (sign : ℕ) → sign ≡ (if get_or line 0 0 == 45 then 1 else 0) → IsSplit line (drop sign line) sign
+split_at [] sign is = inl (is, ap (λ s. drop s []) is, λ e. absurd (omega (arith, e)))
+split_at (b ∷ line) sign is = by_test (b == 45) refl is
+  where
+    by_test : (t : Bool) → (b == 45) ≡ t → sign ≡ cond t 1 0 → IsSplit (b ∷ line) (drop sign (b ∷ line)) sign
+    by_test true e is = inr (is, ap (λ c. c ∷ line) (eqb-true b 45 e) ∙ ap (λ l. 45 ∷ l) (sym (ap (λ s. drop s (b ∷ line)) is)))
+    by_test false e is = inl (is, ap (λ s. drop s (b ∷ line)) is, λ m. false≢true (sym e ∙ eq-eqb b 45 m))
+
+pub split_line : (line digits : List ℕ) (sign : ℕ) → sign ≡ (if get_or line 0 0 == 45 then 1 else 0) → digits ≡ take (length line - sign) (drop sign line) → IsSplit line digits sign
+split_line line digits sign is rest =
+    subst (λ l. IsSplit line l sign) (sym (rest ∙ between_to_end line sign (length line) (le_refl _))) (split_at line sign is)
+
+front_same : (line digits : List ℕ) (sign end : ℕ) → sign ≡ 0 → digits ≡ line → take (sign + end) line ≡ take end digits
+front_same line digits sign end none same =
+    let all : 0 + end ≡ end = omega arith in
+    ap (λ s. take (s + end) line) none ∙ ap (λ k. take k line) all ∙ ap (take end) (sym same)
+
+plain_length : (sign end : ℕ) → sign ≡ 0 → sign + end ≡ end
+plain_length sign end none = omega (arith, none)
+
+sign_length : (sign end : ℕ) → sign ≡ 1 → sign + end ≡ end + 1
+sign_length sign end one = omega (arith, one)
+
+pub split_solid : (line digits : List ℕ) (sign value end : ℕ) → IsSplit line digits sign → AreFront digits value end → All (λ b. (b == 32) ≡ false) (take (sign + end) line)
+split_solid line digits sign value end (inl e) f = subst (All (λ b. (b == 32) ≡ false)) (sym (front_same line digits sign end e.0 e.1)) (no_space_in _ f.digits)
+split_solid line digits sign value end (inr e) f =
+    subst (λ k. All (λ b. (b == 32) ≡ false) (take k line)) (sym (sign_length sign end e.0)) (negative_solid line digits value end e.1 f)
+
+pub split_past : (line digits : List ℕ) (sign value end : ℕ) → IsSplit line digits sign → AreFront digits value end → NoLonger (sign + end) line
+split_past line digits sign value end (inl e) f =
+    subst (λ k. NoLonger k line) (sym (plain_length sign end e.0)) (subst (λ l. NoLonger end l) e.1 (positive_past digits value end f))
+split_past line digits sign value end (inr e) f = subst (λ k. NoLonger k line) (sym (sign_length sign end e.0)) (negative_past line digits value end e.1 f)
+
+pub split_number : (line digits : List ℕ) (sign value end : ℕ) (number : Option ℤ) → IsSplit line digits sign → AreFront digits value end
+    → (sign ≡ 0 → number ≡ (if nat_lt value 9223372036854775808 then Some (pos value) else None)) → (0 < sign → number ≡ (if nat_le value 9223372036854775808 then Some (neg_ℤ (pos value)) else None))
+    → number ≡ number_of (take (sign + end) line)
+split_number line digits sign value end number (inl e) f plain behind =
+    plain e.0 ∙ positive_front digits value end f ∙ ap number_of (sym (front_same line digits sign end e.0 e.1))
+split_number line digits sign value end number (inr e) f plain behind =
+    behind (omega (arith, e.0)) ∙ negative_front line digits value end e.1 f ∙ ap (λ k. number_of (take k line)) (sym (sign_length sign end e.0))
+
+-- what begins with a 0
+pub split_zero : (line digits : List ℕ) (sign : ℕ) → IsSplit line digits sign → sign ≡ 0 → 1 ≤ length digits → get_or digits 0 0 ≡ 48 → (1 ≤ length line) × (get_or line 0 0 ≡ 48)
+split_zero line digits sign (inl e) none some is = (omega (arith, some, ap length e.1), ap (λ l. get_or l 0 0) (sym e.1) ∙ is)
+split_zero line digits sign (inr e) none some is = absurd (omega (arith, none, e.0))
+
+-- what begins as no number does
+pub split_none : (line digits : List ℕ) (sign : ℕ) → IsSplit line digits sign → None ≡ number_of (take sign line)
+split_none line digits sign (inl e) = sym (ap (λ s. number_of (take s line)) e.0 ∙ no_number)
+split_none line digits sign (inr e) =
+    sym (ap (λ s. number_of (take s line)) e.0 ∙ ap (λ l. number_of (take 1 l)) e.1 ∙ not_plain (45 ∷ []) refl)
+
+pub split_none_solid : (line digits : List ℕ) (sign : ℕ) → IsSplit line digits sign → All (λ b. (b == 32) ≡ false) (take sign line)
+split_none_solid line digits sign (inl e) = subst (λ s. All (λ b. (b == 32) ≡ false) (take s line)) (sym e.0) (no_space_in [] tt)
+split_none_solid line digits sign (inr e) =
+    subst (All (λ b. (b == 32) ≡ false)) (sym (ap (λ s. take s line) e.0 ∙ ap (take 1) e.1)) (All-cons (λ b. (b == 32) ≡ false) 45 [] refl (no_space_in [] tt))
+
+pub split_none_past : (line digits : List ℕ) (sign : ℕ) → IsSplit line digits sign → (sign ≡ 0 → get_or digits 0 0 ≡ 48 → ⊥) → (49 ≤ get_or digits 0 0 → get_or digits 0 0 ≤ 57 → ⊥) → NoLonger sign line
+split_none_past line digits sign (inl e) no_zero other =
+    let first : get_or digits 0 0 ≡ get_or line 0 0 = ap (λ l. get_or l 0 0) e.1 in
+    subst (λ s. NoLonger s line) (sym e.0)
+    (λ more. other_front (slice_index line 0) more (λ is. no_zero e.0 (first ∙ is)) e.2 (λ low high. other (omega (arith, low, first)) (omega (arith, high, first))))
+split_none_past line digits sign (inr e) no_zero other = subst (λ s. NoLonger s line) (sym e.0) (sign_past line digits e.1 other)

@@ -37,6 +37,21 @@ pub enum FileError {
     TooManyStages = 11,
 }
 
+// The numbers are the language's, whatever stands above.
+const _: () = prove!(
+    FileError::BadText as u8 == 1
+        && FileError::TooLarge as u8 == 2
+        && FileError::BadVersion as u8 == 3
+        && FileError::UnknownWord as u8 == 4
+        && FileError::BadArity as u8 == 5
+        && FileError::BadNumber as u8 == 6
+        && FileError::WrongKind as u8 == 7
+        && FileError::RangeTooLong as u8 == 8
+        && FileError::MissingTerminal as u8 == 9
+        && FileError::AfterTerminal as u8 == 10
+        && FileError::TooManyStages as u8 == 11
+);
+
 /// The first fault of a file. Lines are numbered from 1.
 #[derive(Clone, Copy, Debug, PartialEq, Eq)]
 pub struct FileFault {

@@ -1,6 +1,7 @@
 //! Lines of a file and words of a line.
 
 ghost use Rattle.std.specs.Prelude.{◌≡◌, ◌≤◌, ◌+◌, ◌∷◌, ℕ, List, length, All, IfSome, IsSome, IsUtf8};
+ghost use Rattle.memchr.specs.Find.{IsFirstByte, is_byte};
 ghost use Rattle.file_words.specs.Pieces.{CutsLine, IsTextOf, TakesLine, piece_bytes};
 ghost use Rattle.file_words.specs.Words.{lines_of, words_left, words_of};
 
@@ -8,6 +9,7 @@ use crate::fault::FileError;
 use memchr::memchr;
 use simdutf8::basic;
 use std::marker::Model;
+use std::simd::prelude::*;
 use std::str;
 
 /// Some bytes of a file, as text where the whole file is text.
@@ -115,6 +117,25 @@ impl<'a> Lines<'a> {
     }
 }
 
+/// How many bytes are compared at once.
+const LANES: usize = 32;
+
+/// Where a byte stands first. Most lines and words are shorter than the bytes that are compared here, which saves a call.
+#[inline(always)]
+fn first_near(byte: u8, bytes: &[u8]) -> Option<usize>
+    ensures { IsFirstByte (is_byte byte) bytes.now result }
+{
+    if bytes.len() >= LANES {
+        let marks = u8x32::from_slice(bytes)
+            .simd_eq(u8x32::splat(byte))
+            .to_bitmask();
+        if marks != 0 {
+            return Some(marks.trailing_zeros() as usize);
+        }
+    }
+    memchr(byte, bytes)
+}
+
 /// The first line of a text, and what stands behind its end.
 pub fn first_of_text(text: &str) -> Option<(&str, &str)>
     ensures text { IfSome result (λ p. IsUtf8 p.0.now × IsUtf8 p.1.now) }
@@ -123,7 +144,7 @@ pub fn first_of_text(text: &str) -> Option<(&str, &str)>
     if text.is_empty() {
         return None;
     }
-    match memchr(b'\n', text.as_bytes()) {
+    match first_near(b'\n', text.as_bytes()) {
         Some(end) => {
             let (line, behind) = text.split_at(end);
             Some((line, &behind[1..]))
@@ -153,7 +174,7 @@ pub(crate) fn first_word(line: &str) -> (&str, Option<&str>)
     ensures text { IsUtf8 result.0.now × IfSome result.1 (λ left. IsUtf8 left.now) }
     ensures word { words_of line.now ≡ result.0.now ∷ words_left result.1 }
 {
-    match memchr(b' ', line.as_bytes()) {
+    match first_near(b' ', line.as_bytes()) {
         Some(end) => {
             let (word, behind) = line.split_at(end);
             (word, Some(&behind[1..]))
@@ -162,7 +183,9 @@ pub(crate) fn first_word(line: &str) -> (&str, Option<&str>)
     }
 }
 
-/// What stands behind the first word of a line.
+/// What stands behind the first word of a line. It is called where a word is no number, out of the way of those that are.
+#[cold]
+#[inline(never)]
 pub(crate) fn behind_word(line: &[u8]) -> Option<&[u8]>
     ensures { (word : List ℕ) × (words_of line.now ≡ word ∷ words_left result) }
 {

@@ -6,9 +6,13 @@ ghost use Rattle.std.specs.Str.Parse.{AllDigits, digits_value};
 ghost use Rattle.file_words.specs.WordReading.{NoLonger, ReadsNumber, number_of};
 
 use crate::lines::behind_word;
+use core::dec2flt::read_digits;
 
-/// Behind a greater value no digit can follow in a number of 64 bits.
-const MOST_FRONT: u64 = 922_337_203_685_477_580;
+/// No number of 64 bits has more digits, and each value of so many fits 64 bits.
+const MOST_DIGITS: usize = 19;
+
+/// How many bytes are read at once. Fewer digits, and what ends them, are read without a loop.
+const WORD: usize = 8;
 
 /// The number that a word writes. Each number has one text: no sign but a `-`, no leading 0.
 pub(crate) fn parse_number(word: &str) -> Option<i64>
@@ -31,64 +35,77 @@ pub(crate) fn first_number(line: &[u8]) -> (Option<i64>, Option<&[u8]>)
 }
 
 /// The number that some bytes write in front, where they do, and how many bytes a number can have in common with them.
+#[inline(always)]
 fn front_number(line: &[u8]) -> (Option<i64>, usize)
     ensures within { result.1 ≤ length line.now }
     ensures solid { All (λ b. (b == 32) ≡ false) (take result.1 line.now) }
     ensures number { result.0 ≡ number_of (take result.1 line.now) }
     ensures past { NoLonger result.1 line.now }
 {
-    match line {
-        [b'0', ..] => (Some(0), 1),
+    let sign = sign_len(line);
+    let digits = &line[sign..];
+    match digits {
         [b'1'..=b'9', ..] => {
-            let (value, end) = front_digits(line);
-            (positive(value), end)
+            let (value, end) = front_digits(digits);
+            (signed(sign, value), sign + end)
         }
-        [b'-', digits @ ..] => match digits {
-            [b'1'..=b'9', ..] => {
-                let (value, end) = front_digits(digits);
-                (negative(value), end + 1)
-            }
-            _ => (None, 1),
-        },
-        _ => (None, 0),
+        [b'0', ..] if sign == 0 => (Some(0), 1),
+        _ => (None, sign),
     }
 }
 
-/// The value of the digits in front, and how many they are, up to one that is too many for a number.
+/// How many bytes the sign takes: no branch is guessed wrong where signs come by chance.
+#[inline(always)]
+fn sign_len(line: &[u8]) -> usize
+    ensures { result ≡ (if slice_index line.now 0 == 45 then 1 else 0) }
+{
+    match line {
+        [first, ..] => usize::from(*first == b'-'),
+        [] => 0,
+    }
+}
+
+/// The value of the digits in front, of which the first isn't 0, and how many they are, up to one that is too many for a number.
+#[inline(always)]
 fn front_digits(bytes: &[u8]) -> (u64, usize)
+    requires first { 49 ≤ slice_index bytes.now 0 }
     ensures within { result.1 ≤ length bytes.now }
     ensures digits { AllDigits 10 (take result.1 bytes.now) }
     ensures value { result.0 ≡ digits_value 10 (take result.1 bytes.now) }
     ensures end { IsInRange 48 57 (slice_index bytes.now result.1) → 922337203685477580 < result.0 }
 {
-    let mut value: u64 = 0;
-    for (index, byte) in bytes.iter().enumerate() {
-        match *byte {
-            digit @ b'0'..=b'9' if value <= MOST_FRONT => {
-                value = value * 10 + u64::from(digit - b'0');
-            }
-            _ => return (value, index),
+    if bytes.len() >= WORD {
+        let (end, value) = read_digits(&bytes[..WORD], 0, 0);
+        if end < WORD {
+            return (value, end);
         }
     }
-    (value, bytes.len())
+    many_digits(bytes)
 }
 
-fn positive(value: u64) -> Option<i64>
-    ensures { result ≡ (if nat_lt value (2 ^ 63) then Some (pos value) else None) }
+/// The same of digits that don't end in one word.
+#[inline(never)]
+fn many_digits(bytes: &[u8]) -> (u64, usize)
+    requires first { 49 ≤ slice_index bytes.now 0 }
+    ensures within { result.1 ≤ length bytes.now }
+    ensures digits { AllDigits 10 (take result.1 bytes.now) }
+    ensures value { result.0 ≡ digits_value 10 (take result.1 bytes.now) }
+    ensures end { IsInRange 48 57 (slice_index bytes.now result.1) → 922337203685477580 < result.0 }
 {
-    if value <= i64::MAX as u64 {
-        Some(value as i64)
-    } else {
-        None
-    }
+    let (end, value) = read_digits(&bytes[..bytes.len().min(MOST_DIGITS)], 0, 0);
+    (value, end)
 }
 
-fn negative(value: u64) -> Option<i64>
-    ensures { result ≡ (if nat_le value (2 ^ 63) then Some (neg_ℤ (pos value)) else None) }
+/// The number of that value, which is negative where a sign stands before it.
+#[inline(always)]
+fn signed(sign: usize, value: u64) -> Option<i64>
+    ensures positive { sign ≡ 0 → result ≡ (if nat_lt value (2 ^ 63) then Some (pos value) else None) }
+    ensures negative { 0 < sign → result ≡ (if nat_le value (2 ^ 63) then Some (neg_ℤ (pos value)) else None) }
 {
     if value <= i64::MAX as u64 {
-        Some(-(value as i64))
-    } else if value == 1 << 63 {
+        let size = value as i64;
+        Some(if sign > 0 { -size } else { size })
+    } else if sign > 0 && value == 1 << 63 {
         Some(i64::MIN)
     } else {
         None

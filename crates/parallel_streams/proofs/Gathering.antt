@@ -21,14 +21,14 @@ use Rattle.parallel_streams.specs.declared.places.Places.{Places}
 use Rattle.parallel_streams.proofs.Harmless.{is-entry}
 
 module _ {P T C : Type 0} (before : Work P) (is_value : C → Type 0) (needed : Option ℕ) (counted : C → Bool) (value : List C → List C) (law : KeepsEnough needed counted value) (content : T → C) (whole : List C) (lists : List (List C)) where
-  abbrev own : Work (Vec T)
-  own = work_of (folding needed counted is_value [] push) (λ v. map content v.items) lists
+  abbrev own : Work (List T)
+  own = work_of (folding needed counted is_value [] push) (map content) lists
 
   -- the value of what the run kept is that of the whole list, and the entry says what can't matter
-  pub gathered-own : (done : Bool) → (done ≡ true → joined lists ≡ whole) → (part : Part P T) (items kept : Vec T) (places : Places) (entry : Outcome) → part ≡ Own items
+  pub gathered-own : (done : Bool) → (done ≡ true → joined lists ≡ whole) → (part : Part P T) (items : List T) (kept : Vec T) (places : Places) (entry : Outcome) → part ≡ Own items
       → StandsForRun (barred_work done before own) part
       → Reports (barred_work done before own).needed (barred_work done before own).leaves (barred_work done before own).full entry.leaves (count_of entry) (cut_of entry)
-      → map content kept.items ≡ value (map content items.items) → Ascends 0 (length kept.items) (ends_of places)
+      → map content kept.items ≡ value (map content items) → Ascends 0 (length kept.items) (ends_of places)
       → (done ≡ true) × IsListed content (value whole) (record { items = kept; places = places }) × IsEntryOf needed counted value lists entry
   gathered-own false joins part items kept places entry is stands reports applied cut =
       let Q : Part P T → Type 0 = λ p. StandsForRun (barred_work false before own) p in
@@ -41,10 +41,10 @@ module _ {P T C : Type 0} (before : Work P) (is_value : C → Type 0) (needed : 
       let Q : Part P T → Type 0 = λ p. StandsForRun (barred_work true before own) p in
       let mine = (stands-own before own true items (subst Q is stands)).1 in
       let all = joins refl in
-      let run = run-front (folding needed counted is_value [] push) (λ v. map content v.items) lists items mine in
+      let run = run-front (folding needed counted is_value [] push) (map content) lists items mine in
       let front = run.0 in
-      let kept_front : map content items.items ≡ front = run.2.1 ∙ listed front in
-      let same : value (map content items.items) ≡ value whole = ap value kept_front ∙ sym (value-front needed counted value law (joined lists) front run.1) ∙ ap value all in (
+      let kept_front : map content items ≡ front = run.2.1 ∙ listed front in
+      let same : value (map content items) ≡ value whole = ap value kept_front ∙ sym (value-front needed counted value law (joined lists) front run.1) ∙ ap value all in (
         refl,
         record {
           is = applied ∙ same;

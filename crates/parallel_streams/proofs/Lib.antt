@@ -1,3 +1,4 @@
 pub mod Harmless
 pub mod Gathering
 pub mod Firsts
+pub mod Idle

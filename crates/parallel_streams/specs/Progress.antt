@@ -1,6 +1,5 @@
 -- How far the barriers of a stream have come.
 use Rattle.std.specs.Prelude.{◌≡◌, ◌+◌, ℕ, Bool, true, false, List, [], Option, Some, None, Result, Ok, Err, map, length}
-use Rattle.std.specs.Global.{Vec}
 use Rattle.stealing_pool.specs.Jobs.{Work}
 use Rattle.leaf_board.specs.Closing.{Outcome}
 use Rattle.stealing_pool.specs.declared.job.LeafEnd.{LeafEnd}
@@ -62,12 +61,12 @@ abbrev pub KeepsBefore : {P T : Type 0} → (P → Type 0) → Part P T → Type
 KeepsBefore keeps (Before p) = keeps p
 KeepsBefore keeps (Own items) = ⊥
 
-abbrev pub KeepsOwn : {P T : Type 0} → (Vec T → Type 0) → Part P T → Type 0
+abbrev pub KeepsOwn : {P T : Type 0} → (List T → Type 0) → Part P T → Type 0
 KeepsOwn keeps (Before p) = ⊥
 KeepsOwn keeps (Own items) = keeps items
 
 -- while a barrier before has not run, the next run is that barrier's; then it is this barrier's own
-abbrev pub barred_work : {P T : Type 0} → Bool → Work P → Work (Vec T) → Work (Part P T)
+abbrev pub barred_work : {P T : Type 0} → Bool → Work P → Work (List T) → Work (Part P T)
 barred_work false before own = record { leaves = before.leaves; full = before.full; needed = before.needed; Keeps = λ from to count part. KeepsBefore (before.Keeps from to count) part }
 barred_work true before own = record { leaves = own.leaves; full = own.full; needed = own.needed; Keeps = λ from to count part. KeepsOwn (own.Keeps from to count) part }
 

@@ -1,7 +1,6 @@
 -- What holds of the progress of a stream with barriers.
 use Rattle.std.specs.Prelude.{◌≡◌, ◌<◌, ◌+◌, ◌++◌, ℕ, Bool, true, false, List, [], Option, Some, None, Result, Ok, Err, OnOk, IfOk, map, length, slice_get, slice_index_or, refl}
 use Rattle.std.proofs.Common.{sym, ap, ◌∙◌, subst, arith, true≢false}
-use Rattle.std.specs.Global.{Vec}
 use Rattle.std.proofs.lemmas.List.{length-map}
 use Rattle.stealing_pool.specs.Jobs.{Work, Combines, StandsForRun, EndsLeaf}
 use Rattle.stealing_pool.specs.declared.job.LeafEnd.{LeafEnd}
@@ -20,7 +19,7 @@ use Rattle.parallel_streams.specs.declared.part.Part.{Part}
 use Rattle.parallel_streams.specs.declared.part.Part.TheVariants.{Before, Own}
 
 -- the next run has the leaves that are told
-pub barred-leaves : {P T : Type 0} (done : Bool) (before : Work P) (own : Work (Vec T)) (n : ℕ) (listed : Option (Listed T)) → is_listed listed ≡ false
+pub barred-leaves : {P T : Type 0} (done : Bool) (before : Work P) (own : Work (List T)) (n : ℕ) (listed : Option (Listed T)) → is_listed listed ≡ false
     → (done ≡ false → before.leaves ≡ n) → (done ≡ true → own.leaves ≡ n) → (barred_work done before own).leaves ≡ next_leaves n listed
 barred-leaves done before own n (Some l) unrun of_before of_own = absurd (true≢false unrun)
 barred-leaves true before own n None unrun of_before of_own = of_own refl
@@ -43,21 +42,21 @@ pub count-parts_of : {T C : Type 0} (content : T → C) (n : ℕ) (listed : Opti
 count-parts_of content n None is = absurd (true≢false (sym is))
 count-parts_of content n (Some l) is = length-cut_at 0 (ends_of l.places) (map content l.items.items)
 
-module _ {P T : Type 0} (before : Work P) (own : Work (Vec T)) where
+module _ {P T : Type 0} (before : Work P) (own : Work (List T)) where
   pub combines-before : (done : Bool) (left right both : P) → Combines before left right both → Combines (barred_work done before own) (Before left) (Before right) (Before both)
   combines-before true left right both h from middle to count more p q kept few following = absurd kept
   combines-before false left right both h from middle to count more p q kept few following = h from middle to count more p q kept few following
 
-  pub combines-own : (done : Bool) (left right both : Vec T) → Combines own left right both → Combines (barred_work done before own) (Own left) (Own right) (Own both)
+  pub combines-own : (done : Bool) (left right both : List T) → Combines own left right both → Combines (barred_work done before own) (Own left) (Own right) (Own both)
   combines-own true left right both h from middle to count more p q kept few following = h from middle to count more p q kept few following
   combines-own false left right both h from middle to count more p q kept few following = absurd kept
 
   -- parts of two kinds stand for no leaves
-  pub combines-mixed : (done : Bool) (left : P) (right : Vec T) (both : Part P T) → Combines (barred_work done before own) (Before left) (Own right) both
+  pub combines-mixed : (done : Bool) (left : P) (right : List T) (both : Part P T) → Combines (barred_work done before own) (Before left) (Own right) both
   combines-mixed true left right both from middle to count more p q kept few following = absurd kept
   combines-mixed false left right both from middle to count more p q kept few following = absurd following
 
-  pub combines-mixed_own : (done : Bool) (left : Vec T) (right : P) (both : Part P T) → Combines (barred_work done before own) (Own left) (Before right) both
+  pub combines-mixed_own : (done : Bool) (left : List T) (right : P) (both : Part P T) → Combines (barred_work done before own) (Own left) (Before right) both
   combines-mixed_own true left right both from middle to count more p q kept few following = absurd following
   combines-mixed_own false left right both from middle to count more p q kept few following = absurd kept
 
@@ -66,7 +65,7 @@ module _ {P T : Type 0} (before : Work P) (own : Work (Vec T)) where
   stands-before true part (to, count, within, keeps, end) = absurd keeps
   stands-before false part h = (refl, h)
 
-  pub stands-own : (done : Bool) (part : Vec T) → StandsForRun (barred_work done before own) (Own part) → (done ≡ true) × StandsForRun own part
+  pub stands-own : (done : Bool) (part : List T) → StandsForRun (barred_work done before own) (Own part) → (done ≡ true) × StandsForRun own part
   stands-own true part h = (refl, h)
   stands-own false part (to, count, within, keeps, end) = absurd keeps
 
@@ -75,13 +74,13 @@ module _ {P T : Type 0} (before : Work P) (own : Work (Vec T)) where
   ends-before false cut i (Done p) unrun h = h
   ends-before false cut i Cut unrun h = h
 
-  pub ends-own : (done : Bool) (cut i : ℕ) (end : LeafEnd (Vec T)) → done ≡ true → EndsLeaf own cut i end → EndsLeaf (barred_work done before own) cut i (end_with Own end)
+  pub ends-own : (done : Bool) (cut i : ℕ) (end : LeafEnd (List T)) → done ≡ true → EndsLeaf own cut i end → EndsLeaf (barred_work done before own) cut i (end_with Own end)
   ends-own true cut i (Done p) is h = h
   ends-own true cut i Cut is h = h
   ends-own false cut i end is h = absurd (true≢false (sym is))
 
 module _ {P T : Type 0} (before : Work P) where
-  pub combines-own_ok : {C U E : Type 0} (f : Folding C (List C)) (content : Vec T → List C) (lists : List (List C)) (done : Bool) (r : Result U E) (kept following : Part P T) (left right both : Vec T)
+  pub combines-own_ok : {C U E : Type 0} (f : Folding C (List C)) (content : List T → List C) (lists : List (List C)) (done : Bool) (r : Result U E) (kept following : Part P T) (left right both : List T)
       → kept ≡ Own left → following ≡ Own right
       → ((l m : List C) → Folds f l (content left) → Folds f m (content right) → OnOk r (Folds f (l ++ m) (content both)))
       → OnOk r (Combines (barred_work done before (work_of f content lists)) kept following (Own both))
@@ -92,7 +91,7 @@ module _ {P T : Type 0} (before : Work P) where
       let R : Part P T → Type 0 = λ m. Combines (barred_work done before own) (Own left) m (Own both) in
       subst Q (sym is_left) (subst R (sym is_right) (combines-own before own done left right both (spans-combine f content lists left right both law)))
 
-  pub ends-own_ok : {E : Type 0} (own : Work (Vec T)) (done : Bool) (cut i : ℕ) (end : Result (LeafEnd (Vec T)) E) (ended : Result (LeafEnd (Part P T)) E) → ended ≡ ended_with Own end → done ≡ true
+  pub ends-own_ok : {E : Type 0} (own : Work (List T)) (done : Bool) (cut i : ℕ) (end : Result (LeafEnd (List T)) E) (ended : Result (LeafEnd (Part P T)) E) → ended ≡ ended_with Own end → done ≡ true
       → IfOk end (EndsLeaf own cut i) → IfOk ended (EndsLeaf (barred_work done before own) cut i)
   ends-own_ok {E} own done cut i (Ok end) ended is held h =
       let Q : Result (LeafEnd (Part P T)) E → Type 0 = λ r. IfOk r (EndsLeaf (barred_work done before own) cut i) in
@@ -101,7 +100,7 @@ module _ {P T : Type 0} (before : Work P) where
       let Q : Result (LeafEnd (Part P T)) E → Type 0 = λ r. IfOk r (EndsLeaf (barred_work done before own) cut i) in
       subst Q (sym is) tt
 
-  pub ends-before_ok : {E : Type 0} (own : Work (Vec T)) (done : Bool) (cut i : ℕ) (end : Result (LeafEnd P) E) (ended : Result (LeafEnd (Part P T)) E) → ended ≡ ended_with Before end → done ≡ false
+  pub ends-before_ok : {E : Type 0} (own : Work (List T)) (done : Bool) (cut i : ℕ) (end : Result (LeafEnd P) E) (ended : Result (LeafEnd (Part P T)) E) → ended ≡ ended_with Before end → done ≡ false
       → IfOk end (EndsLeaf before cut i) → IfOk ended (EndsLeaf (barred_work done before own) cut i)
   ends-before_ok {E} own done cut i (Ok end) ended is unrun h =
       let Q : Result (LeafEnd (Part P T)) E → Type 0 = λ r. IfOk r (EndsLeaf (barred_work done before own) cut i) in

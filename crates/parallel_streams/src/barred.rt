@@ -55,7 +55,7 @@ impl<U: Stream, B: Barrier<U::Item>> Stream for Barred<U, B> {
 
     ghost leaves_next = { λ s p. next_leaves (U.leaves_next s.upstream p.before) p.listed };
 
-    ghost work = { λ s p. barred_work (U.done s.upstream p.before) (U.work s.upstream p.before) (work_of (folding (B.Demand.needed s.barrier) (B.Demand.counted s.barrier) U.Item.is_value [] push) (λ v. map U.Item.content v.items) (U.parts s.upstream p.before)) };
+    ghost work = { λ s p. barred_work (U.done s.upstream p.before) (U.work s.upstream p.before) (work_of (folding (B.Demand.needed s.barrier) (B.Demand.counted s.barrier) U.Item.is_value [] push) (map U.Item.content) (U.parts s.upstream p.before)) };
 
     ghost parts = { λ s p. parts_of U.Item.content p.listed };
 
@@ -69,7 +69,7 @@ impl<U: Stream, B: Barrier<U::Item>> Stream for Barred<U, B> {
 
     ghost flag_law = { λ s. B.flag_law s.barrier (U.told s.upstream) (U.size s.upstream) (U.value s.upstream) (U.flag_law s.upstream) };
 
-    ghost work_law = { λ s p unrun. barred-leaves (U.done s.upstream p.before) (U.work s.upstream p.before) (work_of (folding (B.Demand.needed s.barrier) (B.Demand.counted s.barrier) U.Item.is_value [] push) (λ v. map U.Item.content v.items) (U.parts s.upstream p.before)) (U.leaves_next s.upstream p.before) p.listed unrun (U.work_law s.upstream p.before) (U.parts_count s.upstream p.before) };
+    ghost work_law = { λ s p unrun. barred-leaves (U.done s.upstream p.before) (U.work s.upstream p.before) (work_of (folding (B.Demand.needed s.barrier) (B.Demand.counted s.barrier) U.Item.is_value [] push) (map U.Item.content) (U.parts s.upstream p.before)) (U.leaves_next s.upstream p.before) p.listed unrun (U.work_law s.upstream p.before) (U.parts_count s.upstream p.before) };
 
     ghost reported_law = { λ s workers target p entries done told. told-all (U.told_so_far s.upstream workers target p.before) (IsReport (U.cut_into s.upstream workers target) (U.value s.upstream) (U.reported s.upstream workers target) (IsEntryOf (B.Demand.needed s.barrier) (B.Demand.counted s.barrier) (B.value s.barrier))) p.listed entries done told };
 
@@ -199,8 +199,9 @@ impl<U: Stream, B: Barrier<U::Item>> Stream for Barred<U, B> {
                     listed: None,
                 })
             }
-            Part::Own(items) => {
-                let items = self.barrier.apply(items)?;
+            Part::Own(pieces) => {
+                let list = pieces.into_list()?;
+                let items = self.barrier.apply(list)?;
                 let places = Places::cut(alloc, items.as_slice(), workers, target)?;
                 let listed = Listed { items, places };
                 Ok(Gathered {
@@ -208,6 +209,20 @@ impl<U: Stream, B: Barrier<U::Item>> Stream for Barred<U, B> {
                     listed: Some(listed),
                 })
             }
+        }
+    }
+
+    fn into_listed(
+        &self,
+        progress: Gathered<U::Progress, U::Item>,
+    ) -> Result<Listed<U::Item>, Gathered<U::Progress, U::Item>> {
+        let Gathered { before, listed } = progress;
+        match listed {
+            Some(listed) => Ok(listed),
+            None => Err(Gathered {
+                before,
+                listed: None,
+            }),
         }
     }
 

@@ -1,12 +1,14 @@
 //! All the runs of a stream, one after another, each on the workers.
-ghost use Rattle.std.specs.Prelude.{◌≡◌, ℕ, List, true, false, IfOk};
+ghost use Rattle.std.specs.Prelude.{◌≡◌, ℕ, List, None, true, false, IfOk};
+ghost use Rattle.barriers.specs.Needs.{no_item};
 ghost use Rattle.stealing_pool.specs.Fronts.{folding, work_of, joined};
 ghost use Rattle.leaf_board.specs.Closing.{Outcome};
 ghost use Rattle.parallel_streams.specs.Reports.{IsReport, IsRunOver};
 ghost use Rattle.parallel_streams.specs.Runs.{IsLawfulRun};
 
+use crate::handover::hand_over;
 use crate::{Run, Stream};
-use barriers::{Demand, Need};
+use barriers::{Demand, Need, Whole};
 use collectors::{Collector, combine_containers};
 use leaf_board::Handout;
 use spliterator::NoMemory;
@@ -171,6 +173,88 @@ where
     Ok((progress, entries))
 }
 
+// Runs the rest of the stream into a collector, as far as the demand asks.
+fn run_last<
+    R: Threads + Sync,
+    X: Stream + Sync,
+    D: Demand<X::Item> + Sync,
+    C: Collector<Item = X::Item> + Sync,
+    H: Gate + Sync,
+>(
+    rt: &R,
+    alloc: Global,
+    stream: &X,
+    run: &Run<'_, H>,
+    progress: &X::Progress,
+    demand: &D,
+    collector: &C,
+) -> Result<(C::Acc, RunEntry), NoMemory>
+where
+    X::Item: Send + Sync,
+    X::Progress: Send + Sync,
+    X::Part: Send,
+    C::Acc: Send,
+    C::Out: Send,
+    requires stream { X.ready stream.now }
+    requires demand { D.ready demand.now }
+    requires collector { C.ready collector.now }
+    requires settings { IsLawfulRun run.now.workers run.now.target }
+    requires holds { X.holds stream.now progress.now }
+    requires done { X.done stream.now progress.now ≡ true }
+    ensures { let needs = folding (D.needed demand.now) (D.counted demand.now) X.Item.is_value in
+        let fold = needs (C.empty collector.now) (C.add collector.now) in
+        IfOk result (λ r. IsRunOver fold (C.content collector.now r.0) (X.parts stream.now progress.now) r.1) }
+{
+    let job = LastRun {
+        alloc,
+        stream,
+        progress,
+        demand,
+        collector,
+    };
+    let tree = stream.tree(progress);
+    let last = run_job(rt, alloc, tree, &job, run.workers, run.gate)?;
+    Ok((last.acc, last.entry))
+}
+
+// Runs all the rest of the stream into a collector, or hands it the list that the last barrier left, where it keeps that as it stands.
+fn run_whole<
+    R: Threads + Sync,
+    X: Stream + Sync,
+    C: Collector<Item = X::Item> + Sync,
+    H: Gate + Sync,
+>(
+    rt: &R,
+    alloc: Global,
+    stream: &X,
+    run: &Run<'_, H>,
+    progress: X::Progress,
+    collector: &C,
+) -> Result<(C::Acc, RunEntry), NoMemory>
+where
+    X::Item: Send + Sync,
+    X::Progress: Send + Sync,
+    X::Part: Send,
+    C::Acc: Send,
+    C::Out: Send,
+    requires stream { X.ready stream.now }
+    requires collector { C.ready collector.now }
+    requires settings { IsLawfulRun run.now.workers run.now.target }
+    requires holds { X.holds stream.now progress }
+    requires done { X.done stream.now progress ≡ true }
+    requires whole { joined (X.parts stream.now progress) ≡ X.value stream.now }
+    ensures { let all = folding None no_item X.Item.is_value (C.empty collector.now) (C.add collector.now) in
+        IfOk result (λ r. IsRunOver all (C.content collector.now r.0) (X.parts stream.now progress) r.1) }
+{
+    if !collector.keeps_lists() {
+        return run_last(rt, alloc, stream, run, &progress, &Whole, collector);
+    }
+    match stream.into_listed(progress) {
+        Ok(listed) => hand_over(rt, alloc, run.gate, listed, collector),
+        Err(unread) => run_last(rt, alloc, stream, run, &unread, &Whole, collector),
+    }
+}
+
 /// Runs the barriers one after another, and then the rest of the stream into a collector, as far as the demand asks.
 pub fn evaluate<
     R: Threads + Sync,
@@ -205,18 +289,42 @@ where
         e.entries.items) }
 {
     let (progress, mut entries) = run_barriers(rt, alloc, stream, run)?;
-    let job = LastRun {
-        alloc,
-        stream,
-        progress: &progress,
-        demand,
-        collector,
-    };
-    let tree = stream.tree(&progress);
-    let last = run_job(rt, alloc, tree, &job, run.workers, run.gate)?;
-    entries.push(last.entry)?;
-    Ok(Evaluated {
-        acc: last.acc,
-        entries,
-    })
+    let (acc, entry) = run_last(rt, alloc, stream, run, &progress, demand, collector)?;
+    entries.push(entry)?;
+    Ok(Evaluated { acc, entries })
+}
+
+/// Runs the barriers one after another, and then all the rest of the stream into a collector.
+pub fn evaluate_whole<
+    R: Threads + Sync,
+    X: Stream + Sync,
+    C: Collector<Item = X::Item> + Sync,
+    H: Gate + Sync,
+>(
+    rt: &R,
+    alloc: Global,
+    stream: &X,
+    run: &Run<'_, H>,
+    collector: &C,
+) -> Result<Evaluated<C::Acc>, NoMemory>
+where
+    X::Item: Send + Sync,
+    X::Progress: Send + Sync,
+    X::Part: Send,
+    C::Acc: Send,
+    C::Out: Send,
+    requires stream { X.ready stream.now }
+    requires collector { C.ready collector.now }
+    requires settings { IsLawfulRun run.now.workers run.now.target }
+    ensures { let workers = run.now.workers in
+        let target = run.now.target in
+        let all = folding None no_item X.Item.is_value (C.empty collector.now) (C.add collector.now) in
+        IfOk result (λ e. IsReport (X.cut_into stream.now workers target) (X.value stream.now)
+        (X.reported stream.now workers target) (IsRunOver all (C.content collector.now e.acc))
+        e.entries.items) }
+{
+    let (progress, mut entries) = run_barriers(rt, alloc, stream, run)?;
+    let (acc, entry) = run_whole(rt, alloc, stream, run, progress, collector)?;
+    entries.push(entry)?;
+    Ok(Evaluated { acc, entries })
 }

@@ -3,6 +3,7 @@
 
 mod barred;
 mod evaluate;
+mod handover;
 mod meets;
 mod part;
 mod places;

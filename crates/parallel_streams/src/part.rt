@@ -4,6 +4,7 @@ ghost use Rattle.parallel_streams.specs.Progress.{ended_with};
 ghost use Rattle.parallel_streams.specs.declared.part.Part.TheVariants.{Before as before_part, Own as own_part};
 
 use crate::places::Places;
+use collectors::Pieces;
 use spliterator::NoMemory;
 use stealing_pool::{LeafEnd, Portion};
 
@@ -25,7 +26,7 @@ pub struct Gathered<P, T> {
 #[derive(Drop)]
 pub enum Part<P, T> {
     Before(P),
-    Own(Vec<T>),
+    Own(Pieces<T>),
 }
 
 /// How a leaf of a run of a barrier before ended.
@@ -46,7 +47,7 @@ pub fn end_before<P: Drop, T: Drop>(
 
 /// How a leaf of the last barrier's run ended.
 pub fn end_own<P: Drop, T: Drop>(
-    end: Result<LeafEnd<Vec<T>>, NoMemory>,
+    end: Result<LeafEnd<Pieces<T>>, NoMemory>,
 ) -> Result<LeafEnd<Part<P, T>>, NoMemory>
     ensures { result ≡ ended_with own_part end }
 {

@@ -1,5 +1,5 @@
 //! What a lazy stream is.
-ghost use Rattle.std.specs.Prelude.{◌≡◌, ◌<◌, ◌≤◌, ◌^◌, ◌++◌, ◌∷◌, [], ℕ, Bool, true, false, List, Option, not, pos, fold, option_map, IsSome, IsOk, IfOk, OnOk, flat_map, map, length, ⊤};
+ghost use Rattle.std.specs.Prelude.{◌≡◌, ◌<◌, ◌≤◌, ◌^◌, ◌++◌, ◌∷◌, [], ℕ, Bool, true, false, List, Option, not, pos, fold, option_map, IsSome, IsOk, IfOk, IfErr, OnOk, flat_map, map, length, ⊤};
 ghost use Rattle.barriers.specs.Needs.{need_of, IsBelow};
 ghost use Rattle.leaf_board.specs.Statuses.{SameFrom, StaysSeat};
 ghost use Rattle.split_tree.specs.SplitTree.{leaf_numbers, numbers_from};
@@ -15,14 +15,18 @@ ghost use Rattle.stages.specs.Wrapping.{wrapped};
 ghost use Rattle.collectors.specs.Reductions.{first, reduced};
 ghost use Rattle.collectors.specs.Grouping.{contents};
 ghost use Rattle.collectors.specs.StrictMaps.{IsFirstRepeat, IsStrictMap};
+ghost use Rattle.parallel_streams.specs.Cuts.{cut_at};
+ghost use Rattle.parallel_streams.specs.Ends.{ends_of};
+ghost use Rattle.parallel_streams.specs.Progress.{IsListed};
 ghost use Rattle.parallel_streams.specs.MapErrors.{MapAnswersUnder, IfDuplicate};
 ghost use Rattle.parallel_streams.specs.Reports.{IsReportedRun};
 ghost use Rattle.parallel_streams.specs.Runs.{IsLawfulRun, AnswersUnder};
 ghost use Rattle.parallel_streams.specs.Terminals.{any_meets, all_meet, IsLeftIdentity};
 
 use crate::barred::Barred;
-use crate::evaluate::evaluate;
+use crate::evaluate::{evaluate, evaluate_whole};
 use crate::meets::{Contrary, Meets};
+use crate::part::Listed;
 use crate::settings::allow;
 use crate::staged::Staged;
 use crate::{MapError, Run, StreamError};
@@ -177,6 +181,15 @@ pub trait Stream {
             → (entries : List Outcome) → told_so_far self.now workers target progress entries
             → IfOk result (λ after. told_so_far self.now workers target after (entries ++ entry.now ∷ [])) }
         ensures fewer { done self.now progress ≡ false → IfOk result (λ after. waiting self.now after < waiting self.now progress) };
+
+    /// The last barrier's list, where its items are all of the stream's as they are; else how far the stream has come.
+    fn into_listed(&self, progress: Self::Progress) -> Result<Listed<Self::Item>, Self::Progress>
+        ensures listed { holds self.now progress → IfOk result (IsListed Self.Item.content (value self.now)) }
+        ensures parts { IfOk result (λ listed. parts self.now progress ≡ cut_at 0 (ends_of listed.places) (map Self.Item.content listed.items.items)) }
+        ensures same { IfErr result (λ unread. unread ≡ progress) }
+    {
+        Err(progress)
+    }
 
     /// Runs a leaf of the last run, through a stage into a collector.
     fn run_last_leaf<
@@ -415,7 +428,7 @@ pub trait Stream {
             (reported self.now workers target) (C.gives collector.now) r.0 r.1) }
     {
         allow(run.workers, run.target)?;
-        let ended = evaluate(rt, alloc, self, run, &Whole, collector)?;
+        let ended = evaluate_whole(rt, alloc, self, run, collector)?;
         let value = collector.finish(ended.acc)?;
         Ok((value, RunReport::of(ended.entries)))
     }

@@ -1,9 +1,8 @@
 -- Steps with a stage more behind them. Copies are made last, so a map or a filter moves before them.
-use Rattle.std.specs.Prelude.{◌≡◌, ◌<◌, ◌+◌, ℕ, zero, suc, ℤ, Bool, true, false, cond, List, [], ◌∷◌, ◌++◌, ◌&&◌, flat_map, length, take, refl, IsTrue, MatchBool}
-use Rattle.std.proofs.Common.{ap, ap₂, ◌∙◌, sym, subst, append-nil, get_or, true≢false}
+use Rattle.std.specs.Prelude.{◌≡◌, ℕ, zero, suc, ℤ, Bool, true, false, cond, List, [], ◌∷◌, ◌++◌, ◌&&◌, flat_map, refl}
+use Rattle.std.proofs.Common.{ap, ap₂, ◌∙◌, sym, subst, append-nil}
 use Rattle.std.proofs.Math.ListN.{replicate}
 use Rattle.std.specs.List.{list_all}
-use Rattle.std.proofs.lemmas.List.{take_more}
 use Rattle.std.proofs.lemmas.List.Folds.{list_all-append}
 use Rattle.stages.specs.Passing.{flat_map-flat_map, flat_map-one}
 use Rattle.pipeline_language.specs.declared.pipeline.NumberFunction.{NumberFunction}
@@ -12,10 +11,10 @@ use Rattle.pipeline_language.specs.declared.pipeline.NumberStage.{NumberStage}
 use Rattle.pipeline_language.specs.declared.pipeline.NumberStage.TheVariants as stages
 use Rattle.pipeline_meaning.specs.Functions.{number_image, number_holds}
 use Rattle.pipeline_meaning.specs.Prepared.{mapping_image, check_holds}
-use Rattle.pipeline_meaning.specs.Stages.{number_stage, number_stages, is_number_barrier, is_number_map}
+use Rattle.pipeline_meaning.specs.Stages.{number_stage, is_number_map}
 use Rattle.pipeline_meaning.specs.NumberSteps.{number_step_images, steps_images, copies, images_of, number_images, is_map_step, is_none, are_maps, only_maps, Follows}
 use Rattle.parts.specs.Lists.{map-flat_map, filter-flat_map}
-use Rattle.pipeline_meaning.specs.WalkLaws.{flat_map-same, all-one-more, stages-one-more}
+use Rattle.pipeline_meaning.specs.WalkLaws.{IsFront, flat_map-same, all-one-more}
 use Rattle.pipeline_meaning.specs.declared.functions.NumberMapping.{NumberMapping}
 use Rattle.pipeline_meaning.specs.declared.functions.NumberCheck.{NumberCheck}
 use Rattle.pipeline_meaning.specs.declared.number_steps.NumberStep.{NumberStep}
@@ -134,30 +133,9 @@ module _ (old new : NumberSteps) where
         ap₂ are_maps steps repeats ∙ repeats-end old.steps.items old.repeats.items n,
       )
 
-pub where-put : (stage : NumberStage) (old new : NumberSteps) (is_put : Bool) → is_put ≡ true
-    → MatchBool is_put (Follows stage old new) (IsTrue (is_number_barrier stage) × (new ≡ old)) → Follows stage old new
-where-put stage old new true is put = put
-where-put stage old new false is left = absurd (true≢false (sym is))
-
 -- steps that are so many stages
 abbrev pub AreFront : NumberSteps → List NumberStage → Type 0
-AreFront steps front = ((l : List ℤ) → flat_map (number_images steps) l ≡ number_stages front l) × (only_maps steps ≡ list_all is_number_map front)
+AreFront steps front = IsFront number_stage is_number_map (number_images steps) (only_maps steps) front
 
 pub no-stages : (steps : NumberSteps) → steps.steps.items ≡ [] → steps.repeats.items ≡ [] → AreFront steps []
 no-stages steps none no-repeats = (λ l. ap₂ (λ s r. flat_map (images_of s r) l) none no-repeats ∙ flat_map-one l, ap₂ are_maps none no-repeats)
-
-pub one-stage-more : (old new : NumberSteps) (all : List NumberStage) (i : ℕ) (d : NumberStage) → i < length all
-    → AreFront old (take i all) → Follows (get_or all i d) old new → AreFront new (take (i + 1) all)
-one-stage-more old new all i d within front follows =
-    let P : List NumberStage → Type 0 = λ stages. AreFront new stages in
-    let earlier = take i all in
-    let stage = get_or all i d in
-    subst P (sym (take_more all i d within)) (
-      λ l. follows.0 l ∙ ap (number_stage stage) (front.0 l) ∙ sym (stages-one-more number_step_images number_stage earlier stage l),
-      follows.1 ∙ ap (λ b. b && is_number_map stage) front.1 ∙ ends (list_all is_number_map earlier) (is_number_map stage) ∙ sym (list_all-append is_number_map earlier (stage ∷ [])),
-    )
-  where
-    ends : (a b : Bool) → (a && b) ≡ (a && (b && true))
-    ends true true = refl
-    ends true false = refl
-    ends false b = refl

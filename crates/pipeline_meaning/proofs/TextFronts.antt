@@ -1,6 +1,7 @@
 -- Prepared stages over texts, and words of texts.
-use Rattle.std.specs.Prelude.{◌≡◌, ◌≤◌, ◌+◌, ◌==◌, ⊤, ℕ, List, [], ◌∷◌, Option, Some, None, MatchOption, filter, length, refl}
+use Rattle.std.specs.Prelude.{◌≡◌, ◌≤◌, ◌+◌, ◌==◌, ◌&&◌, ⊤, ℕ, Bool, true, false, List, [], ◌∷◌, ◌++◌, Option, Some, None, MatchOption, filter, flat_map, length, refl}
 use Rattle.std.proofs.Common.{Bor, arith, lit<, ap, ap₂, sym, subst, ◌∙◌, length-append}
+use Rattle.std.proofs.lemmas.List.Folds.{list_all-append}
 use Rattle.std.proofs.lemmas.List.Splits.{slice_split_first, slice_split_none}
 use Rattle.std.proofs.lemmas.List.Sums.{fails_before_first}
 use Rattle.std.proofs.lemmas.Str.Pattern.{split_once_first, split_parts, IsSplitOnceResult}
@@ -10,11 +11,13 @@ use Rattle.pipeline_language.specs.declared.pipeline.TextStage.{TextStage}
 use Rattle.pipeline_language.specs.declared.pipeline.TextStage.TheVariants as stages
 use Rattle.pipeline_meaning.specs.Functions.{text_holds}
 use Rattle.pipeline_meaning.specs.Stages.{text_stage, is_text_map}
-use Rattle.pipeline_meaning.specs.TextSteps.{text_step_images, is_map_step}
+use Rattle.pipeline_meaning.specs.TextSteps.{text_images, text_step_images, is_map_step, only_maps, Follows}
 use Rattle.stages.specs.Passing.{flat_map-one}
 use Rattle.parts.specs.Lists.{filter-flat_map}
-use Rattle.pipeline_meaning.specs.WalkLaws.{IsStep}
+use Rattle.pipeline_meaning.specs.WalkLaws.{IsFront, IsStep, all-one-more}
 use Rattle.pipeline_meaning.specs.declared.functions.TextCheck.{TextCheck}
+use Rattle.pipeline_meaning.specs.declared.text_steps.TextStep.{TextStep}
+use Rattle.pipeline_meaning.specs.declared.text_steps.TextSteps.{TextSteps}
 use Rattle.pipeline_meaning.specs.declared.text_steps.TextStep.TheVariants.{Itself, Filter}
 
 -- what a cut at the first space gives
@@ -46,3 +49,18 @@ pub filter-step : (stage : TextStage) (p : TextTest) (k : TextCheck) → stage �
 filter-step stage p k is e =
     let P : TextStage → Type 0 = λ s. IsStep text_step_images text_stage is_map_step is_text_map (Filter k) s in
     subst P (sym is) ((λ l. sym (filter-flat_map (text_holds k.test) l) ∙ ap (λ (q : TextTest). filter (text_holds q) l) e), refl)
+
+pub no-stages : (steps : List TextStep) → steps ≡ [] → IsFront text_stage is_text_map (text_images steps) (only_maps steps) []
+no-stages steps none = (λ l. ap (λ s. flat_map (text_images s) l) none ∙ flat_map-one l, ap only_maps none)
+
+-- a step behind the others is a stage behind them
+pub step-follows : (old new : TextSteps) (step : TextStep) (stage : TextStage) → new.steps.items ≡ old.steps.items ++ step ∷ []
+    → IsStep text_step_images text_stage is_map_step is_text_map step stage → Follows stage old new
+step-follows old new step stage more is = (
+  λ l. ap (λ s. flat_map (text_images s) l) more ∙ all-one-more text_step_images old.steps.items step l ∙ is.0 (flat_map (text_images old.steps.items) l),
+  ap only_maps more ∙ list_all-append is_map_step old.steps.items (step ∷ []) ∙ ap (λ b. only_maps old.steps.items && b) (all-last (is_map_step step) ∙ is.1),
+)
+  where
+    all-last : (b : Bool) → (b && true) ≡ b
+    all-last true = refl
+    all-last false = refl

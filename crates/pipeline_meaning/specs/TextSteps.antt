@@ -1,17 +1,20 @@
 -- What prepared steps over texts give.
-use Rattle.std.specs.Prelude.{◌≡◌, ◌<◌, ◌+◌, ℕ, Bool, true, false, cond, List, [], ◌∷◌, Option, None, Some, flat_map, length, refl}
+use Rattle.std.specs.Prelude.{◌≡◌, ◌<◌, ◌+◌, ℕ, Bool, true, false, cond, List, [], ◌∷◌, Option, None, Some, ◌&&◌, flat_map, length, refl}
 use Rattle.std.proofs.Math.ListN.{replicate}
 use Rattle.std.proofs.Common.{sym, true≢false}
 use Rattle.std.specs.List.{list_all}
 use Rattle.std.specs.declared.cmp.Ordering.{Ordering}
 use Rattle.stages.specs.Flags.{KeepsSound}
 use Rattle.file_words.specs.Words.{words_of}
+use Rattle.pipeline_language.specs.declared.pipeline.TextStage.{TextStage}
 use Rattle.pipeline_meaning.specs.Functions.{text_holds}
 use Rattle.pipeline_meaning.specs.Rows.{row_of, size_of}
+use Rattle.pipeline_meaning.specs.Stages.{text_stage, is_text_map}
 use Rattle.pipeline_meaning.specs.Walks.{images_after}
 use Rattle.pipeline_meaning.specs.WalkLaws.{KeepsSound-walk}
 use Rattle.pipeline_meaning.specs.declared.text_steps.TextStep.{TextStep}
 use Rattle.pipeline_meaning.specs.declared.text_steps.TextStep.TheVariants.{Itself, Filter, Repeat, Words}
+use Rattle.pipeline_meaning.specs.declared.text_steps.TextSteps.{TextSteps}
 use Rattle.pipeline_meaning.specs.declared.text_steps.Walked.{Walked}
 use Rattle.pipeline_meaning.specs.declared.text_steps.Walked.TheVariants.{Passed, Dropped, Copied, Cut}
 
@@ -59,6 +62,12 @@ is_single_step _ = false
 
 abbrev pub only_maps : List TextStep → Bool
 only_maps steps = list_all is_map_step steps
+
+-- the steps with a stage behind them
+abbrev pub Follows : TextStage → TextSteps → TextSteps → Type 0
+Follows stage old new =
+    ((l : List (List ℕ)) → flat_map (text_images new.steps.items) l ≡ text_stage stage (flat_map (text_images old.steps.items) l))
+    × (only_maps new.steps.items ≡ (only_maps old.steps.items && is_text_map stage))
 
 map-one : (step : TextStep) → is_map_step step ≡ true → (text : List ℕ) → text_step_images step text ≡ text ∷ []
 map-one Itself h text = refl

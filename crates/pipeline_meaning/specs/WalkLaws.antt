@@ -1,6 +1,6 @@
 -- Why a walk over prepared steps is what the stages make of a list.
-use Rattle.std.specs.Prelude.{◌≡◌, ◌≤◌, ◌<◌, ◌-◌, ◌+◌, ◌&&◌, ℕ, Bool, true, false, List, [], ◌∷◌, ◌++◌, flat_map, length, take, refl}
-use Rattle.std.proofs.Common.{ap, ap₂, ◌∙◌, sym, subst, arith, append-nil, get_or}
+use Rattle.std.specs.Prelude.{◌≡◌, ◌≤◌, ◌<◌, ◌-◌, ◌+◌, ◌&&◌, ℕ, Bool, true, false, MatchBool, List, [], ◌∷◌, ◌++◌, flat_map, length, take, refl}
+use Rattle.std.proofs.Common.{ap, ap₂, ◌∙◌, sym, subst, arith, append-nil, get_or, true≢false}
 use Rattle.std.proofs.Math.ListN.{replicate}
 use Rattle.std.specs.List.{list_all}
 use Rattle.std.specs.declared.cmp.Ordering.{Ordering}
@@ -70,36 +70,39 @@ module _ {S A : Type 0} (images : S → A → List A) where
       KeepsSound-images order (images_after images steps) (one_after_other image steps) (list_all is_map steps) (one-image is_map image one steps)
 
   module _ {G : Type 0} (stage : G → List A → List A) where
-    pub stages-one-more : (earlier : List G) (last : G) (l : List A) → one_after_other stage (earlier ++ last ∷ []) l ≡ stage last (one_after_other stage earlier l)
-    stages-one-more [] last l = refl
-    stages-one-more (first ∷ earlier) last l = stages-one-more earlier last (stage first l)
-
-    -- a step more is a stage more
-    front-one-more : (steps : List S) (step : S) (earlier : List G) (last : G)
-        → ((l : List A) → flat_map (images_after images steps) l ≡ one_after_other stage earlier l) → ((l : List A) → flat_map (images step) l ≡ stage last l)
-        → (l : List A) → flat_map (images_after images (steps ++ step ∷ [])) l ≡ one_after_other stage (earlier ++ last ∷ []) l
-    front-one-more steps step earlier last h k l =
-        all-one-more steps step l ∙ k (flat_map (images_after images steps) l) ∙ ap (stage last) (h l) ∙ sym (stages-one-more earlier last l)
-
-    -- what a front says of its steps
-    abbrev pub IsFront : (S → Bool) → (G → Bool) → List S → List G → Type 0
-    IsFront is_map is_stage_map steps stages =
-        ((l : List A) → flat_map (images_after images steps) l ≡ one_after_other stage stages l) × (list_all is_map steps ≡ list_all is_stage_map stages)
-
     abbrev pub IsStep : (S → Bool) → (G → Bool) → S → G → Type 0
     IsStep is_map is_stage_map step last = ((l : List A) → flat_map (images step) l ≡ stage last l) × (is_map step ≡ is_stage_map last)
 
-    pub front-start : (is_map : S → Bool) (is_stage_map : G → Bool) (steps : List S) → steps ≡ [] → IsFront is_map is_stage_map steps []
-    front-start is_map is_stage_map steps e =
-        let P : List S → Type 0 = λ steps. IsFront is_map is_stage_map steps [] in
-        subst P (sym e) (flat_map-one, refl)
+pub stages-one-more : {G A : Type 0} (stage : G → A → A) (earlier : List G) (last : G) (items : A)
+    → one_after_other stage (earlier ++ last ∷ []) items ≡ stage last (one_after_other stage earlier items)
+stages-one-more stage [] last items = refl
+stages-one-more stage (first ∷ earlier) last items = stages-one-more stage earlier last (stage first items)
 
-    pub front-more : (is_map : S → Bool) (is_stage_map : G → Bool) (steps new : List S) (step : S) (stages : List G) (i : ℕ) (d : G) → i < length stages
-        → new ≡ steps ++ step ∷ [] → IsFront is_map is_stage_map steps (take i stages) → IsStep is_map is_stage_map step (get_or stages i d) → IsFront is_map is_stage_map new (take (i + 1) stages)
-    front-more is_map is_stage_map steps new step stages i d within e h k =
-        let P : List S → Type 0 = λ steps. IsFront is_map is_stage_map steps (take (i + 1) stages) in
-        let Q : List G → Type 0 = λ stages. IsFront is_map is_stage_map (steps ++ step ∷ []) stages in
-        subst P (sym e) (subst Q (sym (take_more stages i d within)) (
-          front-one-more steps step (take i stages) (get_or stages i d) h.0 k.0,
-          list_all-append is_map steps (step ∷ []) ∙ ap₂ (λ a b. a && (b && true)) h.1 k.1 ∙ sym (list_all-append is_stage_map (take i stages) (get_or stages i d ∷ [])),
-        ))
+-- Steps that are so many stages, by their images and whether all are maps, and a stage more behind them.
+module _ {G A : Type 0} (stage : G → List A → List A) (is_map : G → Bool) where
+  abbrev pub IsFront : (A → List A) → Bool → List G → Type 0
+  IsFront images maps stages = ((l : List A) → flat_map images l ≡ one_after_other stage stages l) × (maps ≡ list_all is_map stages)
+
+  abbrev pub IsBehind : G → (A → List A) → Bool → (A → List A) → Bool → Type 0
+  IsBehind last old were new are = ((l : List A) → flat_map new l ≡ stage last (flat_map old l)) × (are ≡ (were && is_map last))
+
+  pub front-more : (old new : A → List A) (were are : Bool) (stages : List G) (i : ℕ) (d : G) → i < length stages
+      → IsFront old were (take i stages) → IsBehind (get_or stages i d) old were new are → IsFront new are (take (i + 1) stages)
+  front-more old new were are stages i d within front behind =
+      let P : List G → Type 0 = λ stages. IsFront new are stages in
+      let earlier = take i stages in
+      let last = get_or stages i d in
+      subst P (sym (take_more stages i d within)) (
+        λ l. behind.0 l ∙ ap (stage last) (front.0 l) ∙ sym (stages-one-more stage earlier last l),
+        behind.1 ∙ ap (λ b. b && is_map last) front.1 ∙ ends (list_all is_map earlier) (is_map last) ∙ sym (list_all-append is_map earlier (last ∷ [])),
+      )
+    where
+      ends : (a b : Bool) → (a && b) ≡ (a && (b && true))
+      ends true true = refl
+      ends true false = refl
+      ends false b = refl
+
+-- what holds where a stage was put
+pub where-put : {Put : Type 0} (Left : Type 0) (is_put : Bool) → is_put ≡ true → MatchBool is_put Put Left → Put
+where-put Left true is put = put
+where-put Left false is left = absurd (true≢false (sym is))

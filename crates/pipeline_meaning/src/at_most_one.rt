@@ -1,12 +1,11 @@
 //! Stages that can tell that they give no item more than one image.
-ghost use Rattle.std.specs.Prelude.{◌≡◌, ◌&&◌, Bool, not, true};
+ghost use Rattle.std.specs.Prelude.{◌≡◌, ◌&&◌, Bool, true};
 ghost use Rattle.std.specs.List.{list_all};
-ghost use Rattle.pipeline_meaning.specs.AtMostOne.{GivesAtMostOne, both-few, kept-few, number-few, one-few, text-few};
+ghost use Rattle.pipeline_meaning.specs.AtMostOne.{GivesAtMostOne, both-few, number-few, one-few, text-few};
 ghost use Rattle.pipeline_meaning.specs.NumberSteps.{is_none};
-ghost use Rattle.pipeline_meaning.specs.Prepared.{check_holds};
 ghost use Rattle.pipeline_meaning.specs.TextSteps.{is_single_step};
 
-use crate::{Failing, NumberSteps, TextSteps};
+use crate::{NumberSteps, TextSteps};
 use spliterator::OrderedValue;
 use stages::{Map, Mapping, Nothing, Stage, Then};
 
@@ -62,16 +61,6 @@ impl<A: AtMostOne, B: AtMostOne + Stage<In = A::Out>> AtMostOne for Then<A, B> {
 
     fn gives_at_most_one(&self) -> bool {
         self.first.gives_at_most_one() && self.second.gives_at_most_one()
-    }
-}
-
-impl AtMostOne for Failing {
-    ghost is_few = { λ _. true };
-
-    ghost few = { λ s _. kept-few (λ x. not (check_holds s.check x)) };
-
-    fn gives_at_most_one(&self) -> bool {
-        true
     }
 }
 

@@ -1,34 +1,55 @@
-//! The numbers that fail a test, a block at a time.
+//! The items that fail a test, numbers a block at a time.
 ghost use Rattle.std.specs.Prelude.{◌≡◌, [], ◌∷◌, None, cond, not};
 ghost use Rattle.stages.specs.declared.flags.Operation.TheVariants.{Filter as filter_row};
 ghost use Rattle.stages.specs.FlagLaws.{KeepsSound-filter};
-ghost use Rattle.pipeline_meaning.specs.Functions.{number_holds};
 ghost use Rattle.pipeline_meaning.specs.Prepared.{check_holds};
 ghost use Rattle.std.specs.Ordering.{int_cmp};
 
-use crate::NumberCheck;
 use crate::block_functions::drop_block;
-use pipeline_language::NumberTest;
-use spliterator::NoMemory;
-use stages::{Operation, Sink, Stage, Test};
+use crate::{NumberCheck, TextCheck};
+use parts::Not;
+use spliterator::{NoMemory, OrderedValue, Text};
+use stages::{Filter, Operation, Sink, Stage, Test};
 
-/// The numbers that fail a test, as a stage.
-#[derive(Clone, Copy, Drop)]
-pub struct Failing {
-    check: NumberCheck,
+/// A test of which the items that fail it are to be had as a stage.
+pub trait Fails<T: OrderedValue + Drop>: Test<T> {
+    type Failing: Stage<In = T, Out = T> + Drop + Sync;
+
+    /// The items that fail the test.
+    fn failing(self) -> Self::Failing
+        ensures ready { Self.Failing.ready result }
+        ensures images { Self.Failing.expand result ≡ (λ x. cond (not (Self.Test.holds self x)) (x ∷ []) []) };
+
+    ghost is_ready: { (test : Self) → Self.Test.ready test };
 }
 
-impl Failing {
-    pub fn of(test: NumberTest) -> Failing
-        ensures { ⟦<Failing as Stage>⟧.expand result ≡ (λ x. cond (not (number_holds test x)) (x ∷ []) []) }
-    {
-        Failing {
-            check: NumberCheck::of(test),
-        }
+impl<'a, T: Text + OrderedValue + Drop + Sync> Fails<T> for TextCheck<'a> {
+    type Failing = Filter<T, Not<TextCheck<'a>>>;
+
+    ghost is_ready = { λ _. tt };
+
+    fn failing(self) -> Filter<T, Not<TextCheck<'a>>> {
+        Filter::new(Not(self))
     }
 }
 
-impl Stage for Failing {
+impl Fails<i64> for NumberCheck {
+    type Failing = FailingNumbers;
+
+    ghost is_ready = { λ _. tt };
+
+    fn failing(self) -> FailingNumbers {
+        FailingNumbers { check: self }
+    }
+}
+
+/// The numbers that fail a test, as a stage over blocks.
+#[derive(Clone, Copy, Drop)]
+pub struct FailingNumbers {
+    check: NumberCheck,
+}
+
+impl Stage for FailingNumbers {
     type In = i64;
 
     type Out = i64;

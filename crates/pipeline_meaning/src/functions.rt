@@ -3,8 +3,8 @@ ghost use Rattle.std.specs.Prelude.{◌≡◌, count_by, map, ⊤};
 ghost use Rattle.spliterator.specs.Values.{IsI64};
 ghost use Rattle.stages.specs.Operators.{IsAssociative};
 ghost use Rattle.pipeline_meaning.specs.Functions.{number_image, number_holds, number_join, text_holds, text_join};
-ghost use Rattle.pipeline_meaning.specs.Prepared.{change_image, mapping_image, comparison_holds, check_holds};
-ghost use Rattle.pipeline_meaning.specs.PreparedLaws.{mapping_image-value, number_join-value, text_join-value};
+ghost use Rattle.pipeline_meaning.specs.Prepared.{change_image, mapping_image, comparison_holds, check_holds, joining_join, merging_join};
+ghost use Rattle.pipeline_meaning.specs.PreparedLaws.{mapping_image-value, merging_join-value, text_join-value};
 
 use parts::{Above, Below, Divisible, Divisor, Equal};
 use pipeline_language::{NumberFunction, NumberMerge, NumberTest, TextMerge, TextTest};
@@ -172,33 +172,59 @@ impl<T: Text> Test<T> for TextCheck<'_> {
     }
 }
 
-/// What becomes of two numbers of one key.
+/// A number that is made of two.
 #[derive(Clone, Copy)]
-pub struct NumberMerging {
-    pub merge: NumberMerge,
+pub enum NumberJoining {
+    Sum,
+    Max,
+    Min,
+}
+
+impl NumberJoining {
+    fn of_both(&self, a: i64, b: i64) -> i64
+        ensures { result ≡ joining_join self.now a b }
+    {
+        match self {
+            NumberJoining::Sum => a.wrapping_add(b),
+            NumberJoining::Max => a.max(b),
+            NumberJoining::Min => a.min(b),
+        }
+    }
+}
+
+/// What becomes of two numbers of one key. No choice has more than three ways, as in `NumberMapping`.
+#[derive(Clone, Copy)]
+pub enum NumberMerging {
+    First,
+    Last,
+    Joined(NumberJoining),
 }
 
 impl NumberMerging {
     pub fn of(merge: NumberMerge) -> NumberMerging
-        ensures merge { result.merge ≡ merge }
+        ensures join { ⟦<NumberMerging as Operator<i64>>⟧.join result ≡ number_join merge }
         ensures associative { IsAssociative IsI64 (⟦<NumberMerging as Operator<i64>>⟧.join result) }
     {
-        NumberMerging { merge }
+        match merge {
+            NumberMerge::First => NumberMerging::First,
+            NumberMerge::Last => NumberMerging::Last,
+            NumberMerge::Sum => NumberMerging::Joined(NumberJoining::Sum),
+            NumberMerge::Max => NumberMerging::Joined(NumberJoining::Max),
+            NumberMerge::Min => NumberMerging::Joined(NumberJoining::Min),
+        }
     }
 }
 
 impl Operator<i64> for NumberMerging {
-    ghost join = { λ m. number_join m.merge };
+    ghost join = { merging_join };
 
-    ghost joins_are_values = { λ m. number_join-value m.merge };
+    ghost joins_are_values = { merging_join-value };
 
     fn join(&self, a: &i64, b: &i64) -> Result<i64, NoMemory> {
-        Ok(match self.merge {
-            NumberMerge::First => *a,
-            NumberMerge::Last => *b,
-            NumberMerge::Sum => a.wrapping_add(*b),
-            NumberMerge::Max => *a.max(b),
-            NumberMerge::Min => *a.min(b),
+        Ok(match self {
+            NumberMerging::First => *a,
+            NumberMerging::Last => *b,
+            NumberMerging::Joined(joining) => joining.of_both(*a, *b),
         })
     }
 }

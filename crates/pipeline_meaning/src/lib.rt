@@ -24,10 +24,10 @@ mod written;
 
 pub use adapted::{Adapted, Adapting};
 pub use at_most_one::AtMostOne;
-pub use failing::Failing;
+pub use failing::{FailingNumbers, Fails};
 pub use functions::{
-    NumberChange, NumberCheck, NumberComparison, NumberMapping, NumberMerging, TextCheck,
-    TextMerging,
+    NumberChange, NumberCheck, NumberComparison, NumberJoining, NumberMapping, NumberMerging,
+    TextCheck, TextMerging,
 };
 pub use joined_text::JoinedText;
 pub use list_text::ListText;

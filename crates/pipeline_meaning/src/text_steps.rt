@@ -1,12 +1,12 @@
 //! The stages over texts that look at one item at a time, as one stage that walks them.
-ghost use Rattle.std.specs.Prelude.{◌≡◌, ◌≤◌, ◌<◌, ℕ, IsTrue, IfOk, OnOk, OnErr, List, ◌∷◌, Option, MatchOption, flat_map, length, take};
+ghost use Rattle.std.specs.Prelude.{◌≡◌, ◌≤◌, ◌<◌, ℕ, IsTrue, IfOk, OnOk, OnErr, List, ◌∷◌, Option, MatchBool, MatchOption, flat_map, length, take};
 ghost use Rattle.std.specs.List.{HoldsAt, list_all};
 ghost use Rattle.std.specs.Ordering.{nat_cmp};
 ghost use Rattle.std.specs.Cmp.Lexicographic.{slice_cmp};
 ghost use Rattle.std.proofs.Math.ListN.{replicate};
 ghost use Rattle.file_words.specs.Words.{words_of};
 ghost use Rattle.pipeline_meaning.specs.Rows.{row_of, size_of};
-ghost use Rattle.pipeline_meaning.specs.TextSteps.{text_images, text_step_images, walked_images, IsFewer, words_left, letters_left, is_map_step, is_single_step, only_maps, KeepsSound-text_steps};
+ghost use Rattle.pipeline_meaning.specs.TextSteps.{text_images, text_step_images, walked_images, Follows, IsFewer, words_left, letters_left, is_map_step, is_single_step, only_maps, KeepsSound-text_steps};
 ghost use Rattle.pipeline_meaning.specs.Stages.{text_stage, text_stages, is_text_barrier, is_text_map};
 ghost use Rattle.pipeline_meaning.specs.WalkLaws.{IsStep};
 
@@ -74,14 +74,28 @@ impl<'a> TextSteps<'a> {
         ensures barrier { IfOk result (λ r. r.1 < length stages.now → HoldsAt (λ stage. IsTrue (is_text_barrier stage)) stages.now r.1) }
         ensures size { IfOk result (λ r. IsTrue (list_all is_text_map (take r.1 stages.now)) → (size : Option ℕ) → ⟦<TextSteps<'static> as Stage>⟧.size_after r.0 size ≡ size) }
     {
-        let mut steps = Vec::new(alloc);
+        let mut front = TextSteps {
+            steps: Vec::new(alloc),
+        };
         for (place, stage) in stages.iter().enumerate() {
-            match TextStep::of(stage) {
-                Some(step) => steps.push(step)?,
-                None => return Ok((TextSteps { steps }, place)),
+            if !front.put(stage)? {
+                return Ok((front, place));
             }
         }
-        Ok((TextSteps { steps }, stages.len()))
+        Ok((front, stages.len()))
+    }
+
+    /// Puts a stage behind the others. Says whether it did: it doesn't put a stage that looks at more than one item.
+    pub fn put(&mut self, stage: &TextStage<'a>) -> Result<bool, NoMemory>
+        ensures { IfOk result (λ is_put. MatchBool is_put (Follows stage.now self.old self.new) (IsTrue (is_text_barrier stage.now) × (self.new ≡ self.old))) }
+    {
+        match TextStep::of(stage) {
+            Some(step) => {
+                self.steps.push(step)?;
+                Ok(true)
+            }
+            None => Ok(false),
+        }
     }
 
     // Whether no text has more than one image.

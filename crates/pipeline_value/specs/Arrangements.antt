@@ -9,7 +9,7 @@ use Rattle.pipeline_language.specs.declared.pipeline.TextTerminal.TheVariants as
 use Rattle.pipeline_meaning.specs.Summaries.{groups_text, parts_text}
 use Rattle.pipeline_meaning.specs.Texts.{pair_text}
 use Rattle.pipeline_value.specs.declared.arrangements.Arrangement.{Arrangement}
-use Rattle.pipeline_value.specs.declared.arrangements.Arrangement.TheVariants.{Counts, Groups, Parts, Pair}
+use Rattle.pipeline_value.specs.declared.arrangements.Arrangement.TheVariants.{Counts, Bases, Groups, Parts, Pair}
 
 abbrev pub arranges_numbers : NumberTerminal → Bool
 arranges_numbers (of_numbers.GroupBy key summary) = true
@@ -27,18 +27,20 @@ arranges_texts _ = false
 abbrev pub grouped_text : {K L X : Type 0} → (L → List ℕ) → (L → L → Bool) → (K → X → L) → K → (List X → List ℕ) → List X → List ℕ
 grouped_text key_text same image key text l = groups_text key_text same (image key) text l
 
-module _ {K P D X : Type 0} where
+module _ {K P B D X : Type 0} where
   -- the text of what an arrangement makes of items, by the texts of groups, by its tests, and by the texts of its collectors' results
-  abbrev pub arranged_text : (K → (List X → List ℕ) → List X → List ℕ) → (P → X → Bool) → (D → List X → List ℕ) → Arrangement K P D → List X → List ℕ
-  arranged_text grouped holds summary (Counts key) l = grouped key (λ items. signed_decimal (wrapped (pos (length items)))) l
-  arranged_text grouped holds summary (Groups key d) l = grouped key (summary d) l
-  arranged_text grouped holds summary (Parts test d) l = parts_text (holds test) (summary d) l
-  arranged_text grouped holds summary (Pair one other) l = pair_text (summary one l) (summary other l)
+  abbrev pub arranged_text : (K → (List X → List ℕ) → List X → List ℕ) → (P → X → Bool) → (B → List X → List ℕ) → (D → List X → List ℕ) → Arrangement K P B D → List X → List ℕ
+  arranged_text grouped holds base summary (Counts key) l = grouped key (λ items. signed_decimal (wrapped (pos (length items)))) l
+  arranged_text grouped holds base summary (Bases key b) l = grouped key (base b) l
+  arranged_text grouped holds base summary (Groups key d) l = grouped key (summary d) l
+  arranged_text grouped holds base summary (Parts test d) l = parts_text (holds test) (summary d) l
+  arranged_text grouped holds base summary (Pair one other) l = pair_text (summary one l) (summary other l)
 
-module _ {K P D : Type 0} where
+module _ {K P B D : Type 0} where
   -- its keys, its tests and its collectors may be called
-  abbrev pub IsReady : (K → Type 0) → (P → Type 0) → (D → Type 0) → Arrangement K P D → Type 0
-  IsReady keys tests collectors (Counts key) = keys key
-  IsReady keys tests collectors (Groups key d) = keys key × collectors d
-  IsReady keys tests collectors (Parts test d) = tests test × collectors d
-  IsReady keys tests collectors (Pair one other) = collectors one × collectors other
+  abbrev pub IsReady : (K → Type 0) → (P → Type 0) → (B → Type 0) → (D → Type 0) → Arrangement K P B D → Type 0
+  IsReady keys tests bases collectors (Counts key) = keys key
+  IsReady keys tests bases collectors (Bases key b) = keys key × bases b
+  IsReady keys tests bases collectors (Groups key d) = keys key × collectors d
+  IsReady keys tests bases collectors (Parts test d) = tests test × collectors d
+  IsReady keys tests bases collectors (Pair one other) = collectors one × collectors other

@@ -98,12 +98,12 @@ distinct-dropped differ stages at d l within is differs told =
     let kept = number_stages (take at stages) l in
     stages-append (take at stages) (drop (suc at) stages) l
     ∙ ap (number_stages (drop (suc at) stages)) (sym (unneeded (slice_index_or stages at d) kept is (OnTrue_at differs told.1)))
-    ∙ sym (stages-parted stages at d l within)
+    ∙ sym (stages-parted number_stage stages at d l within)
 
 -- what is told behind a stage more
 pub stage-told : (differ : Bool) (stages : List NumberStage) (at : ℕ) (d : NumberStage) (l : List ℤ) → at < length stages
     → DifferAsTold differ (number_stage (slice_index_or stages at d) (number_stages (take at stages) l)) → DifferAsTold differ (number_stages (take (at + 1) stages) l)
-stage-told differ stages at d l within told = subst (DifferAsTold differ) (stage-more stages at d (number_stages (take at stages) l) l within refl) told
+stage-told differ stages at d l within told = subst (DifferAsTold differ) (stage-more number_stage stages at d (number_stages (take at stages) l) l within refl) told
 
 -- ---- ranges
 

@@ -20,10 +20,10 @@ use std::thread::Threads;
 use stealing_pool::Gate;
 
 /// The text of what an arrangement makes of a stream's items.
-pub(crate) fn arranged_value<R, X, K, P, D, H>(
+pub(crate) fn arranged_value<R, X, K, P, B, D, H>(
     engine: &Engine<'_, R, H>,
     stream: &X,
-    arrangement: Arrangement<K, P, D>,
+    arrangement: Arrangement<K, P, B, D>,
 ) -> Result<Rope, ValueError>
 where
     R: Threads + Sync,
@@ -34,16 +34,20 @@ where
     K: Mapping<X::Item> + Drop + Sync,
     K::Out: Spelled + Hash + Drop + Send,
     P: Test<X::Item> + Drop + Sync,
+    B: Summarizes + Collector<Item = X::Item> + Drop + Sync,
+    B::Acc: Send,
+    B::Out: Written + Send,
     D: Summarizes + Collector<Item = X::Item> + Drop + Sync,
     D::Acc: Send,
     D::Out: Written + Send,
     H: Gate + Sync,
     requires stream { X.ready stream.now }
-    requires arrangement { IsReady K.ready P.ready D.ready arrangement }
-    ensures { Tells (Ok (arranged_text (grouped_text K.Out.spelling K.Out.same K.image) P.holds D.summary arrangement (X.value stream.now))) result }
+    requires arrangement { IsReady K.ready P.ready B.ready D.ready arrangement }
+    ensures { Tells (Ok (arranged_text (grouped_text K.Out.spelling K.Out.same K.image) P.holds B.summary D.summary arrangement (X.value stream.now))) result }
 {
     match arrangement {
         Arrangement::Counts(key) => grouped_value(engine, stream, key, Counting::new()),
+        Arrangement::Bases(key, base) => grouped_value(engine, stream, key, base),
         Arrangement::Groups(key, summary) => grouped_value(engine, stream, key, summary),
         Arrangement::Parts(test, summary) => parted_value(engine, stream, test, summary),
         Arrangement::Pair(one, other) => paired_value(engine, stream, one, other),

@@ -41,7 +41,7 @@ where
 {
     let list = ToList::new(engine.alloc);
     let front = gather_into(engine, source, stage, barrier, &list)?;
-    apply_to_front(barrier, front)
+    apply_to_front(barrier, front.into_list()?)
 }
 
 /// The container in which a collector gathers a source's items behind a stage. The leaves run once, as far as the demand asks.

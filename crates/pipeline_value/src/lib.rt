@@ -11,6 +11,7 @@ mod folds;
 mod fronts;
 mod gather;
 mod known_size;
+mod language_stages;
 mod laws;
 mod maps;
 mod narrowed;

@@ -1,18 +1,20 @@
-//! Ranges, narrowed by limits and skips before anything runs.
+//! Ranges, narrowed before anything runs: by limits and skips, and by filters that compare.
 
-ghost use Rattle.std.specs.Prelude.{◌≡◌, All, IfSome, true};
+ghost use Rattle.std.specs.Prelude.{◌≡◌, All, IfSome, false, true};
 ghost use Rattle.pipeline_meaning.specs.Stages.{is_number_map, number_stage, number_stages};
 ghost use Rattle.pipeline_value.specs.Narrowing.{is_window};
 ghost use Rattle.pipeline_value.specs.Ranges.{NumberStageFits};
 
-use pipeline_language::NumberStage;
+use pipeline_language::{NumberStage, NumberTest};
 use sources::{RangeSplit, Windowed};
 use spliterator::Spliterator;
 
-/// Takes the limits and the skips that stand behind maps alone off the stages, and narrows the range by them.
+/// Takes the limits and the skips that stand behind maps alone off the stages, and narrows the range by them; and filters by a
+/// comparison that stand first, since a range ascends.
 ///
 /// ```text
 /// range 0 100, map negate, skip 1, limit 3, sum    // range 1 4, map negate, sum
+/// range 0 100, filter greater 7, limit 3, sum      // range 8 11, sum
 /// ```
 pub(crate) fn narrowed(mut range: RangeSplit, stages: &mut Vec<NumberStage>) -> RangeSplit
     requires { All NumberStageFits stages.old.items }
@@ -27,7 +29,7 @@ pub(crate) fn narrowed(mut range: RangeSplit, stages: &mut Vec<NumberStage>) -> 
         if is_map(&stages[maps]) {
             maps += 1;
         } else {
-            let Some(part) = part_of(range, &stages[maps]) else {
+            let Some(part) = part_of(range, &stages[maps], maps == 0) else {
                 return range;
             };
             stages.remove(maps);
@@ -44,14 +46,30 @@ fn is_map(stage: &NumberStage) -> bool
     matches!(stage, NumberStage::Map(_))
 }
 
-/// What a limit or a skip leaves of a range.
-fn part_of(range: RangeSplit, stage: &NumberStage) -> Option<RangeSplit>
+/// What a limit or a skip leaves of a range, or a filter by a comparison that stands first.
+fn part_of(range: RangeSplit, stage: &NumberStage, is_first: bool) -> Option<RangeSplit>
     ensures part { IfSome result (λ part. ⟦<RangeSplit as Spliterator>⟧.items part ≡ number_stage stage.now (⟦<RangeSplit as Spliterator>⟧.items range)) }
-    ensures window { IfSome result (λ _. is_window stage.now ≡ true) }
+    ensures window { IfSome result (λ _. is_first ≡ false → is_window stage.now ≡ true) }
 {
     match *stage {
         NumberStage::Limit(most) => Some(range.first(most)),
         NumberStage::Skip(number) => Some(range.after_first(number)),
+        _ if is_first => compared_part(range, stage),
+        _ => None,
+    }
+}
+
+/// What a filter by a comparison leaves of a range.
+fn compared_part(range: RangeSplit, stage: &NumberStage) -> Option<RangeSplit>
+    ensures { IfSome result (λ part. ⟦<RangeSplit as Spliterator>⟧.items part ≡ number_stage stage.now (⟦<RangeSplit as Spliterator>⟧.items range)) }
+{
+    match *stage {
+        NumberStage::Filter(NumberTest::Less(bound)) => {
+            Some(range.first(range.count_below(bound)))
+        }
+        NumberStage::Filter(NumberTest::Greater(bound)) => {
+            Some(range.after_first(range.count_up_to(bound)))
+        }
         _ => None,
     }
 }

@@ -12,24 +12,34 @@ use crate::engine::Engine;
 use collectors::Collector;
 use pipeline_language::{NumberBase, NumberSummary, NumberTerminal};
 use pipeline_meaning::{
-    NumberCheck, NumberMapping, NumberSummaryCollector, Summarizes, number_summary,
+    NumberBaseCollector, NumberCheck, NumberMapping, NumberSummaryCollector, Summarizes,
+    number_base, number_summary,
 };
 
 /// The arrangement of a terminal, by the collectors that its summaries name.
-pub(crate) type NumberArrangement = Arrangement<NumberMapping, NumberCheck, NumberSummaryCollector>;
+pub(crate) type NumberArrangement = Arrangement<
+    NumberMapping,
+    NumberCheck,
+    NumberBaseCollector,
+    NumberSummaryCollector,
+>;
 
 /// The terminal as an arrangement, if it is one.
 pub(crate) fn number_arrangement<R, H>(
     engine: &Engine<'_, R, H>,
     terminal: &NumberTerminal,
 ) -> Option<NumberArrangement>
-    ensures ready { IfSome result (IsReady (λ _. ⊤) (λ _. ⊤) (λ c. ⟦<NumberSummaryCollector as Collector>⟧.ready c)) }
-    ensures told { IfSome result (λ arranged. (l : List ℤ) → number_told terminal.now l ≡ Ok (arranged_text (grouped_text signed_decimal int_eq mapping_image) check_holds (λ c. ⟦<NumberSummaryCollector as Summarizes>⟧.summary c) arranged l)) }
+    ensures ready { IfSome result (IsReady (λ _. ⊤) (λ _. ⊤) (λ c. ⟦<NumberBaseCollector as Collector>⟧.ready c) (λ c. ⟦<NumberSummaryCollector as Collector>⟧.ready c)) }
+    ensures told { IfSome result (λ arranged. (l : List ℤ) → number_told terminal.now l ≡ Ok (arranged_text (grouped_text signed_decimal int_eq mapping_image) check_holds (λ c. ⟦<NumberBaseCollector as Summarizes>⟧.summary c) (λ c. ⟦<NumberSummaryCollector as Summarizes>⟧.summary c) arranged l)) }
     ensures known { is_some result ≡ arranges_numbers terminal.now }
 {
     match *terminal {
         NumberTerminal::GroupBy(function, NumberSummary::Base(NumberBase::Count)) => {
             Some(Arrangement::Counts(NumberMapping::of(function)))
+        }
+        NumberTerminal::GroupBy(function, NumberSummary::Base(base)) => {
+            let groups = number_base(engine.alloc, base);
+            Some(Arrangement::Bases(NumberMapping::of(function), groups))
         }
         NumberTerminal::GroupBy(function, summary) => {
             let groups = number_summary(engine.alloc, engine.hashes, summary);

@@ -26,6 +26,10 @@ use stealing_pool::{Gate, RunEntry, run_leaves};
 /// and the leaves of the run behind it, where the target is to be chosen.
 const ALONE: u64 = 1 << 16;
 
+/// A front of so many items is read before anything else: of a place that is near, a longer one would read too much, and of one that is far
+/// this is a small part.
+const SHORT: u64 = 1 << 11;
+
 /// How a part of so many items is looked at: by one worker where these are few, and else by all.
 fn engine_over<'e, R, H>(items: u64, engine: &Engine<'e, R, H>) -> Engine<'e, R, H>
     ensures many { 65536 < items → result.run.workers ≡ engine.now.run.workers }
@@ -217,8 +221,8 @@ where
 
 /// The place of the source item with whose image so many have come, or `None` where there are fewer.
 ///
-/// One worker looks at a first part, so a place near the front costs little.
-pub(crate) fn place_of<R, S, A, H>(
+/// One worker looks at a first part, and all look at what is behind it by leaves.
+fn place_by_parts<R, S, A, H>(
     engine: &Engine<'_, R, H>,
     source: S,
     stage: &A,
@@ -251,4 +255,35 @@ where
         Some(place) => Ok(Some(ALONE + place)),
         None => Ok(None),
     }
+}
+
+/// The place of the source item with whose image so many have come, or `None` where there are fewer.
+///
+/// A short front is read first, so that a place near the start costs little.
+pub(crate) fn place_of<R, S, A, H>(
+    engine: &Engine<'_, R, H>,
+    source: S,
+    stage: &A,
+    wanted: u64,
+) -> Result<Option<u64>, NoMemory>
+where
+    R: Threads + Sync,
+    S: Windowed + Copy + Drop + Send + Sync,
+    S::Item: Clone + Send + Sync,
+    A: Stage<In = S::Item> + Sync,
+    A::Out: Clone + Send + Sync,
+    H: Gate + Sync,
+    requires stage { A.ready stage.now }
+    requires few { GivesAtMostOne (A.expand stage.now) }
+    requires some { 1 ≤ wanted }
+    requires fits { wanted < 2 ^ 63 }
+    ensures { IfOk result (PlaceOrFewer (A.expand stage.now) (S.items source) wanted) }
+{
+    let front = source.first(SHORT);
+    let count = count_images(engine, front, stage)?;
+    if wanted <= count {
+        let place = place_within(engine, front, stage, wanted)?;
+        return Ok(Some(place));
+    }
+    place_by_parts(engine, source, stage, wanted)
 }

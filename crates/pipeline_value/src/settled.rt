@@ -4,17 +4,15 @@ ghost use Rattle.std.specs.Prelude.{◌≡◌, ◌≤◌, ◌<◌, ◌^◌, ◌&
 ghost use Rattle.std.specs.List.{HoldsAt};
 ghost use Rattle.barriers.specs.Whiles.{drop_while};
 ghost use Rattle.pipeline_meaning.specs.AtMostOne.{GivesAtMostOne};
-ghost use Rattle.pipeline_meaning.specs.Functions.{number_holds};
-ghost use Rattle.pipeline_meaning.specs.Stages.{is_number_barrier, number_stage, number_stages};
-ghost use Rattle.pipeline_value.specs.Ranges.{NumberStageFits};
-ghost use Rattle.pipeline_value.specs.Settling.{cuts_source};
+ghost use Rattle.pipeline_meaning.specs.Walks.{one_after_other};
+ghost use Rattle.pipeline_value.specs.Settling.{BarrierFits, barrier_list, cuts_source};
 
 use crate::engine::Engine;
+use crate::language_stages::{LanguageBarrier, LanguageStage};
 use crate::places::place_of;
-use pipeline_language::{NumberStage, NumberTest};
-use pipeline_meaning::{AtMostOne, Failing, NumberSteps};
+use pipeline_meaning::{AtMostOne, Fails};
 use sources::Windowed;
-use spliterator::NoMemory;
+use spliterator::{NoMemory, OrderedValue};
 use stages::{Stage, Then};
 use std::thread::Threads;
 use stealing_pool::Gate;
@@ -30,7 +28,8 @@ where
     R: Threads + Sync,
     S: Windowed + Copy + Drop + Send + Sync,
     S::Item: Clone + Send + Sync,
-    A: Stage<In = S::Item, Out = i64> + Sync,
+    A: Stage<In = S::Item> + Sync,
+    A::Out: Clone + Send + Sync,
     H: Gate + Sync,
     requires stage { A.ready stage.now }
     requires few { GivesAtMostOne (A.expand stage.now) }
@@ -52,24 +51,26 @@ where
 }
 
 /// How many of a source's items stand in front of the first whose image fails a test.
-fn items_before_failing<R, S, A, H>(
+fn items_before_failing<R, S, A, K, H>(
     engine: &Engine<'_, R, H>,
     source: S,
     stage: &A,
-    test: NumberTest,
+    test: K,
 ) -> Result<u64, NoMemory>
 where
     R: Threads + Sync,
     S: Windowed + Copy + Drop + Send + Sync,
     S::Item: Clone + Send + Sync,
-    A: Stage<In = S::Item, Out = i64> + Sync,
+    A: Stage<In = S::Item> + Sync,
+    A::Out: Clone + Send + Sync,
+    K: Fails<A::Out>,
     H: Gate + Sync,
     requires stage { A.ready stage.now }
     requires few { GivesAtMostOne (A.expand stage.now) }
-    ensures taken { IfOk result (λ end. flat_map (A.expand stage.now) (take end (S.items source)) ≡ take_while (number_holds test) (flat_map (A.expand stage.now) (S.items source))) }
-    ensures dropped { IfOk result (λ end. flat_map (A.expand stage.now) (drop end (S.items source)) ≡ drop_while (number_holds test) (flat_map (A.expand stage.now) (S.items source))) }
+    ensures taken { IfOk result (λ end. flat_map (A.expand stage.now) (take end (S.items source)) ≡ take_while (K.holds test) (flat_map (A.expand stage.now) (S.items source))) }
+    ensures dropped { IfOk result (λ end. flat_map (A.expand stage.now) (drop end (S.items source)) ≡ drop_while (K.holds test) (flat_map (A.expand stage.now) (S.items source))) }
 {
-    let failing = Then::new(stage, Failing::of(test));
+    let failing = Then::new(stage, test.failing());
     match place_of(engine, source, &failing, 1)? {
         Some(place) => Ok(place),
         None => Ok(source.count()),
@@ -77,114 +78,121 @@ where
 }
 
 /// The part of a source whose images are what a barrier leaves of the images of all, behind a stage that gives no item more than one image.
-fn part_left<R, S, A, H>(
+fn part_left<R, S, A, K, H>(
     engine: &Engine<'_, R, H>,
     source: S,
     stage: &A,
-    barrier: &NumberStage,
+    barrier: LanguageBarrier<K>,
 ) -> Result<Option<S>, NoMemory>
 where
     R: Threads + Sync,
     S: Windowed + Copy + Drop + Send + Sync,
     S::Item: Clone + Send + Sync,
-    A: Stage<In = S::Item, Out = i64> + Sync,
+    A: Stage<In = S::Item> + Sync,
+    A::Out: Clone + Send + Sync,
+    K: Fails<A::Out>,
     H: Gate + Sync,
     requires stage { A.ready stage.now }
     requires few { GivesAtMostOne (A.expand stage.now) }
-    requires fits { NumberStageFits barrier.now }
-    ensures part { IfOk result (λ part. IfSome part (λ part. flat_map (A.expand stage.now) (S.items part) ≡ number_stage barrier.now (flat_map (A.expand stage.now) (S.items source)))) }
-    ensures had { IfOk result (λ part. is_some part ≡ cuts_source barrier.now) }
+    requires fits { BarrierFits barrier }
+    ensures part { IfOk result (λ part. IfSome part (λ part. flat_map (A.expand stage.now) (S.items part) ≡ barrier_list A.Out.same K.holds barrier (flat_map (A.expand stage.now) (S.items source)))) }
+    ensures had { IfOk result (λ part. is_some part ≡ cuts_source barrier) }
 {
-    match *barrier {
-        NumberStage::Limit(most) => {
+    match barrier {
+        LanguageBarrier::Distinct => Ok(None),
+        LanguageBarrier::Limit(most) => {
             let end = items_of(engine, source, stage, most)?;
             Ok(Some(source.first(end)))
         }
-        NumberStage::Skip(number) => {
+        LanguageBarrier::Skip(number) => {
             let end = items_of(engine, source, stage, number)?;
             Ok(Some(source.after_first(end)))
         }
-        NumberStage::TakeWhile(test) => {
+        LanguageBarrier::TakeWhile(test) => {
             let end = items_before_failing(engine, source, stage, test)?;
             Ok(Some(source.first(end)))
         }
-        NumberStage::DropWhile(test) => {
+        LanguageBarrier::DropWhile(test) => {
             let end = items_before_failing(engine, source, stage, test)?;
             Ok(Some(source.after_first(end)))
         }
-        _ => Ok(None),
     }
 }
 
 /// The part of a source whose images are what a barrier leaves of the images of all, where it can be had without a list: behind a
 /// stage that gives no item more than one image.
-fn through_barrier<R, S, A, H>(
+fn through_barrier<T, G, R, S, A, H>(
     engine: &Engine<'_, R, H>,
     source: S,
     stage: &A,
-    barrier: &NumberStage,
+    barrier: &G,
 ) -> Result<Option<S>, NoMemory>
 where
+    T: OrderedValue + Clone + Drop + Send + Sync,
+    G: LanguageStage<T>,
     R: Threads + Sync,
     S: Windowed + Copy + Drop + Send + Sync,
     S::Item: Clone + Send + Sync,
-    A: AtMostOne + Stage<In = S::Item, Out = i64> + Sync,
+    A: AtMostOne + Stage<In = S::Item, Out = T> + Sync,
     H: Gate + Sync,
     requires stage { A.ready stage.now }
-    requires fits { NumberStageFits barrier.now }
-    ensures part { IfOk result (λ part. IfSome part (λ part. flat_map (A.expand stage.now) (S.items part) ≡ number_stage barrier.now (flat_map (A.expand stage.now) (S.items source)))) }
-    ensures had { IfOk result (λ part. is_some part ≡ (A.is_few stage.now && cuts_source barrier.now)) }
+    requires fits { G.Fits barrier.now }
+    ensures part { IfOk result (λ part. IfSome part (λ part. flat_map (A.expand stage.now) (S.items part) ≡ G.makes barrier.now (flat_map (A.expand stage.now) (S.items source)))) }
+    ensures had { IfOk result (λ part. is_some part ≡ (A.is_few stage.now && G.cuts barrier.now)) }
 {
-    if stage.gives_at_most_one() {
-        part_left(engine, source, stage, barrier)
-    } else {
-        Ok(None)
+    if !stage.gives_at_most_one() {
+        return Ok(None);
+    }
+    match barrier.barrier() {
+        Some(barrier) => part_left(engine, source, stage, barrier),
+        None => Ok(None),
     }
 }
 
 /// How far stages come without a list: the part of the source that their barriers leave, the stages that look at one item at a time, and how
 /// many stages that is in all.
 #[derive(Drop)]
-pub(crate) struct Settled<S> {
+pub(crate) struct Settled<S, P> {
     pub(crate) source: S,
-    pub(crate) steps: NumberSteps,
+    pub(crate) steps: P,
     pub(crate) taken: usize,
 }
 
 /// Takes stages as far as they go without a list, over a source's items behind a stage in front.
 ///
 /// A limit, a skip or a while is done by cutting the source at the place that the counts of its images tell: each one, where no repeat
-/// stands before it.
+/// and no cut into words stands before it.
 ///
 /// ```text
 /// range 0 1000, filter divisible 3, limit 5, sum    // range 0 13, filter divisible 3, sum
 /// ```
-pub(crate) fn settle<R, S, A, H>(
+pub(crate) fn settle<T, G, R, S, A, H>(
     engine: &Engine<'_, R, H>,
     source: S,
     front: &A,
-    stages: &[NumberStage],
-) -> Result<Settled<S>, NoMemory>
+    stages: &[G],
+) -> Result<Settled<S, G::Steps>, NoMemory>
 where
+    T: OrderedValue + Clone + Drop + Send + Sync,
+    G: LanguageStage<T>,
     R: Threads + Sync,
     S: Windowed + Copy + Drop + Send + Sync,
     S::Item: Clone + Send + Sync,
-    A: AtMostOne + Stage<In = S::Item, Out = i64> + Sync,
+    A: AtMostOne + Stage<In = S::Item, Out = T> + Sync,
     H: Gate + Sync,
     requires front { A.ready front.now }
-    requires fits { All NumberStageFits stages.now }
+    requires fits { All G.Fits stages.now }
     ensures within { IfOk result (λ s. s.taken ≤ length stages.now) }
-    ensures means { IfOk result (λ s. flat_map (⟦<NumberSteps as Stage>⟧.expand s.steps) (flat_map (A.expand front.now) (S.items s.source)) ≡ number_stages (take s.taken stages.now) (flat_map (A.expand front.now) (S.items source))) }
-    ensures barrier { IfOk result (λ s. s.taken < length stages.now → HoldsAt (λ stage. IsTrue (is_number_barrier stage)) stages.now s.taken) }
-    ensures far { let stops = HoldsAt (λ stage. cuts_source stage ≡ false) stages.now in
-        let few = ⟦<NumberSteps as AtMostOne>⟧.is_few in
+    ensures means { IfOk result (λ s. flat_map (G.Steps.expand s.steps) (flat_map (A.expand front.now) (S.items s.source)) ≡ one_after_other G.makes (take s.taken stages.now) (flat_map (A.expand front.now) (S.items source))) }
+    ensures barrier { IfOk result (λ s. s.taken < length stages.now → HoldsAt (λ stage. IsTrue (G.is_barrier stage)) stages.now s.taken) }
+    ensures far { let stops = HoldsAt (λ stage. G.cuts stage ≡ false) stages.now in
         IfOk result (λ s. s.taken < length stages.now → A.is_few front.now ≡ true
-        → few s.steps ≡ true → stops s.taken) }
+        → G.Steps.is_few s.steps ≡ true → stops s.taken) }
 {
     let mut source = source;
-    let (mut steps, first) = NumberSteps::front_of(engine.alloc, stages)?;
+    let (mut steps, first) = G::front_of(engine.alloc, stages)?;
     for taken in first..stages.len() {
-        if steps.put(&stages[taken])? {
+        if stages[taken].put_behind(&mut steps)? {
             continue;
         }
         let stage = Then::new(front, &steps);

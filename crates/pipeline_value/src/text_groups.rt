@@ -10,12 +10,15 @@ use crate::arrangements::Arrangement;
 use crate::engine::Engine;
 use collectors::Collector;
 use pipeline_language::{TextBase, TextFunction, TextSummary, TextTerminal};
-use pipeline_meaning::{Summarizes, TextCheck, TextSummaryCollector, text_summary};
+use pipeline_meaning::{
+    Summarizes, TextBaseCollector, TextCheck, TextSummaryCollector, text_base, text_summary,
+};
 
 /// The arrangement of a terminal, by the collectors that its summaries name.
 pub(crate) type TextArrangement<'a> = Arrangement<
     TextFunction,
     TextCheck<'a>,
+    TextBaseCollector<'a>,
     TextSummaryCollector<'a>,
 >;
 
@@ -24,13 +27,16 @@ pub(crate) fn text_arrangement<'a, R, H>(
     engine: &Engine<'_, R, H>,
     terminal: &TextTerminal<'a>,
 ) -> Option<TextArrangement<'a>>
-    ensures ready { IfSome result (IsReady (λ _. ⊤) (λ _. ⊤) (λ c. ⟦<TextSummaryCollector<'a> as Collector>⟧.ready c)) }
-    ensures told { IfSome result (λ arranged. (l : List (List ℕ)) → text_told terminal.now l ≡ Ok (arranged_text text_groups_text (λ check. text_holds check.test) (λ c. ⟦<TextSummaryCollector<'a> as Summarizes>⟧.summary c) arranged l)) }
+    ensures ready { IfSome result (IsReady (λ _. ⊤) (λ _. ⊤) (λ c. ⟦<TextBaseCollector<'a> as Collector>⟧.ready c) (λ c. ⟦<TextSummaryCollector<'a> as Collector>⟧.ready c)) }
+    ensures told { IfSome result (λ arranged. (l : List (List ℕ)) → text_told terminal.now l ≡ Ok (arranged_text text_groups_text (λ check. text_holds check.test) (λ c. ⟦<TextBaseCollector<'a> as Summarizes>⟧.summary c) (λ c. ⟦<TextSummaryCollector<'a> as Summarizes>⟧.summary c) arranged l)) }
     ensures known { is_some result ≡ arranges_texts terminal.now }
 {
     match *terminal {
         TextTerminal::GroupBy(key, TextSummary::Base(TextBase::Count)) => {
             Some(Arrangement::Counts(key))
+        }
+        TextTerminal::GroupBy(key, TextSummary::Base(base)) => {
+            Some(Arrangement::Bases(key, text_base(engine.alloc, base)))
         }
         TextTerminal::GroupBy(key, summary) => {
             let groups = text_summary(engine.alloc, engine.hashes, summary);

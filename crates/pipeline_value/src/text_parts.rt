@@ -21,10 +21,10 @@ use std::thread::Threads;
 use stealing_pool::Gate;
 
 /// The text of what an arrangement makes of a stream's texts.
-pub(crate) fn text_arranged_value<T, R, X, P, D, H>(
+pub(crate) fn text_arranged_value<T, R, X, P, B, D, H>(
     engine: &Engine<'_, R, H>,
     stream: &X,
-    arrangement: Arrangement<TextFunction, P, D>,
+    arrangement: Arrangement<TextFunction, P, B, D>,
 ) -> Result<Rope, ValueError>
 where
     T: Text + OrderedValue + Spelled + Hash + Copy + Drop + Send + Sync,
@@ -33,18 +33,22 @@ where
     X::Progress: Send + Sync,
     X::Part: Send,
     P: Test<T> + Drop + Sync,
+    B: Summarizes + Collector<Item = T> + Drop + Sync,
+    B::Acc: Send,
+    B::Out: Written + Send,
     D: Summarizes + Collector<Item = T> + Drop + Sync,
     D::Acc: Send,
     D::Out: Written + Send,
     H: Gate + Sync,
     requires stream { X.ready stream.now }
-    requires arrangement { IsReady (λ _. ⊤) P.ready D.ready arrangement }
+    requires arrangement { IsReady (λ _. ⊤) P.ready B.ready D.ready arrangement }
     requires spelling { T.spelling ≡ itself }
     requires same { T.same ≡ bytes_eq }
-    ensures { Tells (Ok (arranged_text text_groups_text P.holds D.summary arrangement (X.value stream.now))) result }
+    ensures { Tells (Ok (arranged_text text_groups_text P.holds B.summary D.summary arrangement (X.value stream.now))) result }
 {
     match arrangement {
         Arrangement::Counts(key) => { groups_value(engine, stream, key, Counting::new()) }
+        Arrangement::Bases(key, base) => { groups_value(engine, stream, key, base) }
         Arrangement::Groups(key, summary) => { groups_value(engine, stream, key, summary) }
         Arrangement::Parts(test, summary) => { parted_value(engine, stream, test, summary) }
         Arrangement::Pair(one, other) => paired_value(engine, stream, one, other),

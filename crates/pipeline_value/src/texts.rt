@@ -10,6 +10,7 @@ ghost use Rattle.pipeline_value.specs.Value.{Tells, number_body_told, text_end_t
 use crate::engine::Engine;
 use crate::gather::{gather, gather_distinct};
 use crate::numbers::number_value;
+use crate::settled::settle;
 use crate::text_end::text_end;
 use crate::told::ValueError;
 use barriers::{DropWhile, Limit, Skip, TakeWhile};
@@ -19,7 +20,7 @@ use pipeline_language::{NumberBody, TextEnd, TextStage};
 use pipeline_meaning::{AtMostOne, Rope, TextCheck, TextSteps};
 use sources::{SliceSplit, Windowed};
 use spliterator::{NoMemory, OrderedValue, Spliterator, Text};
-use stages::{Map, Stage, Then};
+use stages::{Map, Nothing, Stage, Then};
 use std::hash::Hash;
 use std::thread::Threads;
 use stealing_pool::Gate;
@@ -35,12 +36,14 @@ pub(crate) fn text_value<'a, R: Threads + Sync, H: Gate + Sync>(
     requires end { TextEndFits end.now }
     ensures { Tells (text_end_told end.now (text_stages stages.now (map (λ t. t.now) items.entry.items))) result }
 {
-    let (steps, taken) = TextSteps::front_of(engine.alloc, stages)?;
     let source = SliceSplit::new(items.as_slice());
+    let settled = settle(engine, source, &Nothing::new(), stages)?;
+    let taken = settled.taken;
+    let steps = settled.steps;
     if taken == stages.len() {
-        return end_value(engine, source, steps, end);
+        return end_value(engine, settled.source, steps, end);
     }
-    let kept = through_barrier(engine, source, &steps, &stages[taken])?;
+    let kept = through_barrier(engine, settled.source, &steps, &stages[taken])?;
     drop(items);
     text_value(engine, kept, &stages[taken + 1..], end)
 }

@@ -1,29 +1,12 @@
 //! Numbers: a sum of squares, a first one, those that differ, and a front with what its run tells of its leaves.
-ghost use Rattle.mohairjade.specs.Words.{wrapped_product, wrapped-value};
-ghost use Rattle.std.specs.Prelude.{◌*ℤ◌};
 
+use crate::square::Square;
 use mohairjade::{
-    Above, Below, Even, Mapping, NoGate, NoMemory, RangeSplit, Run, RunReport, SliceSplit, Stream,
-    StreamError, Times, ToList, WrapAdd, of,
+    Above, Below, Even, NoGate, RangeSplit, Run, RunReport, SliceSplit, Stream, StreamError, Times,
+    ToList, WrapAdd, of,
 };
 use std::alloc::Global;
 use std::thread::Threads;
-
-/// A number times itself.
-#[derive(Clone, Copy)]
-struct Square;
-
-impl Mapping<i64> for Square {
-    type Out = i64;
-
-    ghost image = { λ _ x. wrapped_product x x };
-
-    ghost images_are_values = { λ _ x _. wrapped-value (x *ℤ x) };
-
-    fn image(&self, x: &i64) -> Result<i64, NoMemory> {
-        Ok(x.wrapping_mul(*x))
-    }
-}
 
 /// `numbers.filter(x -> x % 2 == 0).map(x -> x * x).sum()`
 pub fn even_squares<R: Threads + Alloc<A = Global> + Sync>(

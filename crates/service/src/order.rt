@@ -1,7 +1,7 @@
-//! An order as an item of streams, and its parts as functions.
+//! An order as an item of streams.
 ghost use Rattle.mohairjade.specs.Words.{string_bytes, IsI64, both, bytes_eq, int_eq, both-decides, bytes_eq-decides, int_eq-decides, by_first, slice_cmp, nat_cmp, int_cmp, by_first-total, bytes_cmp-total, int_cmp-total, by_first-ties, bytes_cmp-ties, int_cmp-ties};
 
-use mohairjade::{Mapping, NoMemory, OrderedValue, Value};
+use mohairjade::{OrderedValue, Value};
 use std::collections::LinkedList;
 
 /// An order of a customer's.
@@ -37,36 +37,4 @@ impl OrderedValue for Order {
     ghost order_ties = { by_first-ties bytes_eq int_eq (slice_cmp nat_cmp) int_cmp bytes_cmp-ties int_cmp-ties };
 
     ghost cmp_is_order = { Prim.search };
-}
-
-/// Who ordered.
-#[derive(Clone, Copy)]
-pub struct Customer;
-
-impl<'a> Mapping<&'a Order> for Customer {
-    type Out = &'a str;
-
-    ghost image = { λ _ o. o.0 };
-
-    ghost images_are_values = { Prim.search };
-
-    fn image(&self, order: &&'a Order) -> Result<&'a str, NoMemory> {
-        Ok(order.customer.as_str())
-    }
-}
-
-/// What the order costs.
-#[derive(Clone, Copy)]
-pub struct Cents;
-
-impl Mapping<&Order> for Cents {
-    type Out = i64;
-
-    ghost image = { λ _ o. o.1 };
-
-    ghost images_are_values = { λ _ _ value. value };
-
-    fn image(&self, order: &&Order) -> Result<i64, NoMemory> {
-        Ok(order.cents)
-    }
 }

@@ -1,7 +1,8 @@
 //! The customers who spent most, by their orders above ten.
 ghost use Rattle.std.specs.Prelude.{int_lt};
 
-use crate::order::{Cents, Customer, Order};
+use crate::order::Order;
+use crate::order_parts::{Cents, Customer};
 use mohairjade::{Gate, GroupingBy, LentSplit, Run, Stream, StreamError, SummingLong, Test, of};
 use std::alloc::Global;
 use std::thread::Threads;

@@ -1,2 +1,3 @@
 pub mod RangeBlocks
+pub mod RangeBounds
 pub mod ProgressionBlocks

@@ -5,3 +5,4 @@ pub mod Picked
 pub mod Filled
 pub mod Fronts
 pub mod Forks
+pub mod Shifts

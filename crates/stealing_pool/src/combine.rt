@@ -6,10 +6,11 @@ ghost use Rattle.split_tree.specs.SplitTree.{leaf_numbers, numbers_from};
 ghost use Rattle.stealing_pool.specs.Gathers.{IsNumbered, IsRow, StandsForPart};
 ghost use Rattle.stealing_pool.specs.Jobs.{StandsForRun};
 
+use crate::crew::join_apart;
 use crate::job::LeafJob;
 use split_tree::Tree;
 use spliterator::NoMemory;
-use std::thread::{Threads, join};
+use std::thread::Threads;
 use std::vec::IntoIter;
 
 /// Combines what is kept of a node's leaves, as far as the row goes.
@@ -105,7 +106,7 @@ where
         requires { IsSync R.row × IsSync J.row × IsSend J.Kept.row × J.ready job.now × (0 < length row.items) × IsNumbered left.now }
         ensures { IfOk result (StandsForPart (J.work job.entry.now) (length (leaf_numbers left.entry.now)) row.items) }
     { combine_part(rt, job, left, levels, row) };
-    let (after, before) = join(rt, theirs, ours);
+    let (after, before) = join_apart(rt, theirs, ours);
     Ok((before?, after?))
 }
 

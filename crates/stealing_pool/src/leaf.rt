@@ -1,5 +1,6 @@
 //! The run of one leaf: its source's items pass a stage, and are kept until they are enough.
-ghost use Rattle.std.specs.Prelude.{◌<◌, IfOk, flat_map};
+ghost use Rattle.std.specs.Prelude.{◌≡◌, ◌<◌, ◌≤◌, IfNone, IfOk, IfSome, flat_map};
+ghost use Rattle.barriers.specs.Needs.{need_of};
 ghost use Rattle.leaf_board.specs.Statuses.{SameFrom, StaysSeat};
 ghost use Rattle.stealing_pool.specs.Fronts.{folding, EndsList};
 
@@ -14,7 +15,11 @@ use stages::Stage;
 use std::alloc::Global;
 
 /// How many items a container is made for. Those of a leaf, where their number is known, and no more than are needed.
-fn expected(need: Need, size: Option<u64>) -> u64 {
+fn expected(need: Need, size: Option<u64>) -> u64
+    ensures unknown { IfNone size (result ≡ 0) }
+    ensures left { IfSome size (λ number. result ≤ number) }
+    ensures needed { IfSome (need_of need) (λ needed. result ≤ needed) }
+{
     match (need, size) {
         (_, None) => 0,
         (Need::Never, Some(number)) => number,

@@ -54,7 +54,7 @@ where
         job,
         gate,
     };
-    let shifts = run_workers(rt, &crew, seats)?;
+    let shifts = run_workers(rt, alloc, &crew, seats)?;
     let (seats, places) = sort_shifts(alloc, job.leaves(), shifts)?;
     let record = board.close(seats);
     let row = pick_row(alloc, job, places)?;

@@ -1,5 +1,5 @@
 //! One worker: it draws leaves, runs them and publishes their counts, until all are given out.
-ghost use Rattle.std.specs.Prelude.{◌≡◌, ◌<◌, ℕ, false, All};
+ghost use Rattle.std.specs.Prelude.{◌≡◌, ◌<◌, ◌⊎◌, ℕ, false, true, All};
 ghost use Rattle.barriers.specs.Needs.{need_of, Reaches};
 ghost use Rattle.leaf_board.specs.Statuses.{Unknown, Given, StaysSeat};
 ghost use Rattle.stealing_pool.specs.Jobs.{IsCase};
@@ -28,9 +28,10 @@ pub struct Shift<T, K> {
     pub refused: bool,
 }
 
-/// Whether a count can make a cut.
+/// Whether a count can make a cut: one of a leaf of which nothing counts can where nothing is needed.
 fn may_cut(need: Need, count: u64) -> bool
-    ensures { result ≡ false → ¬ Reaches (need_of need) count }
+    ensures no { result ≡ false → ¬ Reaches (need_of need) count }
+    ensures yes { result ≡ true → (0 < count) ⊎ Reaches (need_of need) 0 }
 {
     match need {
         Need::Never => false,

@@ -5,6 +5,7 @@ use collectors::{
     Collector, Counting, FilteringTo, GroupingBy, MappingTo, PartitioningBy, SummingLong, ToMap,
     ToMapStrict, fold_items,
 };
+use parts::{Composed, Modulo};
 use spliterator::NoMemory;
 use stages::{FirstOf, Mapping, Test};
 use std::process::Abort;
@@ -98,4 +99,16 @@ fn functions_of_maps_are_asked_once_an_item(rt: HostRuntime) -> Result<(), NoMem
     let map = ToMap::new(alloc, key, value, FirstOf::<i64>::new());
     let strict = ToMapStrict::<i64, _, _>::new(alloc, Itself { asked }, Itself { asked });
     check(&rt, asked, map, 20).and(check(&rt, asked, strict, 20))
+}
+
+// All keys are 0. The items 0 and 1, and 7 and 8 in the container that is combined, are asked for key and value. Behind a repeat none is.
+#[test]
+fn functions_of_a_strict_map_are_not_asked_behind_a_repeat(
+    rt: HostRuntime,
+) -> Result<(), NoMemory> {
+    let number = AtomicU64::new(0);
+    let asked = &number;
+    let key = Composed(Itself { asked }, Modulo::by(1));
+    let strict = ToMapStrict::<i64, _, _>::new(rt.alloc(), key, Itself { asked });
+    check(&rt, asked, strict, 8)
 }

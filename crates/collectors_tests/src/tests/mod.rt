@@ -6,6 +6,7 @@ mod cuts;
 mod functions;
 mod joined;
 mod light;
+mod long_lists;
 mod nested;
 mod parted;
 mod plain;

@@ -2,7 +2,8 @@
 
 use super::answers::{check, counted, first_of, numbers, same};
 use super::gates::Watch;
-use parallel_streams::{Run, StreamError};
+use parallel_streams::{MapError, Run, StreamError};
+use std::test::Fail;
 
 /// Workers, targets, and what refuses them.
 static UNLAWFUL: [(u32, u64, StreamError); 4] = [
@@ -32,4 +33,25 @@ fn unlawful_settings_are_refused(rt: HostRuntime) -> Result<(), StreamError> {
         gate: &gate,
     };
     check(&rt, first_of(&rt, &run, &ten), Some(0))
+}
+
+#[test]
+fn errors_say_what_is_wrong(rt: HostRuntime) -> Result<(), Fail> {
+    let workers = StreamError::BadWorkers;
+    let target = StreamError::BadTarget;
+    let told = format!(in rt.alloc(); "{}; {workers}; {target}", StreamError::NoMemory)?;
+    let settings = "the number of workers is not 1 to 64; the target is above 2^62";
+    assert!(rt;
+        told.strip_prefix("out of memory; ") == Some(settings),
+        "{told}"
+    );
+    let workers = MapError::<i64>::from(workers);
+    let target = MapError::<i64>::from(target);
+    let repeated = MapError::DuplicateKey(3i64);
+    let told = format!(in rt.alloc(); "{repeated}; {workers}; {target}")?;
+    assert!(rt;
+        told.strip_prefix("duplicate key 3; ") == Some(settings),
+        "{told}"
+    );
+    Ok(())
 }

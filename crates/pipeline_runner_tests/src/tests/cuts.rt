@@ -72,7 +72,7 @@ static RANGES: [Row<'_>; 16] = [
 ];
 
 /// A range that nobody could read to its end: what is decided by its first numbers is answered without the others.
-static ENDLESS: [Row<'_>; 9] = [
+static ENDLESS: [Row<'_>; 14] = [
     (
         b"range 0 4611686018427387904\nfilter greater 3\nfindfirst\n",
         "Optional[4]\n",
@@ -106,9 +106,27 @@ static ENDLESS: [Row<'_>; 9] = [
         b"range 0 4611686018427387904\nnonematch equals 9\n",
         "false\n",
     ),
+    // comparisons of a range read nothing
+    (b"range 0 4611686018427387904\nfilter less 3\nsum\n", "3\n"),
+    (
+        b"range 0 4611686018427387904\nfilter less -9223372036854775808\ncount\n",
+        "0\n",
+    ),
+    (
+        b"range 0 4611686018427387904\nfilter greater 4611686018427387901\nmap add 1\ntolist\n",
+        "[4611686018427387903, 4611686018427387904]\n",
+    ),
+    (
+        b"range 0 4611686018427387904\nfilter greater 9223372036854775807\ncount\n",
+        "0\n",
+    ),
+    (
+        b"range 0 4611686018427387904\nskip 2\nfilter less 4\ntolist\n",
+        "[2, 3]\n",
+    ),
 ];
 
-static LISTS: [Row<'_>; 6] = [
+static LISTS: [Row<'_>; 11] = [
     (
         b"numbers 5 3 8 1 9 2\nfilter greater 2\nlimit 2\ntolist\n",
         "[5, 3]\n",
@@ -132,6 +150,26 @@ static LISTS: [Row<'_>; 6] = [
     (
         b"lines 4\naa\nb\nccc\ndddd\nmap length\nfilter greater 1\ntakewhile less 4\nskip 1\ntolist\n",
         "[3]\n",
+    ),
+    (
+        b"lines 4\naa\nb\nccc\ndddd\nfilter longer 1\nlimit 2\nfilter longer 2\ntolist\n",
+        "[ccc]\n",
+    ),
+    (
+        b"lines 4\naa\nb\nccc\ndddd\nfilter longer 1\nskip 1\nmap self\nlimit 1\ntolist\n",
+        "[ccc]\n",
+    ),
+    (
+        b"lines 4\naa\nb\nccc\na\nskip 1\ntakewhile longer 0\ndropwhile starts b\njoining |\n",
+        "ccc|a\n",
+    ),
+    (
+        b"lines 4\naa\nb\nccc\na\ntakewhile starts a\nmap length\nskip 1\ntolist\n",
+        "[]\n",
+    ),
+    (
+        b"lines 3\na b\nc\nd e\nflatmap words\nskip 1\nfilter longer 0\nlimit 3\ntolist\n",
+        "[b, c, d]\n",
     ),
 ];
 

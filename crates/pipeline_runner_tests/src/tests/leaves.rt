@@ -194,13 +194,13 @@ fn are_run_by_two_workers_behind_each_barrier(rt: HostRuntime) -> Result<(), Fai
     Ok(())
 }
 
-// The place of the last but one even number is sought. One run on all workers counts the images behind the first 65,536 items, in four leaves. Each
-// other run has one leaf: that of the first items, those of parts of a leaf, and that of the sum.
+// The place of the last but one even number is sought. Behind two runs over the first items, the third counts the rest's images by all workers, in
+// four leaves. Each other run has one leaf: those of the first items, those of parts of a leaf, and that of the sum.
 const FAR: &[u8] = b"pipeline 1\nrange 0 200000\nfilter divisible 2\nskip 99999\nsum\n";
 
 #[test]
 fn are_counted_by_two_workers_behind_the_first_items(rt: HostRuntime) -> Result<(), Fail> {
-    let gate = Watch::of_run(2);
+    let gate = Watch::of_run(3);
     let written = watch(&rt, rt.alloc(), &Case::of(FAR, 2, 65_536), &gate)?;
     assert!(rt;
         gate.worker_count() == 2 && written.as_str() == "199998\n",

@@ -77,6 +77,11 @@ impl HoldsFirst {
         }
     }
 
+    /// How many leaves right of leaf 0 have begun.
+    pub fn others_begun(&self) -> u64 {
+        self.begun.load(Ordering::SeqCst)
+    }
+
     /// Whether each leaf right of leaf 0 that has begun has ended.
     pub fn all_ended(&self) -> bool {
         self.ended.load(Ordering::SeqCst) == self.begun.load(Ordering::SeqCst)
@@ -100,5 +105,43 @@ impl Gate for HoldsFirst {
         } else {
             self.first_ended.fetch_add(1, Ordering::SeqCst);
         }
+    }
+}
+
+/// Counts the leaves that run, and the items that are met while none does.
+#[derive(Drop)]
+pub struct Between {
+    running: AtomicU64,
+    strays: AtomicU64,
+}
+
+impl Between {
+    pub fn new() -> Between {
+        Between {
+            running: AtomicU64::new(0),
+            strays: AtomicU64::new(0),
+        }
+    }
+
+    /// An item is met.
+    pub fn meet(&self) {
+        if self.running.load(Ordering::SeqCst) == 0 {
+            self.strays.fetch_add(1, Ordering::SeqCst);
+        }
+    }
+
+    /// Whether no item was met while no leaf ran, and none runs now.
+    pub fn met_all(&self) -> bool {
+        self.strays.load(Ordering::SeqCst) == 0 && self.running.load(Ordering::SeqCst) == 0
+    }
+}
+
+impl Gate for Between {
+    fn before_leaf(&self, _worker: u32, _leaf: usize) {
+        self.running.fetch_add(1, Ordering::SeqCst);
+    }
+
+    fn after_leaf(&self, _worker: u32, _leaf: usize) {
+        self.running.fetch_sub(1, Ordering::SeqCst);
     }
 }

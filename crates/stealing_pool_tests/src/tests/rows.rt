@@ -1,8 +1,8 @@
 //! What runs answer and report.
 ghost use Rattle.std.specs.Prelude.{◌≤◌};
 
-use super::gates::{HoldsFirst, Meeting};
-use super::watched::{MeetingLists, Times, Watched};
+use super::gates::{Between, HoldsFirst, Meeting};
+use super::watched::{MeetingLists, Met, Times, Watched};
 use barriers::{Demand, FirstHit, Total, Whole};
 use collectors::{Collector, SummingLong, ToList};
 use parts::{Above, Itself};
@@ -258,7 +258,11 @@ fn listed<R: Threads + Sync>(
     let demand = Total::new(u64::from(needed));
     let run = run(rt, alloc, shape, &stage, &demand, &ToList::new(alloc), gate)?;
     all_came(&gate.missed)?;
-    Ok(run)
+    let Gathered { acc, entry } = run;
+    Ok(Gathered {
+        acc: acc.into_list()?,
+        entry,
+    })
 }
 
 #[test]
@@ -320,7 +324,8 @@ fn one_hit_skips_all_that_follows(rt: HostRuntime) -> Result<(), Fail> {
         &lists,
         &NoGate,
     )?;
-    assert!(rt; are_from_zero(run.acc.as_slice(), 4) && reports(&run.entry, 16, 0, &[(0, 1)]));
+    let list = run.acc.into_list()?;
+    assert!(rt; are_from_zero(list.as_slice(), 4) && reports(&run.entry, 16, 0, &[(0, 1)]));
     Ok(())
 }
 
@@ -388,12 +393,28 @@ fn one_worker_meets_no_refusal_right_of_what_is_wanted(rt: HostRuntime) -> Resul
     Ok(())
 }
 
-// Ten items are not eleven, so that all are wanted. The gate is told of the end of each leaf, that of the refused one too.
+// Ten items are not eleven, so that all are wanted. The gate is told of the end of each leaf, that of the refused one too. Behind that none begins.
 #[test]
 fn a_refusal_is_met_where_all_is_wanted(rt: HostRuntime) -> Result<(), Fail> {
     let gate = HoldsFirst::until(0, 0);
     let is_refused = of_ten(&rt, rt.alloc(), 11, 1, 1, &gate).is_err();
-    assert!(rt; is_refused && gate.all_ended());
+    assert!(rt; is_refused && gate.all_ended() && gate.others_begun() <= 7);
+    Ok(())
+}
+
+// With one worker, so that it is the leaf's own two calls that an item is met between.
+#[test]
+fn a_leaf_runs_between_the_calls_of_its_gate(rt: HostRuntime) -> Result<(), Fail> {
+    let shape = Shape {
+        end: 10,
+        target: 1,
+        workers: 1,
+    };
+    let gate = Between::new();
+    let stage = Map::new(Met { gate: &gate });
+    let sum = SummingLong::new(Itself);
+    let run = run(&rt, rt.alloc(), shape, &stage, &Whole, &sum, &gate)?;
+    assert!(rt; run.acc == 45 && gate.met_all());
     Ok(())
 }
 

@@ -4,7 +4,7 @@ ghost use Rattle.collectors.specs.NestedLaws.{push, list_laws};
 ghost use Rattle.spliterator.specs.Values.{IsI64};
 ghost use Rattle.stages.specs.Wrapping.{wrapped, wrapped-value};
 
-use super::gates::{HoldsFirst, wait_for};
+use super::gates::{Between, HoldsFirst, wait_for};
 use collectors::Collector;
 use spliterator::NoMemory;
 use stages::{Mapping, Test};
@@ -41,6 +41,25 @@ impl Mapping<i64> for Times {
         } else {
             Ok(x.wrapping_mul(self.factor))
         }
+    }
+}
+
+/// Each number as it is. A gate is told that it was met.
+#[derive(Drop)]
+pub struct Met<'a> {
+    pub gate: &'a Between,
+}
+
+impl Mapping<i64> for Met<'_> {
+    type Out = i64;
+
+    ghost image = { λ _ x. x };
+
+    ghost images_are_values = { λ f x h. h };
+
+    fn image(&self, x: &i64) -> Result<i64, NoMemory> {
+        self.gate.meet();
+        Ok(*x)
     }
 }
 

@@ -1,16 +1,21 @@
-use Rattle.std.proofs.Common.{◌≡◌, ◌+◌, get_or, arith}
-use Rattle.std.specs.Char.{digit_value}
-use Rattle.std.specs.Int.{IsInRange}
-use Rattle.std.proofs.lemmas.Int.Digits.{digits_more, digits_value_more}
-use Rattle.std.proofs.lemmas.Str.{digit_value_digit}
+use Rattle.std.proofs.Common.{◌≤◌, length, arith}
+use Rattle.file_words.proofs.DigitLemmas.{front_digits, front_stops, front_value}
 use Rattle.file_words.proofs.number.front_digits.Goals as goal
 
-pub loop-index-preserved : goal.loop-index-preserved
-loop-index-preserved c =
-    let byte = get_or c.args.bytes.now c.loop-index.index 0 in
-    let range : IsInRange 48 57 byte = (omega arith, omega arith) in
-    let digit : digit_value byte + 48 ≡ byte = digit_value_digit byte range in
-    record {
-      digits = digits_more 10 c.args.bytes.now c.loop-index.index c.loop-index-test.true c.loop-index.invariant.digits (omega arith);
-      value = omega (arith, digits_value_more 10 c.args.bytes.now c.loop-index.index c.loop-index-test.true);
-    }
+pub returns-then-end-lt-WORD-clause-digits : goal.returns-then-end-lt-WORD-clause-digits
+returns-then-end-lt-WORD-clause-digits c =
+    let e = c.read_digits-end.ensures in
+    let room : 8 ≤ length c.args.bytes.now = omega (arith, c.if-bytes-ge-WORD.true) in
+    front_digits c.args.bytes.now 8 c.read_digits-end.result.0 c.read_digits-end.result.1 (omega arith) room e.end e.value
+
+pub returns-then-end-lt-WORD-clause-value : goal.returns-then-end-lt-WORD-clause-value
+returns-then-end-lt-WORD-clause-value c =
+    let e = c.read_digits-end.ensures in
+    let room : 8 ≤ length c.args.bytes.now = omega (arith, c.if-bytes-ge-WORD.true) in
+    front_value c.args.bytes.now 8 c.read_digits-end.result.0 c.read_digits-end.result.1 (omega arith) room e.end e.value
+
+pub returns-then-end-lt-WORD-clause-end : goal.returns-then-end-lt-WORD-clause-end
+returns-then-end-lt-WORD-clause-end c range =
+    let e = c.read_digits-end.ensures in
+    let room : 8 ≤ length c.args.bytes.now = omega (arith, c.if-bytes-ge-WORD.true) in
+    absurd (front_stops c.args.bytes.now 8 c.read_digits-end.result.0 c.read_digits-end.result.1 (omega arith) room e.end e.value (omega (arith, c.if-end-lt-WORD.true)) range)

@@ -1,101 +1,119 @@
-use Rattle.std.proofs.Common.{◌≡◌, ◌∙◌, ◌-◌, ◌∷◌, ℕ, List, length, take, drop, slice_index, sym, arith}
-use Rattle.file_words.proofs.DigitLemmas.{AreFront, has_sign, negative_front, negative_past, negative_solid, no_first, no_number, no_space_in, other_front, positive_front, positive_past, sign_front, sign_past, zero_front, zero_past}
+use Rattle.std.proofs.Common.{◌-◌, ℕ, List, length, take, drop, refl, arith}
+use Rattle.file_words.proofs.DigitLemmas.{AreFront, IsSplit, no_first, split_line, split_none, split_none_past, split_number, split_past, split_solid, split_zero, zero_front, zero_past}
 use Rattle.file_words.proofs.number.front_number.Goals as goal
 
 pub returns-in-48-clause-number : goal.returns-in-48-clause-number
-returns-in-48-clause-number c = zero_front c.args.line.now (omega arith) (omega arith)
+returns-in-48-clause-number c =
+    let line : List ℕ = c.args.line.now in
+    let sign : ℕ = c.sign_len-sign.result in
+    let digits : List ℕ = take (length line - sign) (drop sign line) in
+    let split : IsSplit line digits sign = split_line line digits sign c.sign_len-sign.ensures refl in
+    let first = split_zero line digits sign split (omega arith) (omega arith) (omega arith) in
+    zero_front line first.0 first.1
 
 pub returns-in-48-clause-past : goal.returns-in-48-clause-past
-returns-in-48-clause-past c = zero_past c.args.line.now (omega arith) (omega arith)
+returns-in-48-clause-past c =
+    let line : List ℕ = c.args.line.now in
+    let sign : ℕ = c.sign_len-sign.result in
+    let digits : List ℕ = take (length line - sign) (drop sign line) in
+    let split : IsSplit line digits sign = split_line line digits sign c.sign_len-sign.ensures refl in
+    let first = split_zero line digits sign split (omega arith) (omega arith) (omega arith) in
+    zero_past line first.0 first.1
 
 pub returns-in-49-to-57-clause-solid : goal.returns-in-49-to-57-clause-solid
 returns-in-49-to-57-clause-solid c =
-    let r = c.front_digits-value-in-49-to-57.result in
-    let e = c.front_digits-value-in-49-to-57.ensures in
-    let f : AreFront c.args.line.now r.0 r.1 = record { digits = e.digits; value = e.value; past = e.end; fits = omega arith; low = omega arith; high = omega arith } in
-    no_space_in _ f.digits
+    let line : List ℕ = c.args.line.now in
+    let sign : ℕ = c.sign_len-sign.result in
+    let digits : List ℕ = take (length line - sign) (drop sign line) in
+    let split : IsSplit line digits sign = split_line line digits sign c.sign_len-sign.ensures refl in
+    let r = c.front_digits-value.result in
+    let e = c.front_digits-value.ensures in
+    let f : AreFront digits r.0 r.1 = record { digits = e.digits; value = e.value; past = e.end; fits = omega arith; low = omega arith; high = omega arith } in
+    split_solid line digits sign r.0 r.1 split f
 
 pub returns-in-49-to-57-clause-number : goal.returns-in-49-to-57-clause-number
 returns-in-49-to-57-clause-number c =
-    let r = c.front_digits-value-in-49-to-57.result in
-    let e = c.front_digits-value-in-49-to-57.ensures in
-    let f : AreFront c.args.line.now r.0 r.1 = record { digits = e.digits; value = e.value; past = e.end; fits = omega arith; low = omega arith; high = omega arith } in
-    c.positive.ensures ∙ positive_front c.args.line.now r.0 r.1 f
+    let line : List ℕ = c.args.line.now in
+    let sign : ℕ = c.sign_len-sign.result in
+    let digits : List ℕ = take (length line - sign) (drop sign line) in
+    let split : IsSplit line digits sign = split_line line digits sign c.sign_len-sign.ensures refl in
+    let r = c.front_digits-value.result in
+    let e = c.front_digits-value.ensures in
+    let f : AreFront digits r.0 r.1 = record { digits = e.digits; value = e.value; past = e.end; fits = omega arith; low = omega arith; high = omega arith } in
+    split_number line digits sign r.0 r.1 c.signed.result split f c.signed.ensures.positive c.signed.ensures.negative
 
 pub returns-in-49-to-57-clause-past : goal.returns-in-49-to-57-clause-past
 returns-in-49-to-57-clause-past c =
-    let r = c.front_digits-value-in-49-to-57.result in
-    let e = c.front_digits-value-in-49-to-57.ensures in
-    let f : AreFront c.args.line.now r.0 r.1 = record { digits = e.digits; value = e.value; past = e.end; fits = omega arith; low = omega arith; high = omega arith } in
-    positive_past c.args.line.now r.0 r.1 f
-
-pub returns-in-49-to-57-digits-clause-solid : goal.returns-in-49-to-57-digits-clause-solid
-returns-in-49-to-57-digits-clause-solid c =
+    let line : List ℕ = c.args.line.now in
+    let sign : ℕ = c.sign_len-sign.result in
+    let digits : List ℕ = take (length line - sign) (drop sign line) in
+    let split : IsSplit line digits sign = split_line line digits sign c.sign_len-sign.ensures refl in
     let r = c.front_digits-value.result in
     let e = c.front_digits-value.ensures in
-    let digits : List ℕ = take (length c.args.line.now - 1) (drop 1 c.args.line.now) in
-    let sign : c.args.line.now ≡ 45 ∷ digits = has_sign c.args.line.now (omega arith) (omega arith) in
     let f : AreFront digits r.0 r.1 = record { digits = e.digits; value = e.value; past = e.end; fits = omega arith; low = omega arith; high = omega arith } in
-    negative_solid c.args.line.now digits r.0 r.1 sign f
-
-pub returns-in-49-to-57-digits-clause-number : goal.returns-in-49-to-57-digits-clause-number
-returns-in-49-to-57-digits-clause-number c =
-    let r = c.front_digits-value.result in
-    let e = c.front_digits-value.ensures in
-    let digits : List ℕ = take (length c.args.line.now - 1) (drop 1 c.args.line.now) in
-    let sign : c.args.line.now ≡ 45 ∷ digits = has_sign c.args.line.now (omega arith) (omega arith) in
-    let f : AreFront digits r.0 r.1 = record { digits = e.digits; value = e.value; past = e.end; fits = omega arith; low = omega arith; high = omega arith } in
-    c.negative.ensures ∙ negative_front c.args.line.now digits r.0 r.1 sign f
-
-pub returns-in-49-to-57-digits-clause-past : goal.returns-in-49-to-57-digits-clause-past
-returns-in-49-to-57-digits-clause-past c =
-    let r = c.front_digits-value.result in
-    let e = c.front_digits-value.ensures in
-    let digits : List ℕ = take (length c.args.line.now - 1) (drop 1 c.args.line.now) in
-    let sign : c.args.line.now ≡ 45 ∷ digits = has_sign c.args.line.now (omega arith) (omega arith) in
-    let f : AreFront digits r.0 r.1 = record { digits = e.digits; value = e.value; past = e.end; fits = omega arith; low = omega arith; high = omega arith } in
-    negative_past c.args.line.now digits r.0 r.1 sign f
-
-pub returns-in_default-digits-clause-number : goal.returns-in_default-digits-clause-number
-returns-in_default-digits-clause-number c = sign_front c.args.line.now (omega arith) (omega arith)
-
-pub returns-in_default-digits-clause-past : goal.returns-in_default-digits-clause-past
-returns-in_default-digits-clause-past c =
-    let digits : List ℕ = take (length c.args.line.now - 1) (drop 1 c.args.line.now) in
-    sign_past c.args.line.now digits (has_sign c.args.line.now (omega arith) (omega arith)) (λ low high. omega (arith, low, no_first digits (omega arith)))
+    split_past line digits sign r.0 r.1 split f
 
 pub returns-in_default-clause-number : goal.returns-in_default-clause-number
-returns-in_default-clause-number c = sym no_number
+returns-in_default-clause-number c =
+    let line : List ℕ = c.args.line.now in
+    let sign : ℕ = c.sign_len-sign.result in
+    let digits : List ℕ = take (length line - sign) (drop sign line) in
+    let split : IsSplit line digits sign = split_line line digits sign c.sign_len-sign.ensures refl in
+    split_none line digits sign split
 
 pub returns-in_default-clause-past : goal.returns-in_default-clause-past
-returns-in_default-clause-past c more =
-    let none = no_first c.args.line.now (omega arith) in
-    other_front (slice_index c.args.line.now 0) more (λ e. omega (arith, e, none)) (λ e. omega (arith, e, none)) (λ low high. omega (arith, low, none))
-
-pub returns-in_default-digits-2-clause-number : goal.returns-in_default-digits-2-clause-number
-returns-in_default-digits-2-clause-number c = sign_front c.args.line.now (omega arith) (omega arith)
-
-pub returns-in_default-digits-2-clause-past : goal.returns-in_default-digits-2-clause-past
-returns-in_default-digits-2-clause-past c =
-    let digits : List ℕ = take (length c.args.line.now - 1) (drop 1 c.args.line.now) in
-    sign_past c.args.line.now digits (has_sign c.args.line.now (omega arith) (omega arith)) (λ low high. omega (arith, low, high))
+returns-in_default-clause-past c =
+    let line : List ℕ = c.args.line.now in
+    let sign : ℕ = c.sign_len-sign.result in
+    let digits : List ℕ = take (length line - sign) (drop sign line) in
+    let split : IsSplit line digits sign = split_line line digits sign c.sign_len-sign.ensures refl in
+    let none = no_first digits (omega arith) in
+    split_none_past line digits sign split (λ z is. omega (arith, is, none)) (λ low high. omega (arith, low, none))
 
 pub returns-in_default-2-clause-number : goal.returns-in_default-2-clause-number
-returns-in_default-2-clause-number c = sym no_number
+returns-in_default-2-clause-number c =
+    let line : List ℕ = c.args.line.now in
+    let sign : ℕ = c.sign_len-sign.result in
+    let digits : List ℕ = take (length line - sign) (drop sign line) in
+    let split : IsSplit line digits sign = split_line line digits sign c.sign_len-sign.ensures refl in
+    split_none line digits sign split
 
 pub returns-in_default-2-clause-past : goal.returns-in_default-2-clause-past
-returns-in_default-2-clause-past c more = other_front (slice_index c.args.line.now 0) more (λ e. omega (arith, e)) (λ e. omega (arith, e)) (λ low high. omega (arith, low, high))
-
-pub returns-in_default-digits-3-clause-number : goal.returns-in_default-digits-3-clause-number
-returns-in_default-digits-3-clause-number c = sign_front c.args.line.now (omega arith) (omega arith)
-
-pub returns-in_default-digits-3-clause-past : goal.returns-in_default-digits-3-clause-past
-returns-in_default-digits-3-clause-past c =
-    let digits : List ℕ = take (length c.args.line.now - 1) (drop 1 c.args.line.now) in
-    sign_past c.args.line.now digits (has_sign c.args.line.now (omega arith) (omega arith)) (λ low high. omega (arith, low, high))
+returns-in_default-2-clause-past c =
+    let line : List ℕ = c.args.line.now in
+    let sign : ℕ = c.sign_len-sign.result in
+    let digits : List ℕ = take (length line - sign) (drop sign line) in
+    let split : IsSplit line digits sign = split_line line digits sign c.sign_len-sign.ensures refl in
+    split_none_past line digits sign split (λ z is. omega (arith, z, is)) (λ low high. omega (arith, low, high))
 
 pub returns-in_default-3-clause-number : goal.returns-in_default-3-clause-number
-returns-in_default-3-clause-number c = sym no_number
+returns-in_default-3-clause-number c =
+    let line : List ℕ = c.args.line.now in
+    let sign : ℕ = c.sign_len-sign.result in
+    let digits : List ℕ = take (length line - sign) (drop sign line) in
+    let split : IsSplit line digits sign = split_line line digits sign c.sign_len-sign.ensures refl in
+    split_none line digits sign split
 
 pub returns-in_default-3-clause-past : goal.returns-in_default-3-clause-past
-returns-in_default-3-clause-past c more = other_front (slice_index c.args.line.now 0) more (λ e. omega (arith, e)) (λ e. omega (arith, e)) (λ low high. omega (arith, low, high))
+returns-in_default-3-clause-past c =
+    let line : List ℕ = c.args.line.now in
+    let sign : ℕ = c.sign_len-sign.result in
+    let digits : List ℕ = take (length line - sign) (drop sign line) in
+    let split : IsSplit line digits sign = split_line line digits sign c.sign_len-sign.ensures refl in
+    split_none_past line digits sign split (λ z is. omega (arith, z, is)) (λ low high. omega (arith, low, high))
+
+pub returns-in_default-4-clause-number : goal.returns-in_default-4-clause-number
+returns-in_default-4-clause-number c =
+    let line : List ℕ = c.args.line.now in
+    let sign : ℕ = c.sign_len-sign.result in
+    let digits : List ℕ = take (length line - sign) (drop sign line) in
+    let split : IsSplit line digits sign = split_line line digits sign c.sign_len-sign.ensures refl in
+    split_none line digits sign split
+
+pub returns-in_default-4-clause-past : goal.returns-in_default-4-clause-past
+returns-in_default-4-clause-past c =
+    let line : List ℕ = c.args.line.now in
+    let sign : ℕ = c.sign_len-sign.result in
+    let digits : List ℕ = take (length line - sign) (drop sign line) in
+    let split : IsSplit line digits sign = split_line line digits sign c.sign_len-sign.ensures refl in
+    split_none_past line digits sign split (λ z is. omega (arith, z, is)) (λ low high. omega (arith, low, high))

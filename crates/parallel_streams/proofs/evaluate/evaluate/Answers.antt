@@ -1,21 +1,15 @@
-use Rattle.stealing_pool.specs.Fronts.{folding}
-use Rattle.stealing_pool.specs.SpanLaws.{run-front}
 use Rattle.parallel_streams.proofs.evaluate.evaluate.Goals as goal
 
 pub returns : goal.returns
 returns g c =
-    let D = g.D.Demand in
-    let C = g.C.Collector in
-    let f = folding (D.needed c.args.demand.now) (D.counted c.args.demand.now) g.X.Item.Value.is_value (C.empty c.args.collector.now) (C.add c.args.collector.now) in
     let ran = c.in_ok-progress in
-    let lists = g.X.Stream.parts c.args.stream.now ran.progress in
     record {
-      lists = lists;
+      lists = g.X.Stream.parts c.args.stream.now ran.progress;
       cut = ran.ensures.cut;
       joins = ran.ensures.whole;
       before = ran.entries.items;
-      last = c.in_ok-last.last.entry;
+      last = c.in_ok-acc.entry;
       are = c.in_ok-push.ensures.items;
       of_barriers = ran.ensures.entries;
-      of_run = (run-front f (C.content c.args.collector.now) lists c.in_ok-last.last.acc c.in_ok-last.ensures.stands, c.in_ok-last.ensures.entry);
+      of_run = c.in_ok-acc.ensures;
     }

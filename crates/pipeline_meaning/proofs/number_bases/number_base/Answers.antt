@@ -2,7 +2,7 @@ use Rattle.std.proofs.Common.{rules, ap, sym, ◌∙◌}
 -- The first item is what keeping the earlier of two leaves.
 use Rattle.std.specs.Fmt.{signed_decimal}
 use Rattle.collectors.specs.Reductions.{reduced}
-use Rattle.pipeline_meaning.specs.Functions.{number_join}
+use Rattle.pipeline_meaning.specs.Prepared.{merging_join}
 use Rattle.pipeline_meaning.specs.SummaryLaws.{reduced-first_of}
 use Rattle.pipeline_meaning.specs.Summaries.{number_base_text}
 use Rattle.pipeline_meaning.specs.Texts.{optional_text}
@@ -10,7 +10,7 @@ use Rattle.pipeline_meaning.proofs.number_bases.number_base.Goals as goal
 
 pub returns-in-First-clause-summary : goal.returns-in-First-clause-summary
 returns-in-First-clause-summary c = λ l.
-    ap (λ merge. optional_text signed_decimal (reduced (number_join merge) l)) (ap (λ operator. operator.merge) c.new-in-First.ensures ∙ c.of-in-First.ensures.merge)
+    ap (λ join. optional_text signed_decimal (reduced join l)) (ap merging_join c.new-in-First.ensures ∙ c.of-in-First.ensures.join)
     ∙ ap (optional_text signed_decimal) (reduced-first_of l)
     ∙ ap (λ base. number_base_text base l) (sym c.in-First.is)
 

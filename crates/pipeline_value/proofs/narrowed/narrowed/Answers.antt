@@ -1,9 +1,9 @@
-use Rattle.std.proofs.Common.{◌≡◌, ◌<◌, length, true, ap, sym, ◌∙◌, arith}
+use Rattle.std.proofs.Common.{◌≡◌, ◌<◌, length, nat_eq, true, ap, sym, ◌∙◌, arith}
 use Rattle.std.specs.List.{slice_index_or}
 use Rattle.std.specs.Prelude.{remove}
 use Rattle.sources.specs.Integers.{integers}
 use Rattle.pipeline_meaning.specs.Stages.{is_number_map, number_stage, number_stages}
-use Rattle.pipeline_value.specs.Narrowing.{is_window, maps-more, maps-kept, done-first, fits-kept}
+use Rattle.pipeline_value.specs.Narrowing.{is_window, is_none, maps-more, maps-kept, done-before, fits-kept}
 use Rattle.pipeline_value.specs.Ranges.{NumberStageFits}
 use Rattle.pipeline_value.proofs.narrowed.narrowed.Goals.{then-is_map, else-is_map+in-Some}
 use Rattle.pipeline_value.proofs.narrowed.narrowed.Goals as goal
@@ -31,7 +31,7 @@ loop-round-preserved c =
           rw (w.maps-is, w.stages-is, w.range-is, w.remove.ensures.items) (
             maps-kept stages maps within c.loop-round.invariant.0,
             ap (number_stages (remove stages maps)) (made.part ∙ ap (λ s. number_stage s items) at)
-                ∙ done-first stages maps e items within c.loop-round.invariant.0 (ap is_window (sym at) ∙ made.window)
+                ∙ done-before stages maps (nat_eq maps 0) e items within c.loop-round.invariant.0 (is_none maps) (λ later. ap is_window (sym at) ∙ made.window later)
                 ∙ c.loop-round.invariant.1,
             fits-kept NumberStageFits stages maps c.loop-round.invariant.2,
           )

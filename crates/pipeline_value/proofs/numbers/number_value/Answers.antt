@@ -1,8 +1,9 @@
 use Rattle.std.proofs.Common.{◌≡◌, ◌<◌, flat_map, length, take, arith}
 use Rattle.std.proofs.lemmas.List.Elements.{All-drop, All-take}
 use Rattle.pipeline_meaning.specs.NumberSteps.{number_images}
-use Rattle.pipeline_meaning.specs.Stages.{number_stages}
+use Rattle.pipeline_meaning.specs.Stages.{number_stage, number_stages}
 use Rattle.pipeline_value.specs.Ranges.{NumberStageFits}
+use Rattle.pipeline_value.specs.Value.{Tells, number_told}
 use Rattle.pipeline_value.proofs.Telling.{cut-told, in_one, whole-told}
 use Rattle.pipeline_value.proofs.numbers.number_value.Goals as goal
 
@@ -16,7 +17,8 @@ returns-then-taken-stages g c =
     let whole = flat_map front (g.S.Spliterator.items c.args.source) in
     let all : settled.taken ≡ length stages = omega (arith, c.if-taken-stages.true) in
     rw (← c.as_slice-stages.ensures.value)
-    (whole-told c.args.body.now.terminal stages settled.taken whole (flat_map (λ x. flat_map steps (front x)) part) c.number_end.result all
+    (whole-told number_stage (λ l. Tells (number_told c.args.body.now.terminal l) c.number_end.result) stages settled.taken whole
+    (flat_map (λ x. flat_map steps (front x)) part) all
     (in_one front steps part (number_stages (take settled.taken stages) whole) c.in_ok-settled.ensures.means)
     (rw (c.then.ensures.upstream, c.of.ensures, c.then.ensures.stage, c.new-stage.ensures.first, c.new-stage.ensures.second) at c.number_end.ensures))
 
@@ -33,6 +35,7 @@ returns g c =
     let whole = flat_map front (g.S.Spliterator.items c.args.source) in
     let within : settled.taken < length stages = omega (arith, c.in_ok-settled.ensures.within, c.if-taken-stages.false) in
     rw (← c.as_slice-stages.ensures.value)
-    (cut-told c.args.body.now.terminal stages settled.taken _ whole (flat_map (λ x. flat_map steps (front x)) part) c.in_ok-items.items.items c.list_value.result within
+    (cut-told number_stage (λ l. Tells (number_told c.args.body.now.terminal l) c.list_value.result) stages settled.taken _ whole
+    (flat_map (λ x. flat_map steps (front x)) part) c.in_ok-items.items.items within
     (in_one front steps part (number_stages (take settled.taken stages) whole) c.in_ok-settled.ensures.means)
     (rw (c.new-stage.ensures.first, c.new-stage.ensures.second) at c.in_ok-items.ensures) c.list_value.ensures)

@@ -1,10 +1,14 @@
-use Rattle.std.proofs.Common.{◌≡◌, ◌<◌, length, arith, refl}
-use Rattle.std.specs.Prelude.{IfOk}
+use Rattle.std.proofs.Common.{◌≡◌, ◌<◌, length, arith}
+use Rattle.std.specs.Prelude.{IfOk, flat_map}
 use Rattle.sources.specs.Integers.{integers}
-use Rattle.pipeline_value.proofs.Telling.{list-cut}
+use Rattle.pipeline_meaning.specs.NumberSteps.{number_images}
+use Rattle.pipeline_meaning.specs.Stages.{number_stage}
+use Rattle.pipeline_value.proofs.Telling.{cut-told}
 use Rattle.pipeline_value.proofs.numbers.range_items.Goals as goal
 
 pub returns : goal.returns
 returns g c =
     let within : c.in_ok-steps.taken < length c.args.stages.now = omega (arith, c.in_ok-steps.ensures.within, c.if-taken-stages.false) in
-    list-cut (λ l. IfOk c.list_items.result (λ kept. kept.items ≡ l)) c.args.stages.now c.in_ok-steps.taken _ (integers c.args.range.next c.args.range.left) _ c.in_ok-kept.kept.items _ within refl c.in_ok-steps.ensures.means c.in_ok-kept.ensures c.list_items.ensures
+    let items = integers c.args.range.next c.args.range.left in
+    cut-told number_stage (λ l. IfOk c.list_items.result (λ kept. kept.items ≡ l)) c.args.stages.now c.in_ok-steps.taken _ items
+    (flat_map (number_images c.in_ok-steps.steps) items) c.in_ok-kept.kept.items within (c.in_ok-steps.ensures.means items) c.in_ok-kept.ensures c.list_items.ensures

@@ -6,7 +6,7 @@ use Rattle.collectors.proofs.to_list.ToListCollector.accumulate_all_owned.Goals 
 pub returns : goal.returns
 returns g c =
     let content = g.T.Value.content in
-    let before = c.args.acc.now.items in
+    let before = c.args.acc.now in
     let items = c.args.items.now.items in
-    ap (map content) c.in_ok-append.ensures.items ∙ map-append content before items
+    ap (map content) c.in_ok-append.ensures ∙ map-append content before items
     ∙ sym (push_all (map content before) (map content items))

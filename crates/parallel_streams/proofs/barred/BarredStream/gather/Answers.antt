@@ -1,4 +1,4 @@
-use Rattle.std.proofs.Common.{rules, List, length, subst, refl}
+use Rattle.std.proofs.Common.{rules, List, length, map, subst, refl, ap, ◌∙◌}
 use Rattle.parallel_streams.specs.Cuts.{Ascends}
 use Rattle.parallel_streams.specs.Ends.{ends_of}
 use Rattle.parallel_streams.specs.ProgressLaws.{told-before}
@@ -12,9 +12,10 @@ returns-clause-holds g c =
     let U = g.U.Stream in
     let p = c.args.progress.before in
     let held = c.requires.holds in
+    let value = λ (l : List g.row.U-Item.Denot). g.B.Barrier.value s.barrier (map g.U.Item.Value.content l) in
     let Q : List _ → Type 0 = λ l. Ascends 0 (length l) (ends_of c.in_ok-places-in-Own.places) in
     let made = gathered-own (U.work s.upstream p) g.U.Item.Value.is_value (g.B.Demand.needed s.barrier) (g.B.Demand.counted s.barrier) (g.B.Barrier.value s.barrier) (g.met.B.Barrier.enough_law s.barrier)
-    g.U.Item.Value.content (U.value s.upstream) (U.parts s.upstream p) (U.done s.upstream p) (g.met.U.Stream.parts_law s.upstream p held.0) c.args.part c.in-Own.items c.in_ok-items-in-Own.items c.in_ok-places-in-Own.places c.args.entry.now c.in-Own.is c.requires.part c.requires.entry c.in_ok-items-in-Own.ensures (subst Q c.as_slice.ensures.value c.in_ok-places-in-Own.ensures.order) in
+    g.U.Item.Value.content (U.value s.upstream) (U.parts s.upstream p) (U.done s.upstream p) (g.met.U.Stream.parts_law s.upstream p held.0) c.args.part c.in-Own.pieces c.in_ok-items-in-Own.items c.in_ok-places-in-Own.places c.args.entry.now c.in-Own.is c.requires.part c.requires.entry (c.in_ok-items-in-Own.ensures ∙ ap value c.in_ok-list-in-Own.ensures) (subst Q c.as_slice.ensures.value c.in_ok-places-in-Own.ensures.order) in
     (held.0, made.1)
 
 pub returns-clause-entries : goal.returns-clause-entries
@@ -26,9 +27,10 @@ returns-clause-entries g c = λ left planned entries told.
     let workers = c.args.workers in
     let target = c.args.target in
     let lists = U.parts s.upstream p in
+    let value = λ (l : List g.row.U-Item.Denot). g.B.Barrier.value s.barrier (map g.U.Item.Value.content l) in
     let Q : List _ → Type 0 = λ l. Ascends 0 (length l) (ends_of c.in_ok-places-in-Own.places) in
     let made = gathered-own (U.work s.upstream p) g.U.Item.Value.is_value (g.B.Demand.needed s.barrier) (g.B.Demand.counted s.barrier) (g.B.Barrier.value s.barrier) (g.met.B.Barrier.enough_law s.barrier)
-    g.U.Item.Value.content (U.value s.upstream) lists (U.done s.upstream p) (g.met.U.Stream.parts_law s.upstream p held.0) c.args.part c.in-Own.items c.in_ok-items-in-Own.items c.in_ok-places-in-Own.places c.args.entry.now c.in-Own.is c.requires.part c.requires.entry c.in_ok-items-in-Own.ensures (subst Q c.as_slice.ensures.value c.in_ok-places-in-Own.ensures.order) in
+    g.U.Item.Value.content (U.value s.upstream) lists (U.done s.upstream p) (g.met.U.Stream.parts_law s.upstream p held.0) c.args.part c.in-Own.pieces c.in_ok-items-in-Own.items c.in_ok-places-in-Own.places c.args.entry.now c.in-Own.is c.requires.part c.requires.entry (c.in_ok-items-in-Own.ensures ∙ ap value c.in_ok-list-in-Own.ensures) (subst Q c.as_slice.ensures.value c.in_ok-places-in-Own.ensures.order) in
     let Reported = IsReport (U.cut_into s.upstream workers target) (U.value s.upstream) (U.reported s.upstream workers target) (IsEntryOf (g.B.Demand.needed s.barrier) (g.B.Demand.counted s.barrier) (g.B.Barrier.value s.barrier)) in
     let before = told-before (U.told_so_far s.upstream workers target p) Reported c.args.progress.listed entries left told in
     record {

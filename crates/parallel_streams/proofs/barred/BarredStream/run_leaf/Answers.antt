@@ -1,4 +1,3 @@
-use Rattle.std.specs.Global.{Vec}
 use Rattle.std.proofs.Common.{List, [], map, subst, sym, ◌∙◌}
 use Rattle.std.specs.Prelude.{IfOk}
 use Rattle.collectors.specs.NestedLaws.{push}
@@ -14,7 +13,7 @@ returns-then-is_gathered-clause-end g c =
     let U = g.U.Stream in
     let p = c.args.progress.now.before in
     let f = folding (g.B.Demand.needed s.barrier) (g.B.Demand.counted s.barrier) g.U.Item.Value.is_value [] push in
-    let content : Vec g.row.U-Item.Denot → List g.row.U-Item-Content.Denot = λ v. map g.U.Item.Value.content v.items in
+    let content : List g.row.U-Item.Denot → List g.row.U-Item-Content.Denot = map g.U.Item.Value.content in
     let cut = g.L.Handout.cut c.run_last_leaf.new.seat in
     let Q : List (List _) → Type 0 = λ lists. IfOk c.run_last_leaf.result (EndsLeaf (work_of f content lists) cut c.args.leaf) in
     ends-own_ok (U.work s.upstream p) (work_of f content (U.parts s.upstream p)) (U.done s.upstream p) cut c.args.leaf c.run_last_leaf.result c.end_own.result c.end_own.ensures

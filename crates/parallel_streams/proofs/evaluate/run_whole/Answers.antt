@@ -1,0 +1,16 @@
+use Rattle.std.proofs.Common.{map}
+use Rattle.parallel_streams.specs.Ends.{ends_of}
+use Rattle.parallel_streams.proofs.Idle.{idle-run-ok}
+use Rattle.parallel_streams.proofs.evaluate.run_whole.Goals as goal
+
+pub returns-in-Ok : goal.returns-in-Ok
+returns-in-Ok g c =
+    let X = g.X.Stream in
+    let C = g.C.Collector in
+    let s = c.args.stream.now in
+    let taker = c.args.collector.now in
+    let listed = c.in-Ok.listed in
+    let told = c.in-Ok.ensures in
+    let whole = told.listed c.requires.holds in
+    idle-run-ok g.X.Item.Value.is_value (C.empty taker) (C.add taker) (C.content taker) (X.parts s c.args.progress) (X.value s) (map g.X.Item.Value.content listed.items.items) (ends_of listed.places)
+    c.hand_over.result c.requires.whole whole.is told.parts c.hand_over.ensures.acc c.hand_over.ensures.entry
