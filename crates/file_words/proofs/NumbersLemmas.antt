@@ -3,11 +3,7 @@ use Rattle.std.proofs.Common.{◌≡◌, ℕ, List, [], ◌∷◌, ◌++◌, Boo
 use Rattle.std.specs.Prelude.{ℤ}
 use Rattle.std.proofs.lemmas.List.{append_assoc}
 use Rattle.file_words.specs.Words.{lowest}
-use Rattle.file_words.specs.WordReading.{Left, number_of, numbers_from, with_first}
-
--- more numbers behind those that were read
-abbrev pub behind : List ℤ → List ℤ × Left → List ℤ × Left
-behind ns r = (ns ++ r.0, r.1)
+use Rattle.file_words.specs.WordReading.{Left, behind, number_of, numbers_from, with_first}
 
 moved : (ns : List ℤ) (n : ℤ) (r : List ℤ × Left) → behind ns (n ∷ r.0, r.1) ≡ behind (ns ++ n ∷ []) r
 moved ns n r = ap (λ ms. let found : List ℤ × Left = (ms, r.1) in found) (sym (append_assoc ns (n ∷ []) r.0))

@@ -1,11 +1,12 @@
 -- The words of a line, cut one by one.
-use Rattle.std.proofs.Common.{◌≡◌, ℕ, suc, ◌+◌, ◌-◌, ◌<◌, ◌≤◌, Bool, true, false, List, [], ◌∷◌, ◌++◌, length, take, drop, get_or, slice_index, Some, None, Option, Err, All, refl, sym, ap, ◌∙◌, arith}
+use Rattle.std.proofs.Common.{◌≡◌, ℕ, suc, ◌+◌, ◌-◌, ◌<◌, ◌≤◌, Bool, true, false, List, [], ◌∷◌, ◌++◌, length, take, drop, get_or, slice_index, Some, None, Option, Err, All, le_refl, refl, sym, ap, ◌∙◌, arith}
 use Rattle.std.specs.Borrow.{Bor}
 use Rattle.std.specs.List.{onto_first}
 use Rattle.std.specs.Option.{is_some}
 use Rattle.std.specs.Prelude.{ℤ, ◌==◌, not}
 use Rattle.std.proofs.lemmas.Bool.{ne_eqb}
-use Rattle.std.proofs.lemmas.List.{append-nil, get_or-drop, take_all, take-append-drop}
+use Rattle.std.proofs.lemmas.List.{append-nil, drop-drop, get_or-drop, length-drop, take_all, take-append-drop}
+use Rattle.std.proofs.lemmas.Slice.{between_to_end}
 use Rattle.std.proofs.lemmas.List.Elements.{All-head, All-tail}
 use Rattle.std.proofs.lemmas.List.Splits.{length-slice_split, slice_split-cons_no}
 use Rattle.std.proofs.Math.Seq.{drop-cons}
@@ -44,6 +45,16 @@ pub next_words : (line : List ℕ) → 1 ≤ length line → get_or line 0 0 ≡
 next_words [] some space = absurd (omega (arith, some))
 next_words (b ∷ line) some space =
     ap (λ c. words_of (c ∷ line)) space ∙ ap (λ l. [] ∷ words_of l) (sym (take_all _ line (omega arith)))
+
+-- the same at any place
+pub behind_space : (line : List ℕ) (n : ℕ) → n < length line → get_or line n 0 ≡ 32 → words_of (drop n line) ≡ [] ∷ words_of (take (length line - (n + 1)) (drop (n + 1) line))
+behind_space line n inside space =
+    let rest : List ℕ = drop n line in
+    let some : 1 ≤ length rest = omega (arith, inside, length-drop n line) in
+    let first : get_or rest 0 0 ≡ 32 = get_or-drop n line 0 0 ∙ ap (λ k. get_or line k 0) (sym (plus_zero n)) ∙ space in
+    let next : drop 1 rest ≡ drop (n + 1) line = drop-drop 1 n line in
+    next_words rest some first
+    ∙ ap (λ l. [] ∷ words_of l) (between_to_end rest 1 (length rest) (le_refl _) ∙ next ∙ sym (between_to_end line (n + 1) (length line) (le_refl _)))
 
 -- what stands in front of a line, with no space, is the front of its first word
 in_front : (front line word : List ℕ) (words : List (List ℕ)) → All (λ b. (b == 32) ≡ false) front → words_of line ≡ word ∷ words → words_of (front ++ line) ≡ (front ++ word) ∷ words

@@ -67,6 +67,10 @@ abbrev pub numbers_from : List (List ℕ) → Bool → List ℤ × Left
 numbers_from [] good = ([], record { words = []; good = good })
 numbers_from (word ∷ words) good = with_first (number_of word) good (numbers_from words)
 
+-- the same behind numbers that were read before
+abbrev pub behind : List ℤ → List ℤ × Left → List ℤ × Left
+behind ns r = (ns ++ r.0, r.1)
+
 unfoldable pub all_numbers : Reader (List ℤ)
 all_numbers left = Ok (numbers_from left.words left.good)
 

@@ -1,12 +1,13 @@
 //! Numbers as words of a file.
 
-ghost use Rattle.std.specs.Prelude.{◌≡◌, ◌^◌, ◌<◌, ◌≤◌, ◌==◌, pos, neg_ℤ, false, length, take, slice_index, nat_lt, nat_le, All, Some, None, if◌then◌else◌};
+ghost use Rattle.std.specs.Prelude.{◌≡◌, ◌^◌, ◌<◌, ◌≤◌, ◌==◌, pos, neg_ℤ, false, length, take, slice_index, nat_lt, nat_le, All, IfSome, Some, None, if◌then◌else◌};
 ghost use Rattle.std.specs.Int.{IsInRange};
 ghost use Rattle.std.specs.Str.Parse.{AllDigits, digits_value};
 ghost use Rattle.file_words.specs.WordReading.{NoLonger, ReadsNumber, number_of};
 
 use crate::lines::behind_word;
 use core::dec2flt::read_digits;
+use std::simd::prelude::*;
 
 /// No number of 64 bits has more digits, and each value of so many fits 64 bits.
 const MOST_DIGITS: usize = 19;
@@ -14,24 +15,15 @@ const MOST_DIGITS: usize = 19;
 /// How many bytes are read at once. Fewer digits, and what ends them, are read without a loop.
 const WORD: usize = 8;
 
+/// How many bytes are looked at at once for the space behind a number.
+const NEAR: usize = 16;
+
 /// The number that a word writes. Each number has one text: no sign but a `-`, no leading 0.
 pub(crate) fn parse_number(word: &str) -> Option<i64>
     ensures { result ≡ number_of word.now }
 {
     let (number, end) = front_number(word.as_bytes());
     if end == word.len() { number } else { None }
-}
-
-/// The number that the first word of a line is, and what stands behind the word, where anything does.
-pub(crate) fn first_number(line: &[u8]) -> (Option<i64>, Option<&[u8]>)
-    ensures { ReadsNumber line.now result.0 result.1 }
-{
-    let (number, end) = front_number(line);
-    match &line[end..] {
-        [] => (number, None),
-        [b' ', left @ ..] => (number, Some(left)),
-        rest => (None, behind_word(rest)),
-    }
 }
 
 /// The number that some bytes write in front, where they do, and how many bytes a number can have in common with them.
@@ -109,5 +101,58 @@ fn signed(sign: usize, value: u64) -> Option<i64>
         Some(i64::MIN)
     } else {
         None
+    }
+}
+
+/// Where the first space stands, where that is near by.
+#[inline(always)]
+fn near_space(line: &[u8]) -> Option<usize>
+    ensures within { IfSome result (λ end. end < length line.now) }
+    ensures space { IfSome result (λ end. slice_index line.now end ≡ 32) }
+{
+    if line.len() < NEAR {
+        return None;
+    }
+    let spaces = u8x16::from_slice(line)
+        .simd_eq(u8x16::splat(b' '))
+        .to_bitmask();
+    if spaces == 0 {
+        return None;
+    }
+    Some(spaces.trailing_zeros() as usize)
+}
+
+/// The number that the first word of a line is, and what stands behind its space, where the word has eight digits at most.
+///
+/// The space tells where the next word begins: it is found without the digits, so the next word doesn't wait for them.
+#[inline(always)]
+pub(crate) fn near_number(line: &[u8]) -> Option<(Option<i64>, &[u8])>
+    ensures { IfSome result (λ r. ReadsNumber line.now r.0 (Some r.1)) }
+{
+    let end = near_space(line)?;
+    let sign = sign_len(line);
+    let digits = &line[sign..];
+    match digits {
+        [b'1'..=b'9', ..] if digits.len() >= WORD => {
+            let (count, value) = read_digits(&digits[..WORD], 0, 0);
+            if sign + count == end {
+                Some((signed(sign, value), &line[end + 1..]))
+            } else {
+                None
+            }
+        }
+        _ => None,
+    }
+}
+
+/// The number that the first word of a line is, and what stands behind the word, where anything does.
+pub(crate) fn first_number(line: &[u8]) -> (Option<i64>, Option<&[u8]>)
+    ensures { ReadsNumber line.now result.0 result.1 }
+{
+    let (number, end) = front_number(line);
+    match &line[end..] {
+        [] => (number, None),
+        [b' ', left @ ..] => (number, Some(left)),
+        rest => (None, behind_word(rest)),
     }
 }

@@ -1,12 +1,12 @@
 //! Words.
 
-ghost use Rattle.std.specs.Prelude.{◌≡◌, Result, Ok, IfOk, true};
-ghost use Rattle.file_words.specs.WordReading.{Left, Gets, GetsAs, next_word, next_number, next_natural, all_numbers, numbers_from, ended, is_done};
+ghost use Rattle.std.specs.Prelude.{◌≡◌, ◌≤◌, Bool, Result, Ok, IfOk, length, true};
+ghost use Rattle.file_words.specs.WordReading.{Left, Gets, behind, GetsAs, next_word, next_number, next_natural, all_numbers, numbers_from, ended, is_done};
 ghost use Rattle.file_words.specs.Words.{words_left, words_of};
 
 use crate::fault::FileError;
 use crate::lines::first_word;
-use crate::number::{first_number, parse_number};
+use crate::number::{first_number, near_number, parse_number};
 use std::alloc::{AllocError, Global};
 use std::marker::Model;
 
@@ -104,9 +104,25 @@ impl<'a> Words<'a> {
     }
 }
 
-/// The numbers of a line, read in one pass, and what is left: nothing, and whether each word so far is one. A number and the space behind it
-/// have two bytes at least, so that the room is for no more than the line can hold. It isn't inlined, which leaves its loop registers enough.
+/// Takes the numbers in front of a line as long as each is short and a space stands behind it, and answers what is left.
+///
+/// It isn't inlined, which leaves its loop registers enough.
 #[inline(never)]
+fn near_numbers<'a>(numbers: &mut Vec<i64>, line: &'a [u8]) -> Result<&'a [u8], AllocError>
+    ensures read { let before = numbers_from (words_of line.now) in
+        IfOk result (λ left. (good : Bool) → behind numbers.old.items (before good) ≡ behind numbers.new.items (numbers_from (words_of left.now) good)) }
+    ensures fewer { IfOk result (λ left. length (words_of left.now) ≤ length (words_of line.now)) }
+{
+    let mut left = line;
+    while let Some((Some(number), rest)) = near_number(left) {
+        numbers.push(number)?;
+        left = rest;
+    }
+    Ok(left)
+}
+
+/// The numbers of a line, read in one pass, and what is left: nothing, and whether each word so far is one. A number and the space behind it
+/// have two bytes at least, so that the room is for no more than the line can hold.
 fn numbers_of<'a>(
     alloc: Global,
     line: &'a [u8],
@@ -118,6 +134,7 @@ fn numbers_of<'a>(
     let mut good = before;
     let mut left = Some(line);
     while let Some(rest) = left {
+        let rest = near_numbers(&mut numbers, rest)?;
         let (number, behind) = first_number(rest);
         match number {
             Some(n) => numbers.push(n)?,

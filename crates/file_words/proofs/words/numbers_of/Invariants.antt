@@ -1,7 +1,6 @@
 use Rattle.std.proofs.Common.{◌≡◌, length}
-use Rattle.file_words.specs.WordReading.{numbers_from}
+use Rattle.file_words.specs.WordReading.{behind, numbers_from}
 use Rattle.file_words.specs.Words.{words_left, words_of}
-use Rattle.file_words.proofs.NumbersLemmas.{behind}
 use Rattle.file_words.proofs.words.numbers_of.Given as goal
 
 abbrev pub invariant-loop-left : goal.invariant-loop-left
