@@ -63,7 +63,7 @@ fn join_rows<T: Value + Drop, O: Operator<T>>(
 }
 
 /// Says of each item that it is a value.
-pub(crate) fn are_values<T: Value>(items: &[T])
+pub fn are_values<T: Value>(items: &[T])
     ensures { All T.is_value (map T.content items.now) }
 {
     for item in items {

@@ -10,7 +10,7 @@ ghost use Rattle.stealing_pool.specs.KeeperLaws.{Offers, offers-none, offers-bot
 use crate::gather::is_enough;
 use crate::job::Portion;
 use barriers::{Demand, Need};
-use collectors::Collector;
+use collectors::{Collector, are_values};
 use spliterator::{NoMemory, Value};
 use stages::Sink;
 
@@ -49,15 +49,6 @@ fn front_of<T: Value, D: Demand<T>>(demand: &D, need: Need, count: u64, items: &
     match need {
         Need::Never => (items.len(), 0),
         Need::Reach(needed) => demand.front(items, needed - count),
-    }
-}
-
-/// Says of each item that it is a value.
-fn are_values<T: Value>(items: &[T])
-    ensures { All T.is_value (map T.content items.now) }
-{
-    for item in items {
-        let _value = item.is_value();
     }
 }
 

@@ -132,6 +132,25 @@ fn ranges_and_slices_are_cut(rt: HostRuntime) -> Result<(), NoMemory> {
     Ok(())
 }
 
+/// Ranges, a bound, how many of the numbers are below it, and how many aren't above it.
+static BOUNDS: [((bool, i64, i64), i64, u64, u64); 6] = [
+    ((false, 10, 20), 13, 3, 4),
+    ((false, 10, 20), 9, 0, 0),
+    ((false, 10, 20), 30, 10, 10),
+    ((false, 5, 5), 7, 0, 0),
+    ((true, i64::MAX - 2, i64::MAX), i64::MAX, 2, 3),
+    ((true, i64::MIN, i64::MIN + 1), i64::MIN, 0, 1),
+];
+
+#[test]
+fn a_range_counts_its_numbers_at_a_bound(rt: HostRuntime) {
+    for &(ends, bound, below, up_to) in &BOUNDS {
+        let range = range(ends).expect(&rt, "a range");
+        let is_counted = range.count_below(bound) == below && range.count_up_to(bound) == up_to;
+        check_row(&rt, bound.unsigned_abs(), is_counted);
+    }
+}
+
 /// Ranges, and whether they have no more items than a range may have.
 static LONG: [((bool, i64, i64), bool); 6] = [
     ((false, 0, 4_611_686_018_427_387_904), true),

@@ -89,8 +89,8 @@ fn append_in<S: Spliterator>(
     }
 }
 
-/// Reads a source in five ways: to its end, split once, split to the bottom, split half way, and by blocks of 1, of 2 and of more than
-/// there is.
+/// Reads a source in five ways: to its end, split once, split to the bottom, split half way, and by blocks of 1, of 2 and of as many as a
+/// number can tell, for which no room is asked.
 pub fn check<S: Spliterator>(
     rt: &impl Abort,
     alloc: Global,
@@ -105,7 +105,7 @@ pub fn check<S: Spliterator>(
         Way::SplitBehind(number / 2),
         Way::ByBlocks(1),
         Way::ByBlocks(2),
-        Way::ByBlocks(99),
+        Way::ByBlocks(usize::MAX),
     ];
     for (place, way) in (0_u64..).zip(&ways) {
         let mut items = Vec::new(alloc);

@@ -207,37 +207,49 @@ fn one_worker_meets_no_other(rt: HostRuntime) -> Result<(), Fail> {
     Ok(())
 }
 
-/// How often a call of `combine` waited in vain for another one, where so many workers list four numbers.
+/// How often a call of `combine` waited in vain for others, where so many workers list so many numbers.
 fn misses_in_combining<R: Threads + Abort + Sync>(
     rt: &R,
     alloc: Global,
     workers: u32,
-    light: bool,
+    numbers: u32,
+    lists: MeetingLists,
 ) -> Result<AtomicU64, NoMemory>
     requires { (1 ≤ workers) × (workers ≤ 64) }
 {
     let shape = Shape {
-        end: 4,
+        end: i64::from(numbers),
         target: 1,
         workers,
     };
-    let lists = MeetingLists::new(alloc, light);
     let run = run(rt, alloc, shape, &Nothing::new(), &Whole, &lists, &NoGate)?;
-    assert!(rt; run.acc.as_slice() == [0, 1, 2, 3].as_slice());
+    assert!(rt; are_from_zero(run.acc.as_slice(), numbers as usize));
     Ok(lists.missed)
 }
 
 #[test]
 fn two_children_are_combined_at_once(rt: HostRuntime) -> Result<(), Fail> {
-    all_came(&misses_in_combining(&rt, rt.alloc(), 2, false)?)?;
+    let lists = MeetingLists::new(rt.alloc(), 2, false);
+    all_came(&misses_in_combining(&rt, rt.alloc(), 2, 4, lists)?)?;
+    Ok(())
+}
+
+// Two workers combine the children of the first node alone, each by one thread, so the first of three calls waits in vain.
+#[test]
+fn two_workers_combine_no_three_at_once(rt: HostRuntime) -> Result<(), Fail> {
+    let lists = MeetingLists::new(rt.alloc(), 3, false);
+    let missed = misses_in_combining(&rt, rt.alloc(), 2, 8, lists)?;
+    assert!(rt; missed.load(Ordering::SeqCst) > 0);
     Ok(())
 }
 
 // Light containers are combined by one thread, and one worker combines alone, so the first call of `combine` waits in vain.
 #[test]
 fn light_containers_and_one_worker_start_no_thread(rt: HostRuntime) -> Result<(), Fail> {
-    let light = misses_in_combining(&rt, rt.alloc(), 2, true)?;
-    let alone = misses_in_combining(&rt, rt.alloc(), 1, false)?;
+    let light = MeetingLists::new(rt.alloc(), 2, true);
+    let light = misses_in_combining(&rt, rt.alloc(), 2, 4, light)?;
+    let alone = MeetingLists::new(rt.alloc(), 2, false);
+    let alone = misses_in_combining(&rt, rt.alloc(), 1, 4, alone)?;
     assert!(rt; light.load(Ordering::SeqCst) == 1 && alone.load(Ordering::SeqCst) == 1);
     Ok(())
 }

@@ -87,20 +87,22 @@ impl Test<i64> for Watched<'_> {
     }
 }
 
-/// Lists as `ToList` does, light ones where it says so. The first two calls of `combine` each turn until the other has been entered.
+/// Lists as `ToList` does, light ones where it says so. The first `together` calls of `combine` each turn until all of them were entered.
 #[derive(Drop)]
 pub struct MeetingLists {
     pub alloc: Global,
     pub light: bool,
+    pub together: u64,
     pub entered: AtomicU64,
     pub missed: AtomicU64,
 }
 
 impl MeetingLists {
-    pub fn new(alloc: Global, light: bool) -> MeetingLists {
+    pub fn new(alloc: Global, together: u64, light: bool) -> MeetingLists {
         MeetingLists {
             alloc,
             light,
+            together,
             entered: AtomicU64::new(0),
             missed: AtomicU64::new(0),
         }
@@ -139,7 +141,7 @@ impl Collector for MeetingLists {
 
     fn combine(&self, left: &mut Vec<i64>, mut right: Vec<i64>) -> Result<(), NoMemory> {
         let earlier = self.entered.fetch_add(1, Ordering::SeqCst);
-        if earlier < 2 && !wait_for(&self.entered, 2) {
+        if earlier < self.together && !wait_for(&self.entered, self.together) {
             self.missed.fetch_add(1, Ordering::SeqCst);
         }
         left.append(&mut right)?;
