@@ -16,9 +16,9 @@ use leaf_board::Handout;
 use sources::SliceSplit;
 use split_tree::Tree;
 use spliterator::NoMemory;
-use stages::{Nothing, Stage, StreamFlags};
+use stages::{Nothing, Sink, Stage, StreamFlags};
 use std::alloc::Global;
-use stealing_pool::{LeafEnd, RunEntry, run_leaf};
+use stealing_pool::{LeafEnd, RunEntry, feed_whole, run_leaf};
 
 /// A stream's items through a barrier. A clone of an item must have the item's content: that is part of what the stream relies on.
 ///
@@ -224,6 +224,22 @@ impl<U: Stream, B: Barrier<U::Item>> Stream for Barred<U, B> {
                 listed: None,
             }),
         }
+    }
+
+    fn feed_last_leaf<G: Stage<In = U::Item>, K: Sink<G::Out>>(
+        &self,
+        alloc: Global,
+        progress: &Gathered<U::Progress, U::Item>,
+        stage: &G,
+        leaf: usize,
+        sink: &mut K,
+    ) -> Result<(), NoMemory> {
+        let Some(listed) = &progress.listed else {
+            unreachable!()
+        };
+        let places = &listed.places;
+        let items = places.part(&listed.items, leaf);
+        feed_whole(alloc, stage, SliceSplit::new(items), sink)
     }
 
     fn run_last_leaf<
