@@ -29,6 +29,22 @@ pub struct Barred<U, B> {
     pub barrier: B,
 }
 
+// The most items that a list is made for where it isn't known how many come.
+const MOST_ROOM: u64 = 1 << 20;
+
+impl<U: Stream, B: Barrier<U::Item>> Barred<U, B> {
+    // How many items a leaf's list is made for, where any number may come: those of all leaves for the first one, behind which the others are put.
+    fn room(&self, progress: &U::Progress, leaf: usize) -> u64 {
+        let size = self.upstream.known_size();
+        let leaves = self.upstream.leaves(progress).max(1) as u64;
+        match (size, self.barrier.size_after(size)) {
+            (Some(number), None) if leaf == 0 => number.min(MOST_ROOM),
+            (Some(number), None) => (number / leaves).min(MOST_ROOM),
+            _ => 0,
+        }
+    }
+}
+
 impl<U: Stream, B: Barrier<U::Item>> Stream for Barred<U, B> {
     ghost use Rattle.parallel_streams.specs.Progress.{HoldsGathered, IsPlannedGathered, ToldSoFar, is_listed, waiting_of, next_leaves, parts_of, barred_work};
     ghost use Rattle.parallel_streams.specs.ProgressLaws.{barred-leaves, joined-parts_of, cut-parts_of, count-parts_of, told-all};
@@ -135,8 +151,8 @@ impl<U: Stream, B: Barrier<U::Item>> Stream for Barred<U, B> {
         leaf: usize,
     ) -> Result<LeafEnd<Part<U::Part, U::Item>>, NoMemory> {
         if self.upstream.is_gathered(&progress.before) {
-            let nothing = Nothing::new();
-            let list = ToList::new(alloc);
+            let nothing = Nothing::in_blocks();
+            let list = ToList::with_room(alloc, self.room(&progress.before, leaf));
             end_own(
                 self.upstream.run_last_leaf(
                     alloc,
