@@ -12,8 +12,8 @@ use crate::{Barrier, Demand, Need};
 use spliterator::{NoMemory, OrderedValue, Value};
 use stages::{Operation, Test};
 
-// The number of items in front that all meet the test.
-fn length_of_front<T: Value, P: Test<T>>(items: &[T], test: &P) -> usize
+// The number of items in front that all meet the test, asked item by item.
+fn length_by_items<T: Value, P: Test<T>>(items: &[T], test: &P) -> usize
     requires { P.ready test.now }
     ensures front { result ≡ prefix_len (P.holds test.now) (map T.content items.now) }
     ensures within { result ≤ length items.now }
@@ -24,6 +24,28 @@ fn length_of_front<T: Value, P: Test<T>>(items: &[T], test: &P) -> usize
         }
     }
     items.len()
+}
+
+// The items that are tested at once.
+const BLOCK: usize = 256;
+
+// The number of items in front that all meet the test. Blocks that meet it as a whole are counted, so that a compiler tests several items at once.
+fn length_of_front<T: Value, P: Test<T>>(items: &[T], test: &P) -> usize
+    requires { P.ready test.now }
+    ensures front { result ≡ prefix_len (P.holds test.now) (map T.content items.now) }
+    ensures within { result ≤ length items.now }
+{
+    let mut rest = items;
+    let mut front = 0;
+    'blocks: while BLOCK <= rest.len() {
+        let (block, after) = rest.split_at(BLOCK);
+        if test.count_meeting(block) < BLOCK {
+            return front + length_by_items(rest, test);
+        }
+        front += BLOCK;
+        rest = after;
+    }
+    front + length_by_items(rest, test)
 }
 
 /// The longest front whose items all meet a test (`java.util.stream.Stream`, `takeWhile`). One item that fails it is enough.

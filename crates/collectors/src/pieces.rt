@@ -90,7 +90,7 @@ impl<T: Drop> Pieces<T> {
         self.before.append(&mut before)
     }
 
-    /// The list as a whole. One piece is handed on as it stands; else there is room for all of them, and each is moved there.
+    /// The list as a whole. One piece is handed on as it stands; else the first one gets room for all, and the others are moved behind it.
     pub fn into_list(self) -> Result<Vec<T>, AllocError>
         ensures { IfOk result (λ list. list.items ≡ self) }
     {
@@ -99,8 +99,8 @@ impl<T: Drop> Pieces<T> {
             return Ok(last);
         }
         let number = count(before.as_slice()).saturating_add(last.len());
-        let mut list = Vec::with_capacity(*last.allocator(), number)?;
-        move_all(&mut list, before)?;
+        let mut list = Vec::new(*last.allocator());
+        move_all(&mut list, before, number)?;
         list.append(&mut last)?;
         Ok(list)
     }
@@ -142,12 +142,21 @@ impl<T: Clone> Pieces<T> {
     }
 }
 
-// Moves the items of each piece behind a list's.
-fn move_all<T: Drop>(list: &mut Vec<T>, pieces: Vec<Vec<T>>) -> Result<(), AllocError>
+// Moves the items of each piece behind a list's. The first piece becomes the list where that has no items, and gets room for so many.
+fn move_all<T: Drop>(
+    list: &mut Vec<T>,
+    pieces: Vec<Vec<T>>,
+    number: usize,
+) -> Result<(), AllocError>
     ensures { OnOk result (list.new.items ≡ list.old.items ++ flat_map (λ piece. piece.items) pieces.items) }
 {
     for mut piece in pieces {
-        list.append(&mut piece)?;
+        if list.is_empty() {
+            piece.reserve_exact(number.saturating_sub(piece.len()))?;
+            *list = piece;
+        } else {
+            list.append(&mut piece)?;
+        }
     }
     Ok(())
 }

@@ -41,3 +41,14 @@ pub idle-run-ok : {T C A E : Type 0} (is_value : T → Type 0) (empty : C) (add 
 idle-run-ok is_value empty add content lists whole front ends (Ok x) joins is parts folded told =
     idle-run is_value empty add (content x.0) lists whole front ends x.1 joins is parts folded told
 idle-run-ok is_value empty add content lists whole front ends (Err e) joins is parts folded told = tt
+
+-- the same of lists that were folded leaf by leaf
+pub listed-run-ok : {T C A E : Type 0} (is_value : T → Type 0) (empty : C) (add : C → T → C) (content : A → C) (lists : List (List T)) (r : Result (A × Outcome) E)
+    → IfOk r (λ x. All is_value (joined lists) × (content x.0 ≡ fold add empty (joined lists)))
+    → IfOk r (λ x. Reports None (length lists) (λ i. 0) x.1.leaves (count_of x.1) (cut_of x.1))
+    → IfOk r (λ x. IsRunOver (folding None no_item is_value empty add) (content x.0) lists x.1)
+listed-run-ok is_value empty add content lists (Ok x) folded told = (
+  (joined lists, ([], sym (append-nil (joined lists)), inl refl), folded),
+  idle-reports lists x.1.leaves (count_of x.1) (cut_of x.1) told,
+)
+listed-run-ok is_value empty add content lists (Err e) folded told = tt

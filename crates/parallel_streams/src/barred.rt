@@ -16,9 +16,9 @@ use leaf_board::Handout;
 use sources::SliceSplit;
 use split_tree::Tree;
 use spliterator::NoMemory;
-use stages::{Nothing, Stage, StreamFlags};
+use stages::{Nothing, Sink, Stage, StreamFlags};
 use std::alloc::Global;
-use stealing_pool::{LeafEnd, RunEntry, run_leaf};
+use stealing_pool::{LeafEnd, RunEntry, feed_whole, run_leaf};
 
 /// A stream's items through a barrier. A clone of an item must have the item's content: that is part of what the stream relies on.
 ///
@@ -27,6 +27,22 @@ use stealing_pool::{LeafEnd, RunEntry, run_leaf};
 pub struct Barred<U, B> {
     pub upstream: U,
     pub barrier: B,
+}
+
+// The most items that a list is made for where it isn't known how many come.
+const MOST_ROOM: u64 = 1 << 20;
+
+impl<U: Stream, B: Barrier<U::Item>> Barred<U, B> {
+    // How many items a leaf's list is made for, where any number may come: those of all leaves for the first one, behind which the others are put.
+    fn room(&self, progress: &U::Progress, leaf: usize) -> u64 {
+        let size = self.upstream.known_size();
+        let leaves = self.upstream.leaves(progress).max(1) as u64;
+        match (size, self.barrier.size_after(size)) {
+            (Some(number), None) if leaf == 0 => number.min(MOST_ROOM),
+            (Some(number), None) => (number / leaves).min(MOST_ROOM),
+            _ => 0,
+        }
+    }
 }
 
 impl<U: Stream, B: Barrier<U::Item>> Stream for Barred<U, B> {
@@ -135,8 +151,8 @@ impl<U: Stream, B: Barrier<U::Item>> Stream for Barred<U, B> {
         leaf: usize,
     ) -> Result<LeafEnd<Part<U::Part, U::Item>>, NoMemory> {
         if self.upstream.is_gathered(&progress.before) {
-            let nothing = Nothing::new();
-            let list = ToList::new(alloc);
+            let nothing = Nothing::in_blocks();
+            let list = ToList::with_room(alloc, self.room(&progress.before, leaf));
             end_own(
                 self.upstream.run_last_leaf(
                     alloc,
@@ -224,6 +240,22 @@ impl<U: Stream, B: Barrier<U::Item>> Stream for Barred<U, B> {
                 listed: None,
             }),
         }
+    }
+
+    fn feed_last_leaf<G: Stage<In = U::Item>, K: Sink<G::Out>>(
+        &self,
+        alloc: Global,
+        progress: &Gathered<U::Progress, U::Item>,
+        stage: &G,
+        leaf: usize,
+        sink: &mut K,
+    ) -> Result<(), NoMemory> {
+        let Some(listed) = &progress.listed else {
+            unreachable!()
+        };
+        let places = &listed.places;
+        let items = places.part(&listed.items, leaf);
+        feed_whole(alloc, stage, SliceSplit::new(items), sink)
     }
 
     fn run_last_leaf<

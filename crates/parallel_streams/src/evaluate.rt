@@ -6,7 +6,7 @@ ghost use Rattle.leaf_board.specs.Closing.{Outcome};
 ghost use Rattle.parallel_streams.specs.Reports.{IsReport, IsRunOver};
 ghost use Rattle.parallel_streams.specs.Runs.{IsLawfulRun};
 
-use crate::handover::hand_over;
+use crate::handover::{hand_over, list_over};
 use crate::{Run, Stream};
 use barriers::{Demand, Need, Whole};
 use collectors::{Collector, combine_containers};
@@ -251,6 +251,9 @@ where
     }
     match stream.into_listed(progress) {
         Ok(listed) => hand_over(rt, alloc, run.gate, listed, collector),
+        Err(unread) if run.workers == 1 => {
+            list_over(rt, alloc, stream, run.gate, &unread, collector)
+        }
         Err(unread) => run_last(rt, alloc, stream, run, &unread, &Whole, collector),
     }
 }

@@ -1,34 +1,39 @@
 //! A barrier's list that a collector keeps as it stands.
-ghost use Rattle.std.specs.Prelude.{None, IfOk, length, map};
+ghost use Rattle.std.specs.Prelude.{◌≡◌, ◌≤◌, [], true, None, IfOk, length, map};
+ghost use Rattle.split_tree.specs.SplitTree.{leaf_numbers, numbers_from};
+ghost use Rattle.stealing_pool.specs.Fronts.{joined};
 ghost use Rattle.collectors.specs.Laws.{IsContainerOf};
 ghost use Rattle.leaf_board.specs.Closing.{count_of, cut_of};
 ghost use Rattle.stealing_pool.specs.Reports.{Reports};
 ghost use Rattle.parallel_streams.specs.Ends.{ends_of};
 ghost use Rattle.parallel_streams.specs.Sources.{idle_work};
 
+use crate::Stream;
 use crate::part::Listed;
 use crate::places::Places;
 use barriers::Need;
 use collectors::{Collector, fold_owned};
 use leaf_board::Handout;
+use split_tree::Tree;
 use spliterator::NoMemory;
+use stages::Nothing;
 use std::alloc::Global;
 use std::thread::Threads;
-use stealing_pool::{Gate, LeafEnd, LeafJob, Portion, RunEntry, run_job};
+use stealing_pool::{Gate, LeafEnd, LeafJob, NoGate, Portion, RunEntry, run_job};
 
-// The run over a list that no leaf reads.
+// The run of so many leaves that read nothing.
 #[derive(Drop)]
-struct IdleRun<'a> {
-    places: &'a Places,
+struct IdleRun {
+    leaves: usize,
 }
 
-impl LeafJob for IdleRun<'_> {
+impl LeafJob for IdleRun {
     type Kept = ();
 
-    ghost work = { λ j. idle_work (length (ends_of j.places.now)) };
+    ghost work = { λ j. idle_work j.leaves };
 
     fn leaves(&self) -> usize {
-        self.places.leaves()
+        self.leaves
     }
 
     fn need(&self) -> Need {
@@ -49,6 +54,23 @@ impl LeafJob for IdleRun<'_> {
     }
 }
 
+// The entry of a run whose leaves read nothing, in this thread.
+fn run_idle<R: Threads + Sync, H: Gate + Sync>(
+    rt: &R,
+    alloc: Global,
+    tree: &Tree,
+    leaves: usize,
+    gate: &H,
+) -> Result<RunEntry, NoMemory>
+    requires tree { leaf_numbers tree.now ≡ numbers_from 0 leaves }
+    requires few { leaves ≤ 65536 }
+    ensures { IfOk result (λ entry. Reports None leaves (λ _. 0) entry.leaves (count_of entry) (cut_of entry)) }
+{
+    let idle = IdleRun { leaves };
+    let run = run_job(rt, alloc, tree, &idle, 1, gate)?;
+    Ok(run.entry)
+}
+
 /// Hands a barrier's list over to a collector. Its leaves are run in this thread, and none of them reads an item.
 pub fn hand_over<R: Threads + Sync, C: Collector, H: Gate + Sync>(
     rt: &R,
@@ -66,8 +88,67 @@ where
         IfOk result (λ r. Reports None leaves (λ _. 0) r.1.leaves (count_of r.1) (cut_of r.1)) }
 {
     let Listed { items, places } = listed;
-    let idle = IdleRun { places: &places };
-    let run = run_job(rt, alloc, places.tree(), &idle, 1, gate)?;
+    let entry = run_idle(rt, alloc, places.tree(), places.leaves(), gate)?;
     let acc = fold_owned(collector, items)?;
-    Ok((acc, run.entry))
+    Ok((acc, entry))
+}
+
+// A list with room for so many items, if it is there.
+fn list_for<T: Drop>(alloc: Global, size: Option<u64>) -> Vec<T>
+    ensures { result.items ≡ [] }
+{
+    let mut list = Vec::new(alloc);
+    if let Some(number) = size {
+        let _refused = list.reserve_exact(number as usize);
+    }
+    list
+}
+
+// Lists all that the leaves of the last run give, one leaf after another in this thread.
+fn list_leaves<X: Stream, H: Gate>(
+    alloc: Global,
+    stream: &X,
+    gate: &H,
+    progress: &X::Progress,
+) -> Result<Vec<X::Item>, NoMemory>
+    requires stream { X.ready stream.now }
+    requires holds { X.holds stream.now progress.now }
+    requires done { X.done stream.now progress.now ≡ true }
+    ensures listed { IfOk result (λ list. map X.Item.content list.items ≡ joined (X.parts stream.now progress.now)) }
+    ensures leaves { X.leaves_next stream.now progress.now ≡ length (X.parts stream.now progress.now) }
+{
+    let nothing = Nothing::new();
+    let mut list = list_for::<X::Item>(alloc, stream.known_size());
+    for leaf in 0..stream.leaves(progress) {
+        gate.before_leaf(0, leaf);
+        let fed = stream.feed_last_leaf(alloc, progress, &nothing, leaf, &mut list);
+        gate.after_leaf(0, leaf);
+        fed?;
+    }
+    Ok(list)
+}
+
+/// Lists all the rest of the stream in this thread, and hands the list over to a collector. The gate is told of each leaf.
+pub fn list_over<R: Threads + Sync, X: Stream, C: Collector<Item = X::Item>, H: Gate>(
+    rt: &R,
+    alloc: Global,
+    stream: &X,
+    gate: &H,
+    progress: &X::Progress,
+    collector: &C,
+) -> Result<(C::Acc, RunEntry), NoMemory>
+    requires stream { X.ready stream.now }
+    requires collector { C.ready collector.now }
+    requires holds { X.holds stream.now progress.now }
+    requires done { X.done stream.now progress.now ≡ true }
+    ensures acc { let made = IsContainerOf X.Item.is_value (C.content collector.now) (C.empty collector.now) (C.add collector.now) in
+        IfOk result (λ r. made (joined (X.parts stream.now progress.now)) r.0) }
+    ensures entry { let leaves = length (X.parts stream.now progress.now) in
+        IfOk result (λ r. Reports None leaves (λ _. 0) r.1.leaves (count_of r.1) (cut_of r.1)) }
+{
+    let list = list_leaves(alloc, stream, gate, progress)?;
+    let tree = stream.tree(progress);
+    let entry = run_idle(rt, alloc, tree, stream.leaves(progress), &NoGate)?;
+    let acc = fold_owned(collector, list)?;
+    Ok((acc, entry))
 }

@@ -7,9 +7,9 @@ use collectors::Collector;
 use leaf_board::Handout;
 use split_tree::{Plan, PlanError, Tree};
 use spliterator::{NoMemory, Spliterator};
-use stages::{Stage, StreamFlags};
+use stages::{Sink, Stage, StreamFlags};
 use std::alloc::Global;
-use stealing_pool::{LeafEnd, Portion, RunEntry, run_leaf};
+use stealing_pool::{LeafEnd, Portion, RunEntry, feed_whole, run_leaf};
 
 /// The items of a source.
 #[derive(Drop)]
@@ -149,6 +149,17 @@ where
         _target: u64,
     ) -> Result<Plan<S>, NoMemory> {
         Ok(plan)
+    }
+
+    fn feed_last_leaf<G: Stage<In = S::Item>, K: Sink<G::Out>>(
+        &self,
+        alloc: Global,
+        plan: &Plan<S>,
+        stage: &G,
+        leaf: usize,
+        sink: &mut K,
+    ) -> Result<(), NoMemory> {
+        feed_whole(alloc, stage, plan.leaf(leaf), sink)
     }
 
     fn run_last_leaf<

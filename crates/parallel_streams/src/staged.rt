@@ -10,7 +10,7 @@ use collectors::Collector;
 use leaf_board::Handout;
 use split_tree::Tree;
 use spliterator::NoMemory;
-use stages::{Stage, StreamFlags, Then};
+use stages::{Sink, Stage, StreamFlags, Then};
 use std::alloc::Global;
 use stealing_pool::{LeafEnd, RunEntry};
 
@@ -131,6 +131,19 @@ where
     ) -> Result<U::Progress, NoMemory> {
         self.upstream
             .gather(alloc, progress, part, entry, workers, target)
+    }
+
+    fn feed_last_leaf<G: Stage<In = A::Out>, K: Sink<G::Out>>(
+        &self,
+        alloc: Global,
+        progress: &U::Progress,
+        stage: &G,
+        leaf: usize,
+        sink: &mut K,
+    ) -> Result<(), NoMemory> {
+        let fused = Then::new(&self.stage, stage);
+        self.upstream
+            .feed_last_leaf(alloc, progress, &fused, leaf, sink)
     }
 
     fn run_last_leaf<

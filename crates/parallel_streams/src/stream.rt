@@ -1,5 +1,5 @@
 //! What a lazy stream is.
-ghost use Rattle.std.specs.Prelude.{◌≡◌, ◌<◌, ◌≤◌, ◌^◌, ◌++◌, ◌∷◌, [], ℕ, Bool, true, false, List, Option, not, pos, fold, option_map, IsSome, IsOk, IfOk, IfErr, OnOk, flat_map, map, length, ⊤};
+ghost use Rattle.std.specs.Prelude.{◌≡◌, ◌<◌, ◌≤◌, ◌^◌, ◌++◌, ◌∷◌, [], ℕ, Bool, true, false, List, Option, not, pos, fold, option_map, IsSome, IsOk, IfOk, IfErr, OnOk, flat_map, map, length, slice_index_or, ⊤};
 ghost use Rattle.barriers.specs.Needs.{need_of, IsBelow};
 ghost use Rattle.leaf_board.specs.Statuses.{SameFrom, StaysSeat};
 ghost use Rattle.split_tree.specs.SplitTree.{leaf_numbers, numbers_from};
@@ -36,7 +36,7 @@ use indexmap::IndexMap;
 use leaf_board::Handout;
 use split_tree::Tree;
 use spliterator::{NoMemory, OrderedValue};
-use stages::{Filter, FlatMap, ListValue, Map, Mapping, Operator, Stage, StreamFlags, Test};
+use stages::{Filter, FlatMap, ListValue, Map, Mapping, Operator, Sink, Stage, StreamFlags, Test};
 use std::alloc::Global;
 use std::hash::Hash;
 use std::marker::PhantomData;
@@ -190,6 +190,24 @@ pub trait Stream {
     {
         Err(progress)
     }
+
+    /// Feeds a leaf of the last run through a stage to a sink.
+    fn feed_last_leaf<G: Stage<In = Self::Item>, K: Sink<G::Out>>(
+        &self,
+        alloc: Global,
+        progress: &Self::Progress,
+        stage: &G,
+        leaf: usize,
+        sink: &mut K,
+    ) -> Result<(), NoMemory>
+        requires ready { ready self.now }
+        requires stage { G.ready stage.now }
+        requires sink { K.ready sink.old }
+        requires holds { holds self.now progress.now }
+        requires done { done self.now progress.now ≡ true }
+        requires within { leaf < leaves_next self.now progress.now }
+        ensures { let lists = map (flat_map (G.expand stage.now)) (parts self.now progress.now) in
+            OnOk result (K.takes sink.old (slice_index_or lists leaf []) sink.new) };
 
     /// Runs a leaf of the last run, through a stage into a collector.
     fn run_last_leaf<

@@ -164,12 +164,24 @@ where
 /// Each item as it is.
 #[derive(Drop)]
 pub struct Nothing<T> {
+    by_blocks: bool,
     items: PhantomData<T>,
 }
 
 impl<T> Nothing<T> {
     pub fn new() -> Nothing<T> {
-        Nothing { items: PhantomData }
+        Nothing {
+            by_blocks: false,
+            items: PhantomData,
+        }
+    }
+
+    /// Of which a leaf that has no stage before it had better be read in blocks.
+    pub fn in_blocks() -> Nothing<T> {
+        Nothing {
+            by_blocks: true,
+            items: PhantomData,
+        }
     }
 }
 
@@ -188,6 +200,10 @@ impl<T: OrderedValue + Drop> Stage for Nothing<T> {
 
     fn feed<K: Sink<T>>(&self, x: T, sink: &mut K) -> Result<(), NoMemory> {
         sink.take(x)
+    }
+
+    fn prefers_blocks(&self) -> bool {
+        self.by_blocks
     }
 
     fn feed_all<K: Sink<T>>(&self, items: &mut Vec<T>, sink: &mut K) -> Result<(), NoMemory> {
@@ -248,9 +264,9 @@ impl<A: Stage, B: Stage<In = A::Out>> Stage for Then<A, B> {
         self.first.feed_all(items, &mut onward)
     }
 
-    // Where the second does, a first that passes a block on is no loss.
+    // The second gets a block only where the first makes one.
     fn prefers_blocks(&self) -> bool {
-        self.first.prefers_blocks() || self.second.prefers_blocks()
+        self.first.prefers_blocks()
     }
 
     fn operation(&self) -> Operation {

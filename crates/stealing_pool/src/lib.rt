@@ -21,3 +21,4 @@ pub use job_run::{Gathered, run_job};
 pub use leaf::run_leaf;
 pub use plan_run::run_leaves;
 pub use report::{RunEntry, RunReport};
+pub use stretch::feed_whole;

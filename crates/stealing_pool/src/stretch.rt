@@ -262,3 +262,23 @@ pub(crate) fn feed_until_cut<B: Handout, S: Spliterator, G: Stage<In = S::Item>,
         }
     }
 }
+
+/// Feeds all that a source covers through a stage to a sink, as far as it makes a difference.
+pub fn feed_whole<S: Spliterator, G: Stage<In = S::Item>, K: Sink<G::Out>>(
+    alloc: Global,
+    stage: &G,
+    source: S,
+    sink: &mut K,
+) -> Result<(), NoMemory>
+    requires stage { G.ready stage.now }
+    requires sink { K.ready sink.old }
+    ensures fed { OnOk result (K.takes sink.old (flat_map (G.expand stage.now) (S.items source)) sink.new) }
+{
+    let mut source = source;
+    let mut room = Vec::new(alloc);
+    'reading: loop {
+        if !feed_stretch(stage, &mut source, false, &mut room, sink)? {
+            return Ok(());
+        }
+    }
+}
