@@ -13,17 +13,21 @@ pub use collectors::{
     GroupingBy, Joining, MappingTo, Pairing, Partition, PartitioningBy, Reducing, SummingLong,
     Teeing, ToList, ToMap, ToMapStrict,
 };
+pub use fused_runs::{
+    Engine, collect_distinct, collect_front, collect_limited, collect_rest, collect_skipped,
+};
 pub use parallel_streams::{MapError, Run, Stream, StreamError, of};
 pub use parts::{
-    Above, And, Below, Cloned, Composed, Divisible, Equal, Even, Itself, Length, Modulo, Negated,
-    Not, OnFirst, OnSecond, Or, Plus, StartsWith, Times, mapping, operator, test,
+    Above, And, AtMostOne, Below, Cloned, Composed, Divisible, Equal, Even, Itself, Length, Modulo,
+    Negated, Not, OnFirst, OnSecond, Or, Plus, StartsWith, Times, mapping, operator, test,
 };
 pub use sources::{
-    Concat, DequeSplit, LentSplit, LinesSplit, RangeSplit, RangeTooLong, SliceSplit,
+    Concat, DequeSplit, LentSplit, LinesSplit, RangeSplit, RangeTooLong, SliceSplit, Windowed,
 };
 pub use spliterator::{NoMemory, OrderedValue, Spliterator, Text, Value};
 pub use stages::{
-    FirstOf, FromFn, LastOf, ListValue, Mapping, MappingDefinition, Max, Min, Operator,
-    OperatorDefinition, OperatorFn, Sink, Stage, Test, TestDefinition, TestFn, WrapAdd, WrapMul,
+    Filter, FirstOf, FromFn, LastOf, ListValue, Map, Mapping, MappingDefinition, Max, Min, Nothing,
+    Operator, OperatorDefinition, OperatorFn, Sink, Stage, Test, TestDefinition, TestFn, Then,
+    WrapAdd, WrapMul,
 };
 pub use stealing_pool::{Gate, NoGate, RunEntry, RunReport};

@@ -1,3 +1,4 @@
+pub mod AtMostOne
 pub mod Lists
 pub mod Near
 pub mod Remainders

@@ -16,30 +16,24 @@ pub trait Fails<T: OrderedValue + Drop>: Test<T> {
     type Failing: Stage<In = T, Out = T> + Drop + Sync;
 
     /// The items that fail the test.
-    fn failing(self) -> Self::Failing
+    fn failing(&self) -> Self::Failing
         ensures ready { Self.Failing.ready result }
-        ensures images { Self.Failing.expand result ≡ (λ x. cond (not (Self.Test.holds self x)) (x ∷ []) []) };
-
-    ghost is_ready: { (test : Self) → Self.Test.ready test };
+        ensures images { Self.Failing.expand result ≡ (λ x. cond (not (Self.Test.holds self.now x)) (x ∷ []) []) };
 }
 
 impl<'a, T: Text + OrderedValue + Drop + Sync> Fails<T> for TextCheck<'a> {
     type Failing = Filter<T, Not<TextCheck<'a>>>;
 
-    ghost is_ready = { λ _. tt };
-
-    fn failing(self) -> Filter<T, Not<TextCheck<'a>>> {
-        Filter::new(Not(self))
+    fn failing(&self) -> Filter<T, Not<TextCheck<'a>>> {
+        Filter::new(Not(*self))
     }
 }
 
 impl Fails<i64> for NumberCheck {
     type Failing = FailingNumbers;
 
-    ghost is_ready = { λ _. tt };
-
-    fn failing(self) -> FailingNumbers {
-        FailingNumbers { check: self }
+    fn failing(&self) -> FailingNumbers {
+        FailingNumbers { check: *self }
     }
 }
 

@@ -23,7 +23,6 @@ mod text_summaries;
 mod written;
 
 pub use adapted::{Adapted, Adapting};
-pub use at_most_one::AtMostOne;
 pub use failing::{FailingNumbers, Fails};
 pub use functions::{
     NumberChange, NumberCheck, NumberComparison, NumberJoining, NumberMapping, NumberMerging,

@@ -1,7 +1,5 @@
-pub mod FirstOnes
 pub mod StageFronts
 pub mod KnownSizes
 pub mod Stages
 pub mod Strict
 pub mod Telling
-pub mod LeafPlaces

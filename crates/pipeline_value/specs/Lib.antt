@@ -1,14 +1,12 @@
 pub mod Arrangements
 pub mod ContentLaws
 pub mod Differing
-pub mod DistinctLaws
 pub mod FitLaws
 pub mod Folds
 pub mod Fronts
 pub mod KnownSizes
 pub mod NumberContents
 pub mod OneToOne
-pub mod Places
 pub mod Ranges
 pub mod Settling
 pub mod TextContents

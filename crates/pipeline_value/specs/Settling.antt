@@ -28,6 +28,12 @@ BarrierFits (Limit n) = n < 2 ^ 63
 BarrierFits (Skip n) = n < 2 ^ 63
 BarrierFits _ = Unit {0}
 
+-- its test may be called
+abbrev pub IsReady : {K : Type 0} → (K → Type 0) → LanguageBarrier K → Type 0
+IsReady ready (TakeWhile test) = ready test
+IsReady ready (DropWhile test) = ready test
+IsReady ready _ = Unit {0}
+
 abbrev pub number_cuts_source : NumberStage → Bool
 number_cuts_source (numbers.Limit n) = true
 number_cuts_source (numbers.Skip n) = true

@@ -1,6 +1,6 @@
 //! What each step of an evaluation uses.
 
-ghost use Rattle.std.specs.Prelude.{◌≡◌, ◌≤◌, ◌^◌};
+ghost use Rattle.std.specs.Prelude.{◌≡◌};
 ghost use Rattle.parallel_streams.specs.Runs.{HasLawfulWorkers, IsLawfulRun};
 
 use parallel_streams::Run;
@@ -37,21 +37,11 @@ impl<'e, R, H> Engine<'e, R, H> {
         }
     }
 
-    /// The same at this target.
-    pub(crate) fn with_target(&self, target: u64) -> Engine<'e, R, H>
-        requires { target ≤ 2 ^ 62 }
+    /// What the runs without lists use of it.
+    pub(crate) fn lent(&self) -> fused_runs::Engine<'e, R, H>
         ensures workers { result.run.workers ≡ self.now.run.workers }
-        ensures target { result.run.target ≡ target }
+        ensures target { result.run.target ≡ self.now.run.target }
     {
-        Engine {
-            rt: self.rt,
-            alloc: self.alloc,
-            hashes: self.hashes,
-            run: Run {
-                workers: self.run.workers,
-                target,
-                gate: self.run.gate,
-            },
-        }
+        fused_runs::Engine::under(self.rt, self.alloc, &self.run)
     }
 }

@@ -5,10 +5,11 @@ ghost use Rattle.std.specs.List.{HoldsAt};
 ghost use Rattle.pipeline_meaning.specs.Stages.{is_number_barrier, is_text_barrier, number_stage, text_stage};
 ghost use Rattle.pipeline_meaning.specs.Walks.{one_after_other};
 ghost use Rattle.pipeline_value.specs.Ranges.{NumberStageFits, TextStageFits};
-ghost use Rattle.pipeline_value.specs.Settling.{BarrierFits, barrier_list, cuts_source, number_cuts_source, text_cuts_source};
+ghost use Rattle.pipeline_value.specs.Settling.{BarrierFits, IsReady, barrier_list, cuts_source, number_cuts_source, text_cuts_source};
 
+use parts::AtMostOne;
 use pipeline_language::{NumberStage, TextStage};
-use pipeline_meaning::{AtMostOne, Fails, NumberCheck, NumberSteps, TextCheck, TextSteps};
+use pipeline_meaning::{Fails, NumberCheck, NumberSteps, TextCheck, TextSteps};
 use spliterator::{NoMemory, OrderedValue};
 use stages::Stage;
 use std::alloc::Global;
@@ -56,7 +57,8 @@ pub(crate) trait LanguageStage<T: OrderedValue + Drop>: Sized {
     fn barrier(&self) -> Option<LanguageBarrier<Self::Check>>
         ensures none { MatchOption result (is_barrier self.now ≡ false) (λ b. (l : List T.Content) → barrier_list T.same Self.Check.holds b l ≡ makes self.now l) }
         ensures cuts { MatchOption result (cuts self.now ≡ false) (λ b. cuts_source b ≡ cuts self.now) }
-        ensures fits { MatchOption result (Unit {0}) (λ b. Fits self.now → BarrierFits b) };
+        ensures fits { MatchOption result (Unit {0}) (λ b. Fits self.now → BarrierFits b) }
+        ensures ready { MatchOption result (Unit {0}) (IsReady Self.Check.ready) };
 
     // steps are always ready
     ghost are_ready: { (steps : Self.Steps) → Self.Steps.Stage.ready steps };

@@ -1,19 +1,21 @@
 //! The value of stages over numbers and a terminal.
 
-ghost use Rattle.std.specs.Prelude.{◌≡◌, IfOk, All, flat_map, true};
-ghost use Rattle.pipeline_meaning.specs.Stages.{is_number_barrier, number_stage, number_stages};
+ghost use Rattle.std.specs.Prelude.{◌≡◌, IfOk, All, flat_map};
+ghost use Rattle.pipeline_meaning.specs.Stages.{number_stages};
 ghost use Rattle.pipeline_value.specs.Ranges.{NumberStageFits};
 ghost use Rattle.pipeline_value.specs.Value.{Tells, number_told, number_body_told};
 
 use crate::engine::Engine;
-use crate::gather::{gather, gather_distinct};
+use crate::listed::through_barrier;
 use crate::number_end::number_end;
 use crate::settled::settle;
 use crate::told::ValueError;
-use barriers::{DropWhile, Limit, Skip, TakeWhile};
+use barriers::Skip;
+use fused_runs::gather;
 use parallel_streams::{Stream, of};
+use parts::AtMostOne;
 use pipeline_language::{NumberBody, NumberStage, NumberTerminal};
-use pipeline_meaning::{AtMostOne, NumberCheck, NumberSteps, Rope};
+use pipeline_meaning::{NumberSteps, Rope};
 use sources::{RangeSplit, SliceSplit, Windowed};
 use spliterator::{NoMemory, Spliterator};
 use stages::{Nothing, Stage, Then};
@@ -83,7 +85,7 @@ pub(crate) fn range_items<R: Threads + Sync, H: Gate + Sync>(
 {
     let (steps, taken) = NumberSteps::front_of(engine.alloc, stages)?;
     if taken == stages.len() {
-        return gather(engine, range, &steps, &Skip::new(0));
+        return gather(&engine.lent(), range, &steps, &Skip::new(0));
     }
     let kept = through_barrier(engine, range, &steps, &stages[taken])?;
     list_items(engine, kept, &stages[taken + 1..])
@@ -101,43 +103,9 @@ fn list_items<R: Threads + Sync, H: Gate + Sync>(
     let (steps, taken) = NumberSteps::front_of(engine.alloc, stages)?;
     let source = SliceSplit::new(items.as_slice());
     if taken == stages.len() {
-        return gather(engine, source, &steps, &Skip::new(0));
+        return gather(&engine.lent(), source, &steps, &Skip::new(0));
     }
     let kept = through_barrier(engine, source, &steps, &stages[taken])?;
     drop(items);
     list_items(engine, kept, &stages[taken + 1..])
-}
-
-/// What a barrier leaves of a source's items behind a stage. Distinct items are hashed by `hashes`.
-fn through_barrier<R, S, A, H>(
-    engine: &Engine<'_, R, H>,
-    source: S,
-    stage: &A,
-    barrier: &NumberStage,
-) -> Result<Vec<i64>, NoMemory>
-where
-    R: Threads + Sync,
-    S: Spliterator + Drop + Send + Sync,
-    S::Item: Send,
-    A: Stage<In = S::Item, Out = i64> + Sync,
-    H: Gate + Sync,
-    requires stage { A.ready stage.now }
-    requires barrier { is_number_barrier barrier.now ≡ true }
-    requires fits { NumberStageFits barrier.now }
-    ensures { IfOk result (λ kept. kept.items ≡ number_stage barrier.now (flat_map (A.expand stage.now) (S.items source))) }
-{
-    match *barrier {
-        NumberStage::Distinct => gather_distinct(engine, source, stage),
-        NumberStage::Limit(most) => gather(engine, source, stage, &Limit::new(most)),
-        NumberStage::Skip(number) => gather(engine, source, stage, &Skip::new(number)),
-        NumberStage::TakeWhile(test) => {
-            let barrier = TakeWhile::new(NumberCheck::of(test));
-            gather(engine, source, stage, &barrier)
-        }
-        NumberStage::DropWhile(test) => {
-            let barrier = DropWhile::new(NumberCheck::of(test));
-            gather(engine, source, stage, &barrier)
-        }
-        NumberStage::Map(_) | NumberStage::Filter(_) | NumberStage::Repeat(_) => unreachable!(),
-    }
 }

@@ -1,81 +1,21 @@
 //! Barriers that are done by cutting the source.
 
-ghost use Rattle.std.specs.Prelude.{◌≡◌, ◌≤◌, ◌<◌, ◌^◌, ◌&&◌, IfOk, IfSome, All, IsTrue, drop, false, flat_map, is_some, length, take, take_while, true};
+ghost use Rattle.std.specs.Prelude.{◌≡◌, ◌≤◌, ◌<◌, ◌&&◌, IfOk, IfSome, All, IsTrue, false, flat_map, is_some, length, take, true};
 ghost use Rattle.std.specs.List.{HoldsAt};
-ghost use Rattle.barriers.specs.Whiles.{drop_while};
-ghost use Rattle.pipeline_meaning.specs.AtMostOne.{GivesAtMostOne};
+ghost use Rattle.parts.specs.AtMostOne.{GivesAtMostOne};
 ghost use Rattle.pipeline_meaning.specs.Walks.{one_after_other};
 ghost use Rattle.pipeline_value.specs.Settling.{BarrierFits, barrier_list, cuts_source};
 
 use crate::engine::Engine;
 use crate::language_stages::{LanguageBarrier, LanguageStage};
-use crate::places::place_of;
-use pipeline_meaning::{AtMostOne, Fails};
+use fused_runs::{dropped_part, limited_part, skipped_part, taken_part};
+use parts::AtMostOne;
+use pipeline_meaning::Fails;
 use sources::Windowed;
 use spliterator::{NoMemory, OrderedValue};
 use stages::{Stage, Then};
 use std::thread::Threads;
 use stealing_pool::Gate;
-
-/// How many of a source's items have the first `number` images, or all of them where there are fewer.
-fn items_of<R, S, A, H>(
-    engine: &Engine<'_, R, H>,
-    source: S,
-    stage: &A,
-    number: u64,
-) -> Result<u64, NoMemory>
-where
-    R: Threads + Sync,
-    S: Windowed + Copy + Drop + Send + Sync,
-    S::Item: Clone + Send + Sync,
-    A: Stage<In = S::Item> + Sync,
-    A::Out: Clone + Send + Sync,
-    H: Gate + Sync,
-    requires stage { A.ready stage.now }
-    requires few { GivesAtMostOne (A.expand stage.now) }
-    requires fits { number < 2 ^ 63 }
-    ensures front { IfOk result (λ end. flat_map (A.expand stage.now) (take end (S.items source)) ≡ take number (flat_map (A.expand stage.now) (S.items source))) }
-    ensures rest { IfOk result (λ end. flat_map (A.expand stage.now) (drop end (S.items source)) ≡ drop number (flat_map (A.expand stage.now) (S.items source))) }
-{
-    let all = source.count();
-    if all <= number {
-        return Ok(all);
-    }
-    if number == 0 {
-        return Ok(0);
-    }
-    match place_of(engine, source, stage, number)? {
-        Some(place) => Ok(place + 1),
-        None => Ok(all),
-    }
-}
-
-/// How many of a source's items stand in front of the first whose image fails a test.
-fn items_before_failing<R, S, A, K, H>(
-    engine: &Engine<'_, R, H>,
-    source: S,
-    stage: &A,
-    test: K,
-) -> Result<u64, NoMemory>
-where
-    R: Threads + Sync,
-    S: Windowed + Copy + Drop + Send + Sync,
-    S::Item: Clone + Send + Sync,
-    A: Stage<In = S::Item> + Sync,
-    A::Out: Clone + Send + Sync,
-    K: Fails<A::Out>,
-    H: Gate + Sync,
-    requires stage { A.ready stage.now }
-    requires few { GivesAtMostOne (A.expand stage.now) }
-    ensures taken { IfOk result (λ end. flat_map (A.expand stage.now) (take end (S.items source)) ≡ take_while (K.holds test) (flat_map (A.expand stage.now) (S.items source))) }
-    ensures dropped { IfOk result (λ end. flat_map (A.expand stage.now) (drop end (S.items source)) ≡ drop_while (K.holds test) (flat_map (A.expand stage.now) (S.items source))) }
-{
-    let failing = Then::new(stage, test.failing());
-    match place_of(engine, source, &failing, 1)? {
-        Some(place) => Ok(place),
-        None => Ok(source.count()),
-    }
-}
 
 /// The part of a source whose images are what a barrier leaves of the images of all, behind a stage that gives no item more than one image.
 fn part_left<R, S, A, K, H>(
@@ -90,7 +30,7 @@ where
     S::Item: Clone + Send + Sync,
     A: Stage<In = S::Item> + Sync,
     A::Out: Clone + Send + Sync,
-    K: Fails<A::Out>,
+    K: Fails<A::Out> + Drop,
     H: Gate + Sync,
     requires stage { A.ready stage.now }
     requires few { GivesAtMostOne (A.expand stage.now) }
@@ -98,23 +38,24 @@ where
     ensures part { IfOk result (λ part. IfSome part (λ part. flat_map (A.expand stage.now) (S.items part) ≡ barrier_list A.Out.same K.holds barrier (flat_map (A.expand stage.now) (S.items source)))) }
     ensures had { IfOk result (λ part. is_some part ≡ cuts_source barrier) }
 {
+    let engine = &engine.lent();
     match barrier {
         LanguageBarrier::Distinct => Ok(None),
         LanguageBarrier::Limit(most) => {
-            let end = items_of(engine, source, stage, most)?;
-            Ok(Some(source.first(end)))
+            let part = limited_part(engine, source, stage, most)?;
+            Ok(Some(part))
         }
         LanguageBarrier::Skip(number) => {
-            let end = items_of(engine, source, stage, number)?;
-            Ok(Some(source.after_first(end)))
+            let part = skipped_part(engine, source, stage, number)?;
+            Ok(Some(part))
         }
         LanguageBarrier::TakeWhile(test) => {
-            let end = items_before_failing(engine, source, stage, test)?;
-            Ok(Some(source.first(end)))
+            let part = taken_part(engine, source, stage, &test, &test.failing())?;
+            Ok(Some(part))
         }
         LanguageBarrier::DropWhile(test) => {
-            let end = items_before_failing(engine, source, stage, test)?;
-            Ok(Some(source.after_first(end)))
+            let part = dropped_part(engine, source, stage, &test, &test.failing())?;
+            Ok(Some(part))
         }
     }
 }

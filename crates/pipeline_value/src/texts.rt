@@ -1,27 +1,24 @@
 //! The value of stages over texts and what follows them.
 
-ghost use Rattle.std.specs.Prelude.{◌≡◌, IfOk, All, bytes_eq, flat_map, map, true};
-ghost use Rattle.spliterator.specs.Clones.{ClonesAlike};
+ghost use Rattle.std.specs.Prelude.{All, flat_map, map};
 ghost use Rattle.pipeline_meaning.specs.Functions.{text_length};
-ghost use Rattle.pipeline_meaning.specs.Stages.{is_text_barrier, text_stage, text_stages};
+ghost use Rattle.pipeline_meaning.specs.Stages.{text_stages};
 ghost use Rattle.pipeline_value.specs.Ranges.{NumberBodyFits, TextEndFits, TextStageFits};
 ghost use Rattle.pipeline_value.specs.Value.{Tells, number_body_told, text_end_told};
 
 use crate::engine::Engine;
-use crate::gather::{gather, gather_distinct};
+use crate::listed::through_barrier;
 use crate::numbers::number_value;
 use crate::settled::settle;
 use crate::text_end::text_end;
 use crate::told::ValueError;
-use barriers::{DropWhile, Limit, Skip, TakeWhile};
 use parallel_streams::{Stream, of};
-use parts::Length;
+use parts::{AtMostOne, Length};
 use pipeline_language::{NumberBody, TextEnd, TextStage};
-use pipeline_meaning::{AtMostOne, Rope, TextCheck, TextSteps};
+use pipeline_meaning::{Rope, TextSteps};
 use sources::{SliceSplit, Windowed};
-use spliterator::{NoMemory, OrderedValue, Spliterator, Text};
+use spliterator::{OrderedValue, Spliterator, Text};
 use stages::{Map, Nothing, Stage, Then};
-use std::hash::Hash;
 use std::thread::Threads;
 use stealing_pool::Gate;
 
@@ -85,42 +82,4 @@ where
 {
     let lengths = Then::new(stage, Map::new(Length));
     number_value(engine, source, lengths, body)
-}
-
-/// What a barrier leaves of a source's items behind a stage. Distinct items are hashed by `hashes`.
-fn through_barrier<T, R, S, A, H>(
-    engine: &Engine<'_, R, H>,
-    source: S,
-    stage: &A,
-    barrier: &TextStage<'_>,
-) -> Result<Vec<T>, NoMemory>
-where
-    T: Text + OrderedValue + Hash + Clone + Copy + Drop + Send + Sync,
-    R: Threads + Sync,
-    S: Spliterator + Drop + Send + Sync,
-    S::Item: Send,
-    A: Stage<In = S::Item, Out = T> + Sync,
-    H: Gate + Sync,
-    requires stage { A.ready stage.now }
-    requires clones { ClonesAlike T.is_clone T.content }
-    requires same { T.same ≡ bytes_eq }
-    requires barrier { is_text_barrier barrier.now ≡ true }
-    requires fits { TextStageFits barrier.now }
-    ensures { IfOk result (λ kept. map T.content kept.items ≡ text_stage barrier.now (flat_map (A.expand stage.now) (S.items source))) }
-{
-    match *barrier {
-        TextStage::Distinct => gather_distinct(engine, source, stage),
-        TextStage::Limit(most) => gather(engine, source, stage, &Limit::new(most)),
-        TextStage::Skip(number) => gather(engine, source, stage, &Skip::new(number)),
-        TextStage::TakeWhile(test) => {
-            let barrier = TakeWhile::new(TextCheck::of(test));
-            gather(engine, source, stage, &barrier)
-        }
-        TextStage::DropWhile(test) => {
-            let barrier = DropWhile::new(TextCheck::of(test));
-            gather(engine, source, stage, &barrier)
-        }
-        TextStage::MapItself | TextStage::Filter(_) | TextStage::Repeat(_) | TextStage::Words =>
-            unreachable!(),
-    }
 }

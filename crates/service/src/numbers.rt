@@ -2,8 +2,8 @@
 
 use crate::square::Square;
 use mohairjade::{
-    Above, Below, Even, NoGate, RangeSplit, Run, RunReport, SliceSplit, Stream, StreamError, Times,
-    ToList, WrapAdd, of,
+    Above, Below, Engine, Even, Filter, Map, NoGate, RangeSplit, Run, RunReport, SliceSplit,
+    Stream, StreamError, Then, Times, ToList, WrapAdd, collect_limited, of,
 };
 use std::alloc::Global;
 use std::thread::Threads;
@@ -46,4 +46,16 @@ pub fn front<R: Threads + Alloc<A = Global> + Sync>(
 ) -> Result<(Vec<i64>, RunReport), StreamError> {
     let front = of(SliceSplit::new(numbers)).take_while(Below(3));
     front.collect_reported(rt, rt.alloc(), run, &ToList::new(rt.alloc()))
+}
+
+/// `numbers.filter(x -> x % 2 == 0).map(x -> x * 3).limit(2).toArray()`, of which no list is made on the way.
+pub fn two_threefold<R: Threads + Alloc<A = Global> + Sync>(
+    rt: &R,
+    run: &Run<'_, NoGate>,
+    numbers: &[i64],
+) -> Result<Vec<i64>, StreamError> {
+    let engine = Engine::new(rt, rt.alloc(), run)?;
+    let threefold = Then::new(Filter::new(Even), Map::new(Times(3)));
+    let list = ToList::new(rt.alloc());
+    Ok(collect_limited(&engine, SliceSplit::new(numbers), &threefold, 2, &list)?)
 }

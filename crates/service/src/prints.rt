@@ -43,6 +43,8 @@ pub fn print_numbers<R: Threads + Print + Alloc<A = Global> + Sync>(rt: &R) -> a
     println!(rt; "squares: {squares}, first: {}", first.unwrap_or(-1))?;
     let apart = numbers::first_two(rt, &run, &[3, 3, 3, 1, 2])?;
     println!(rt; "apart: {:?}", apart.as_slice())?;
+    let threefold = numbers::two_threefold(rt, &run, &[1, 2, 3, 4, 5, 6])?;
+    println!(rt; "threefold: {:?}", threefold.as_slice())?;
     // one worker runs the leaves in turn, so that the same ones are skipped each time
     let (front, report) = numbers::front(rt, &Run::new(1), &[1, 2, 5, 1])?;
     println!(rt; "front: {:?}", front.as_slice())?;

@@ -1,4 +1,4 @@
-use Rattle.std.proofs.Common.{◌≡◌, ◌<◌, length, arith, ap, ◌∙◌}
+use Rattle.std.proofs.Common.{◌≡◌, ◌<◌, length, arith, ap, sym, ◌∙◌}
 use Rattle.std.specs.Prelude.{IfOk, flat_map}
 use Rattle.std.proofs.lemmas.List.{map-id}
 use Rattle.pipeline_meaning.specs.NumberSteps.{number_images}
@@ -12,4 +12,4 @@ returns g t c =
     let images = flat_map (number_images c.in_ok-steps.steps) in
     let items = c.args.items.items in
     cut-told number_stage (λ l. IfOk c.list_items.result (λ kept. kept.items ≡ l)) c.args.stages.now c.in_ok-steps.taken _ items _ c.in_ok-kept.kept.items within
-    (ap images (c.new-source.ensures ∙ map-id _ ∙ c.as_slice.ensures.value) ∙ c.in_ok-steps.ensures.means items) c.in_ok-kept.ensures c.list_items.ensures
+    (ap images (c.new-source.ensures ∙ map-id _ ∙ c.as_slice.ensures.value) ∙ c.in_ok-steps.ensures.means items) (sym (map-id _) ∙ c.in_ok-kept.ensures) c.list_items.ensures

@@ -1,4 +1,4 @@
-use Rattle.std.proofs.Common.{◌≡◌, ◌<◌, ℤ, List, length, take, arith, ◌∙◌}
+use Rattle.std.proofs.Common.{◌≡◌, ◌<◌, ℤ, List, length, take, arith, sym, ◌∙◌}
 use Rattle.std.proofs.lemmas.List.{map-id}
 use Rattle.pipeline_meaning.specs.NumberSteps.{number_images}
 use Rattle.pipeline_meaning.specs.Stages.{number_stage}
@@ -22,4 +22,4 @@ returns g t c =
     let settled = c.in_ok-settled.settled in
     let within : settled.taken < length stages = omega (arith, c.in_ok-settled.ensures.within, c.if-taken-stages.false) in
     let means = behind-none number_stage (number_images settled.steps) (take settled.taken stages) _ c.args.items.items _ c.in_ok-settled.ensures.means (c.new-source.ensures ∙ map-id _ ∙ c.as_slice.ensures.value) in
-    cut-told number_stage (λ l. Tells (number_told c.args.terminal.now l) c.list_value.result) stages settled.taken _ c.args.items.items _ c.in_ok-kept.kept.items within means c.in_ok-kept.ensures c.list_value.ensures
+    cut-told number_stage (λ l. Tells (number_told c.args.terminal.now l) c.list_value.result) stages settled.taken _ c.args.items.items _ c.in_ok-kept.kept.items within means (sym (map-id _) ∙ c.in_ok-kept.ensures) c.list_value.ensures

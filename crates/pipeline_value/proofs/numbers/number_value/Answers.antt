@@ -1,4 +1,5 @@
-use Rattle.std.proofs.Common.{◌≡◌, ◌<◌, flat_map, length, take, arith}
+use Rattle.std.proofs.Common.{◌≡◌, ◌<◌, ◌∙◌, flat_map, length, sym, take, arith}
+use Rattle.std.proofs.lemmas.List.{map-id}
 use Rattle.std.proofs.lemmas.List.Elements.{All-drop, All-take}
 use Rattle.pipeline_meaning.specs.NumberSteps.{number_images}
 use Rattle.pipeline_meaning.specs.Stages.{number_stage, number_stages}
@@ -38,4 +39,4 @@ returns g c =
     (cut-told number_stage (λ l. Tells (number_told c.args.body.now.terminal l) c.list_value.result) stages settled.taken _ whole
     (flat_map (λ x. flat_map steps (front x)) part) c.in_ok-items.items.items within
     (in_one front steps part (number_stages (take settled.taken stages) whole) c.in_ok-settled.ensures.means)
-    (rw (c.new-stage.ensures.first, c.new-stage.ensures.second) at c.in_ok-items.ensures) c.list_value.ensures)
+    (sym (map-id _) ∙ (rw (c.new-stage.ensures.first, c.new-stage.ensures.second) at c.in_ok-items.ensures)) c.list_value.ensures)

@@ -1,4 +1,5 @@
-use Rattle.std.proofs.Common.{◌≡◌, ◌<◌, length, arith}
+use Rattle.std.proofs.Common.{◌≡◌, ◌<◌, ◌∙◌, length, sym, arith}
+use Rattle.std.proofs.lemmas.List.{map-id}
 use Rattle.std.specs.Prelude.{IfOk, flat_map}
 use Rattle.sources.specs.Integers.{integers}
 use Rattle.pipeline_meaning.specs.NumberSteps.{number_images}
@@ -11,4 +12,4 @@ returns g c =
     let within : c.in_ok-steps.taken < length c.args.stages.now = omega (arith, c.in_ok-steps.ensures.within, c.if-taken-stages.false) in
     let items = integers c.args.range.next c.args.range.left in
     cut-told number_stage (λ l. IfOk c.list_items.result (λ kept. kept.items ≡ l)) c.args.stages.now c.in_ok-steps.taken _ items
-    (flat_map (number_images c.in_ok-steps.steps) items) c.in_ok-kept.kept.items within (c.in_ok-steps.ensures.means items) c.in_ok-kept.ensures c.list_items.ensures
+    (flat_map (number_images c.in_ok-steps.steps) items) c.in_ok-kept.kept.items within (c.in_ok-steps.ensures.means items) (sym (map-id _) ∙ c.in_ok-kept.ensures) c.list_items.ensures

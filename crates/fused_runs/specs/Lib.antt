@@ -1,0 +1,2 @@
+pub mod DistinctLaws
+pub mod Places

@@ -1,0 +1,5 @@
+//! The tests of `fused_runs`.
+#![tactic(auto)]
+
+#[cfg(test)]
+mod tests;
