@@ -5,3 +5,4 @@ pub mod Stages
 pub mod Strict
 pub mod Telling
 pub mod LeafPlaces
+pub mod RepeatedItems

@@ -1,5 +1,6 @@
 pub mod Arrangements
 pub mod ContentLaws
+pub mod Copies
 pub mod Differing
 pub mod DistinctLaws
 pub mod FitLaws
@@ -10,6 +11,7 @@ pub mod NumberContents
 pub mod OneToOne
 pub mod Places
 pub mod Ranges
+pub mod Repeats
 pub mod Settling
 pub mod TextContents
 pub mod Value

@@ -21,6 +21,8 @@ mod number_groups;
 mod number_maps;
 mod numbers;
 mod places;
+mod repeated;
+mod repeats;
 mod settled;
 mod stepped;
 mod text_end;
