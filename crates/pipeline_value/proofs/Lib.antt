@@ -3,3 +3,4 @@ pub mod KnownSizes
 pub mod Stages
 pub mod Strict
 pub mod Telling
+pub mod RepeatedItems

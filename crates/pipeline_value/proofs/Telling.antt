@@ -59,3 +59,8 @@ pub narrowed-told : (terminal : NumberTerminal) (stages fewer : List NumberStage
 narrowed-told terminal stages fewer items narrowed r same h =
     let Q : List ℤ → Type 0 = λ l. Tells (number_told terminal l) r in
     subst Q (ap (number_stages fewer) (flat_map-one narrowed) ∙ same) h
+
+-- stages of which the first were taken by copies
+pub copies-told : (Q : List ℤ → Type 0) (stages rest : List NumberStage) (taken : ℕ) (copies source items : List ℤ) → rest ≡ drop taken stages
+    → number_stages (drop taken stages) copies ≡ number_stages stages source → source ≡ items → Q (number_stages rest copies) → Q (number_stages stages items)
+copies-told Q stages rest taken copies source items is means same h = subst Q (ap (λ s. number_stages s copies) is ∙ means ∙ ap (number_stages stages) same) h

@@ -1,5 +1,6 @@
 pub mod Arrangements
 pub mod ContentLaws
+pub mod Copies
 pub mod Differing
 pub mod FitLaws
 pub mod Folds
@@ -8,6 +9,7 @@ pub mod KnownSizes
 pub mod NumberContents
 pub mod OneToOne
 pub mod Ranges
+pub mod Repeats
 pub mod Settling
 pub mod TextContents
 pub mod Value

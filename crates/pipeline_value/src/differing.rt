@@ -33,7 +33,7 @@ pub(crate) fn drop_distincts(stages: &mut Vec<NumberStage>, mut differ: bool)
 }
 
 /// Whether the stage is `distinct`.
-fn is_distinct(stage: &NumberStage) -> bool
+pub(crate) fn is_distinct(stage: &NumberStage) -> bool
     ensures { result ≡ is_distinct stage.now }
 {
     matches!(stage, NumberStage::Distinct)

@@ -19,6 +19,8 @@ mod number_end;
 mod number_groups;
 mod number_maps;
 mod numbers;
+mod repeated;
+mod repeats;
 mod settled;
 mod stepped;
 mod text_end;

@@ -8,6 +8,7 @@ ghost use Rattle.pipeline_value.specs.Value.{Tells, number_told, number_body_tol
 use crate::engine::Engine;
 use crate::listed::through_barrier;
 use crate::number_end::number_end;
+use crate::repeats::repeated;
 use crate::settled::settle;
 use crate::told::ValueError;
 use barriers::Skip;
@@ -62,7 +63,9 @@ pub(crate) fn list_value<R: Threads + Sync, H: Gate + Sync>(
     ensures { Tells (number_told terminal.now (number_stages stages.now items.items)) result }
 {
     let source = SliceSplit::new(items.as_slice());
-    let settled = settle(engine, source, &Nothing::new(), stages)?;
+    let (copies, repeats) = repeated(source, stages);
+    let (_, stages) = stages.split_at(repeats);
+    let settled = settle(engine, copies, &Nothing::new(), stages)?;
     let taken = settled.taken;
     let steps = settled.steps;
     if taken == stages.len() {

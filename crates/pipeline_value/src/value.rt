@@ -10,6 +10,7 @@ use crate::fronts::{FRONTS, front_value};
 use crate::known_size::known_count;
 use crate::narrowed::narrowed;
 use crate::numbers::{list_value, number_value};
+use crate::repeats::{drop_repeats, repeats_first, with_copies};
 use crate::stepped::stepped;
 use crate::texts::text_value;
 use crate::told::{ValueError, told};
@@ -80,7 +81,8 @@ fn source_value<R: Threads + Sync, H: Gate + Sync>(
     }
 }
 
-/// The text of the value of a body, over numbers as they stand. A `distinct` behind another is dropped.
+/// The text of the value of a body, over numbers as they stand. A `distinct` behind another is dropped, and so are repeats before a
+/// `distinct`; other repeats move before what cuts.
 fn listed_value<R: Threads + Sync, H: Gate + Sync>(
     engine: &Engine<'_, R, H>,
     numbers: Vec<i64>,
@@ -91,13 +93,15 @@ fn listed_value<R: Threads + Sync, H: Gate + Sync>(
 {
     // the call promises that the numbers are of an i64
     numbers.is_value();
+    drop_repeats(&mut body.stages);
     drop_distincts(&mut body.stages, false);
+    repeats_first(&mut body.stages);
     list_value(engine, numbers, body.stages.as_slice(), &body.terminal)
 }
 
-/// The text of the value of a body, over a range. A `distinct` that its numbers come to without repeats is dropped, limits and skips that look
-/// at no item narrow the range, and a short front of it may be enough. Sums, products and negatives that come first are taken by the numbers
-/// themselves.
+/// The text of the value of a body, over a range. A `distinct` that its numbers come to without repeats is dropped, and so are repeats
+/// before a `distinct`; limits and skips that look at no item narrow the range, and a short front of it may be enough. Sums, products and
+/// negatives that come first are taken by the numbers themselves, and the copies of repeats before what cuts are made by their source.
 fn narrowed_value<R: Threads + Sync, H: Gate + Sync>(
     engine: &Engine<'_, R, H>,
     range: RangeSplit,
@@ -106,6 +110,7 @@ fn narrowed_value<R: Threads + Sync, H: Gate + Sync>(
     requires body { NumberBodyFits body }
     ensures { Tells (number_body_told body (⟦<RangeSplit as Spliterator>⟧.items range)) result }
 {
+    drop_repeats(&mut body.stages);
     drop_distincts(&mut body.stages, true);
     let range = narrowed(range, &mut body.stages);
     for size in FRONTS {
@@ -114,5 +119,7 @@ fn narrowed_value<R: Threads + Sync, H: Gate + Sync>(
         }
     }
     let numbers = stepped(range, &mut body.stages);
-    number_value(engine, numbers, Nothing::new(), &body)
+    repeats_first(&mut body.stages);
+    let copies = with_copies(numbers, &mut body.stages);
+    number_value(engine, copies, Nothing::new(), &body)
 }

@@ -4,7 +4,7 @@ use super::rows::{Row, TARGETS_OF_LONG, TWO, all_right, all_right_at};
 use std::test::Fail;
 
 /// The places are near the front, far behind it, at an end of the parts that are counted, and nowhere.
-static RANGES: [Row<'_>; 16] = [
+static RANGES: [Row<'_>; 20] = [
     (
         b"range 0 300000\nfilter divisible 3\nlimit 5000\nsum\n",
         "37492500\n",
@@ -69,6 +69,23 @@ static RANGES: [Row<'_>; 16] = [
         b"range 0 100\nfilter divisible 2\nflatmap repeat 2\nskip 3\nlimit 4\ntakewhile less 4\ntolist\n",
         "[2]\n",
     ),
+    // copies, cut within those of an item
+    (
+        b"range 0 300000\nflatmap repeat 2\nskip 1\nlimit 400001\nsum\n",
+        "40000200000\n",
+    ),
+    (
+        b"range 0 10\nmap mod 20\nflatmap repeat 3\nskip 4\nlimit 7\ntolist\n",
+        "[1, 1, 2, 2, 2, 3, 3]\n",
+    ),
+    (
+        b"range 0 10\nfilter divisible 2\nlimit 3\nflatmap repeat 2\nskip 1\nmap mod 3\nfilter greater 0\ntolist\n",
+        "[2, 2, 1, 1]\n",
+    ),
+    (
+        b"range 0 5\nfilter divisible 1\nlimit 9223372036854775807\nflatmap repeat 2\nskip 7\ntolist\n",
+        "[3, 4, 4]\n",
+    ),
 ];
 
 /// A range that nobody could read to its end: what is decided by its first numbers is answered without the others.
@@ -126,7 +143,7 @@ static ENDLESS: [Row<'_>; 14] = [
     ),
 ];
 
-static LISTS: [Row<'_>; 11] = [
+static LISTS: [Row<'_>; 13] = [
     (
         b"numbers 5 3 8 1 9 2\nfilter greater 2\nlimit 2\ntolist\n",
         "[5, 3]\n",
@@ -170,6 +187,14 @@ static LISTS: [Row<'_>; 11] = [
     (
         b"lines 3\na b\nc\nd e\nflatmap words\nskip 1\nfilter longer 0\nlimit 3\ntolist\n",
         "[b, c, d]\n",
+    ),
+    (
+        b"numbers 5 1 4\nskip 1\nflatmap repeat 2\nflatmap repeat 2\nskip 3\nlimit 3\ntolist\n",
+        "[1, 4, 4]\n",
+    ),
+    (
+        b"numbers 5 1 4 5\nflatmap repeat 0\ndropwhile greater 1\ncount\n",
+        "0\n",
     ),
 ];
 

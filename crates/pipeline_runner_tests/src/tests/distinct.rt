@@ -39,7 +39,7 @@ static RANGES: [Row<'_>; 10] = [
 ];
 
 // What comes to a `distinct` differs anyway, or not quite.
-static DIFFERING: [Row<'_>; 12] = [
+static DIFFERING: [Row<'_>; 15] = [
     (
         b"range 0 30\nfilter divisible 7\ndistinct\nskip 2\ntolist\n",
         "[14, 21, 28]\n",
@@ -88,6 +88,15 @@ static DIFFERING: [Row<'_>; 12] = [
         b"numbers 1 2 1 3 1\nskip 1\ndistinct\ntolist\n",
         "[2, 1, 3]\n",
     ),
+    (
+        b"range 0 6\nmap mod 4\nflatmap repeat 3\ntakewhile less 3\nmap add 1\nflatmap repeat 2\ndistinct\ntolist\n",
+        "[1, 2, 3]\n",
+    ),
+    (
+        b"range 0 6\nflatmap repeat 2\nlimit 5\ndistinct\ntolist\n",
+        "[0, 1, 2]\n",
+    ),
+    (b"range 0 6\nflatmap repeat 0\ndistinct\ncount\n", "0\n"),
 ];
 
 static LISTS: [Row<'_>; 4] = [

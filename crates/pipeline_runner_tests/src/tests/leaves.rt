@@ -181,10 +181,10 @@ fn are_run_by_as_many_workers(rt: HostRuntime) -> Result<(), Fail> {
     Ok(())
 }
 
-// Each barrier keeps the ten items, and stands behind a repeat, so that its items come in a run: each of the six runs has ten leaves. Leaf 0 is held
-// until another worker has ended the other nine.
+// Each barrier keeps the ten items, and stands behind a cut into words, so that its items come in a run: each of the six runs has ten leaves.
+// Leaf 0 is held until another worker has ended the other nine.
 const BARRIERS: &[u8] =
-    b"pipeline 1\nrange 0 10\nflatmap repeat 1\nskip 0\nflatmap repeat 1\ntakewhile less 10\nflatmap repeat 1\ndropwhile less 0\ndistinct\nflatmap repeat 1\nlimit 11\nsum\n";
+    b"pipeline 1\nlines 10\na\nb\nc\nd\ne\nf\ng\nh\ni\nj\nflatmap words\nskip 0\nflatmap words\ntakewhile longer 0\nflatmap words\ndropwhile empty\ndistinct\nflatmap words\nlimit 11\njoining ,\n";
 
 #[test]
 fn are_run_by_two_workers_behind_each_barrier(rt: HostRuntime) -> Result<(), Fail> {

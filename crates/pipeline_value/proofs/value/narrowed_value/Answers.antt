@@ -13,7 +13,8 @@ returns-in-Some g c =
     let whole = c.args.range in
     let first : FitsSigned w64 whole.next = search rules in
     let Q : List ℤ → Type 0 = λ l. Tells (number_told body.terminal l) c.in-Some.told in
-    subst Q (c.narrowed-range.ensures.value ∙ c.drop_distincts.ensures.value (integers whole.next whole.left) (range-told whole.next whole.left first whole.within_type)) c.in-Some.ensures
+    let items = integers whole.next whole.left in
+    subst Q (c.narrowed-range.ensures.value ∙ c.drop_distincts.ensures.value items (range-told whole.next whole.left first whole.within_type) ∙ c.drop_repeats.ensures.value items) c.in-Some.ensures
 
 pub returns : goal.returns
 returns g c =
@@ -22,5 +23,7 @@ returns g c =
     let numbers = c.stepped-numbers.result in
     let items = integers whole.next whole.left in
     let first : FitsSigned w64 whole.next = search rules in
-    narrowed-told body.terminal body.stages.items c.stepped-numbers.new.stages.items items (progression numbers.next numbers.step numbers.left) c.number_value.result
-    (c.stepped-numbers.ensures.value ∙ c.narrowed-range.ensures.value ∙ c.drop_distincts.ensures.value items (range-told whole.next whole.left first whole.within_type)) c.number_value.ensures
+    let stepped = progression numbers.next numbers.step numbers.left in
+    narrowed-told body.terminal body.stages.items c.with_copies-copies.new.stages.items items _ c.number_value.result
+    (c.with_copies-copies.ensures.value ∙ c.repeats_first.ensures.value stepped ∙ c.stepped-numbers.ensures.value ∙ c.narrowed-range.ensures.value
+    ∙ c.drop_distincts.ensures.value items (range-told whole.next whole.left first whole.within_type) ∙ c.drop_repeats.ensures.value items) c.number_value.ensures

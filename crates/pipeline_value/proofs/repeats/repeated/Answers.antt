@@ -1,0 +1,13 @@
+use Rattle.std.proofs.Common.{◌≡◌, drop, take, ap, sym, ◌∙◌}
+use Rattle.std.proofs.lemmas.List.{take-append-drop}
+use Rattle.pipeline_value.specs.Narrowing.{stages-append}
+use Rattle.pipeline_meaning.specs.Stages.{number_stage, number_stages}
+use Rattle.pipeline_value.proofs.repeats.repeated.Goals as goal
+
+pub returns-in-Some-clause-value : goal.returns-in-Some-clause-value
+returns-in-Some-clause-value g c =
+    let stages = c.args.stages.now in
+    let taken = c.first_copies-times.result.1 in
+    let items = g.S.Spliterator.items c.args.source in
+    ap (number_stages (drop taken stages)) (c.in-Some.ensures ∙ sym (c.first_copies-times.ensures.copies items))
+    ∙ sym (stages-append (take taken stages) (drop taken stages) items) ∙ ap (λ s. number_stages s items) (take-append-drop taken stages)
