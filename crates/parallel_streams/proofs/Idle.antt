@@ -1,5 +1,5 @@
 -- A run over lists of which no item counts, told by a run that reads none.
-use Rattle.std.specs.Prelude.{◌≡◌, ◌<◌, ℕ, List, [], ◌∷◌, Option, None, Result, Ok, Err, IfOk, All, count_by, fold, length, slice_index_or, refl}
+use Rattle.std.specs.Prelude.{◌≡◌, ℕ, List, [], ◌∷◌, Option, None, Result, Ok, Err, IfOk, All, count_by, fold, length, slice_index_or, refl}
 use Rattle.std.proofs.Common.{sym, ap, ◌∙◌, subst, append-nil, inl}
 use Rattle.barriers.specs.Needs.{no_item}
 use Rattle.leaf_board.specs.Closing.{Outcome, count_of, cut_of}

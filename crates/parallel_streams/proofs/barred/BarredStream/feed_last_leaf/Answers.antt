@@ -1,4 +1,4 @@
-use Rattle.std.proofs.Common.{◌≡◌, List, [], OnOk, Some, map, flat_map, slice_get, subst, sym, ap, ◌∙◌}
+use Rattle.std.proofs.Common.{◌≡◌, List, OnOk, Some, flat_map, slice_get, subst, sym, ap, ◌∙◌}
 use Rattle.parallel_streams.specs.Cuts.{cut_at}
 use Rattle.parallel_streams.specs.Ends.{ends_of}
 use Rattle.parallel_streams.specs.ProgressLaws.{part-at}

@@ -1,4 +1,4 @@
-use Rattle.std.proofs.Common.{◌≡◌, List, [], OnOk, map, flat_map, subst, sym, ◌∙◌, ap}
+use Rattle.std.proofs.Common.{List, [], OnOk, flat_map, subst, sym, ◌∙◌, ap}
 use Rattle.std.specs.List.{slice_index_or}
 use Rattle.split_tree.specs.Plan.{leaves_of}
 use Rattle.parallel_streams.specs.LeafLaws.{map-both, get-mapped}
