@@ -1,5 +1,4 @@
 -- The short front has the image.
-use Rattle.std.proofs.Common.{◌≡◌}
 use Rattle.pipeline_value.specs.Places.{place-front}
 use Rattle.pipeline_value.proofs.places.place_of.Goals as goal
 
