@@ -1,8 +1,8 @@
 -- Stages that move past the copies that a repeat makes.
-use Rattle.std.specs.Prelude.{◌≡◌, ◌≤◌, ◌<◌, ◌+◌, ◌-◌, All, ℕ, zero, suc, ℤ, Bool, true, false, List, [], ◌∷◌, ◌++◌, flat_map, length, nat_le, take, drop, remove, refl}
+use Rattle.std.specs.Prelude.{◌≡◌, ◌≤◌, ◌<◌, ◌+◌, ◌-◌, ℕ, zero, suc, ℤ, Bool, true, false, List, [], ◌∷◌, flat_map, length, nat_le, take, drop, remove, refl}
 use Rattle.std.specs.List.{slice_index_or, slice_set}
 use Rattle.std.specs.Ordering.{int_eq}
-use Rattle.std.proofs.Common.{ap, ap₂, sym, subst, ◌∙◌, arith, true≢false}
+use Rattle.std.proofs.Common.{ap, ap₂, sym, ◌∙◌, arith, true≢false}
 use Rattle.std.proofs.Math.ListN.{replicate}
 use Rattle.std.proofs.lemmas.Bool.Decides.{nat_tests}
 use Rattle.spliterator.specs.Values.{int_eq-decides}
@@ -12,7 +12,7 @@ use Rattle.pipeline_meaning.specs.Functions.{number_image, number_holds}
 use Rattle.pipeline_meaning.specs.Stages.{number_stage, number_stages}
 use Rattle.pipeline_value.specs.Narrowing.{stage-more, stages-append, stages-parted}
 use Rattle.pipeline_value.specs.Differing.{is_distinct}
-use Rattle.pipeline_value.specs.Copies.{copies-copies, copies-drop, copies-drop_while, copies-filter, copies-map, copies-swap, copies-take, copies-take_while, distinct-copies}
+use Rattle.pipeline_value.specs.Copies.{copies-drop_while, copies-filter, copies-map, copies-swap, copies-take_while, distinct-copies}
 
 -- a repeat that makes at least one copy
 abbrev pub makes_copies : NumberStage → Bool

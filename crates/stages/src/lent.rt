@@ -65,6 +65,10 @@ impl<A: Stage> Stage for &A {
         (**self).prefers_blocks()
     }
 
+    fn prefers_blocks_behind(&self) -> bool {
+        (**self).prefers_blocks_behind()
+    }
+
     fn feed_all<K: Sink<A::Out>>(
         &self,
         items: &mut Vec<A::In>,

@@ -206,6 +206,11 @@ impl<T: OrderedValue + Drop> Stage for Nothing<T> {
         self.by_blocks
     }
 
+    // What comes item by item isn't gathered in blocks for nothing.
+    fn prefers_blocks_behind(&self) -> bool {
+        false
+    }
+
     fn feed_all<K: Sink<T>>(&self, items: &mut Vec<T>, sink: &mut K) -> Result<(), NoMemory> {
         sink.take_all(items)
     }
@@ -264,9 +269,13 @@ impl<A: Stage, B: Stage<In = A::Out>> Stage for Then<A, B> {
         self.first.feed_all(items, &mut onward)
     }
 
-    // The second gets a block only where the first makes one.
+    // Where the second does, a first that passes a block on is no loss.
     fn prefers_blocks(&self) -> bool {
-        self.first.prefers_blocks()
+        self.first.prefers_blocks() || self.second.prefers_blocks_behind()
+    }
+
+    fn prefers_blocks_behind(&self) -> bool {
+        self.first.prefers_blocks_behind() || self.second.prefers_blocks_behind()
     }
 
     fn operation(&self) -> Operation {

@@ -1,4 +1,4 @@
-use Rattle.std.proofs.Common.{◌≡◌, ◌≤◌, ◌+◌, ◌*◌, ◌/◌, List, length, take, drop, map, flat_map, ap, sym, subst, arith, ◌∙◌}
+use Rattle.std.proofs.Common.{◌≡◌, ◌*◌, List, length, take, drop, map, flat_map, ap, sym, subst, arith, ◌∙◌}
 use Rattle.std.specs.Prelude.{OnOk}
 use Rattle.std.proofs.Math.ListN.{replicate}
 use Rattle.std.proofs.lemmas.List.{length-drop}

@@ -1,4 +1,4 @@
-use Rattle.std.proofs.Common.{◌≡◌, ◌*◌, flat_map, take, drop, ap, sym, ◌∙◌}
+use Rattle.std.proofs.Common.{flat_map, take, drop, ap, sym, ◌∙◌}
 use Rattle.std.proofs.Math.ListN.{replicate}
 use Rattle.pipeline_value.specs.Copies.{copies-drop, copies-take}
 use Rattle.pipeline_value.specs.Repeats.{passing}

@@ -1,4 +1,4 @@
-use Rattle.std.proofs.Common.{◌≡◌, ◌*◌, flat_map, rules, arith, ap, sym, ◌∙◌}
+use Rattle.std.proofs.Common.{◌≡◌, ◌*◌, flat_map, rules, arith, ap, ◌∙◌}
 use Rattle.std.proofs.Math.ListN.{replicate}
 use Rattle.pipeline_value.specs.Copies.{copies-copies}
 use Rattle.pipeline_meaning.specs.Stages.{number_stage}

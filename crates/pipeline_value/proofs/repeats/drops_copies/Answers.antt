@@ -1,4 +1,4 @@
-use Rattle.std.proofs.Common.{◌≡◌, ◌<◌, length, sym, ◌∙◌, arith}
+use Rattle.std.proofs.Common.{◌<◌, length, sym, ◌∙◌}
 use Rattle.pipeline_value.specs.Repeats.{drop-at, pass-more}
 use Rattle.pipeline_value.proofs.repeats.drops_copies.Goals as goal
 

@@ -1,4 +1,4 @@
-use Rattle.std.proofs.Common.{◌≡◌, ◌<◌, ◌≤◌, length, take, ap, sym, arith, refl, ◌∙◌}
+use Rattle.std.proofs.Common.{◌<◌, length, take, ap, sym, arith, refl, ◌∙◌}
 use Rattle.std.specs.List.{slice_index_or}
 use Rattle.stages.specs.Passing.{flat_map-one}
 use Rattle.pipeline_value.specs.Narrowing.{stage-more}

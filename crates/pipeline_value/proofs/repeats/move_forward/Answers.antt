@@ -1,5 +1,5 @@
-use Rattle.std.proofs.Common.{◌≡◌, ◌≤◌, ◌<◌, ◌-◌, length, arith, ap, sym, subst, ◌∙◌}
-use Rattle.std.specs.List.{slice_index_or, slice_set}
+use Rattle.std.proofs.Common.{◌≤◌, ◌-◌, arith, sym, subst, ◌∙◌}
+use Rattle.std.specs.List.{slice_set}
 use Rattle.std.proofs.lemmas.List.{length-set}
 use Rattle.std.proofs.lemmas.List.Elements.{All-set}
 use Rattle.pipeline_value.specs.Ranges.{NumberStageFits}

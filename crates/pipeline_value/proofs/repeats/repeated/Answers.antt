@@ -1,7 +1,7 @@
-use Rattle.std.proofs.Common.{◌≡◌, drop, take, ap, sym, ◌∙◌}
+use Rattle.std.proofs.Common.{drop, take, ap, sym, ◌∙◌}
 use Rattle.std.proofs.lemmas.List.{take-append-drop}
 use Rattle.pipeline_value.specs.Narrowing.{stages-append}
-use Rattle.pipeline_meaning.specs.Stages.{number_stage, number_stages}
+use Rattle.pipeline_meaning.specs.Stages.{number_stages}
 use Rattle.pipeline_value.proofs.repeats.repeated.Goals as goal
 
 pub returns-in-Some-clause-value : goal.returns-in-Some-clause-value

@@ -1,4 +1,4 @@
-use Rattle.std.proofs.Common.{◌≡◌, ◌≤◌, drop, length}
+use Rattle.std.proofs.Common.{◌≡◌, drop}
 use Rattle.pipeline_value.proofs.repeats.take_off.Given as goal
 
 abbrev pub invariant-loop-stage : goal.invariant-loop-stage

@@ -1,4 +1,4 @@
-use Rattle.std.proofs.Common.{◌≡◌, ◌*◌, ap, arith, rules, flat_map, length}
+use Rattle.std.proofs.Common.{◌≡◌, ◌*◌, ap, arith, rules, flat_map}
 use Rattle.std.proofs.Math.ListN.{replicate}
 use Rattle.std.proofs.lemmas.List.{take_all}
 use Rattle.pipeline_value.specs.Copies.{copies-count}

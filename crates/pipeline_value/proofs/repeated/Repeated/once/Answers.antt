@@ -1,5 +1,4 @@
-use Rattle.std.proofs.Common.{◌≡◌, ap, arith, ◌∙◌, flat_map, length, take}
-use Rattle.std.proofs.Math.ListN.{replicate}
+use Rattle.std.proofs.Common.{ap, arith, ◌∙◌, take}
 use Rattle.std.proofs.lemmas.List.{take_all}
 use Rattle.stages.specs.Passing.{flat_map-one}
 use Rattle.pipeline_value.proofs.repeated.Repeated.once.Goals as goal

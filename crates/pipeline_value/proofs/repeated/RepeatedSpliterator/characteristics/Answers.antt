@@ -1,4 +1,4 @@
-use Rattle.std.proofs.Common.{◌≡◌, ap, sym, arith, ◌∙◌, length}
+use Rattle.std.proofs.Common.{◌≡◌, ap, sym, arith, ◌∙◌}
 use Rattle.std.proofs.lemmas.Bool.Decides.{nat_tests}
 use Rattle.sources.specs.Halves.{told_by_count}
 use Rattle.pipeline_value.proofs.RepeatedItems.{count-left}

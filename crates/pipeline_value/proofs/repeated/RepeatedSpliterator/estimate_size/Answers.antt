@@ -1,4 +1,4 @@
-use Rattle.std.proofs.Common.{◌≡◌, ap, sym, arith, rules, ◌∙◌, min}
+use Rattle.std.proofs.Common.{◌≡◌, ap, sym, rules, ◌∙◌}
 use Rattle.sources.specs.Halves.{capped_count}
 use Rattle.pipeline_value.proofs.RepeatedItems.{count-left}
 use Rattle.pipeline_value.proofs.repeated.RepeatedSpliterator.estimate_size.Goals as goal

@@ -1,4 +1,4 @@
-use Rattle.std.proofs.Common.{◌≡◌, ◌≤◌, ◌<◌, ◌+◌, ◌-◌, ◌*◌, length, take, drop, map, flat_map, ap, sym, arith, rules, ◌∙◌, min}
+use Rattle.std.proofs.Common.{◌≡◌, ◌+◌, ◌-◌, length, take, drop, flat_map, ap, sym, arith, rules, ◌∙◌, min}
 use Rattle.std.proofs.Math.ListN.{replicate}
 use Rattle.std.proofs.lemmas.List.{length-map}
 use Rattle.pipeline_value.proofs.RepeatedItems.{block-moved, count-left}

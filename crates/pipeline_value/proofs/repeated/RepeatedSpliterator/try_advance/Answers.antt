@@ -1,4 +1,4 @@
-use Rattle.std.proofs.Common.{◌≡◌, ◌≤◌, [], ◌∷◌, ap, sym, subst, arith, ◌∙◌}
+use Rattle.std.proofs.Common.{sym, arith, ◌∙◌}
 use Rattle.pipeline_value.proofs.RepeatedItems.{next-copy, no-copy}
 use Rattle.pipeline_value.proofs.repeated.RepeatedSpliterator.try_advance.Goals as goal
 

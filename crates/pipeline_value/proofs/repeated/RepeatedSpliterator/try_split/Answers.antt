@@ -1,4 +1,4 @@
-use Rattle.std.proofs.Common.{◌≡◌, ◌≤◌, ◌/◌, ◌+◌, ◌-◌, take, drop, flat_map, length, ap, sym, arith, ◌∙◌}
+use Rattle.std.proofs.Common.{◌/◌, take, drop, flat_map, ap, sym, arith, ◌∙◌}
 use Rattle.std.proofs.Math.ListN.{replicate}
 use Rattle.std.proofs.lemmas.List.{take-take}
 use Rattle.pipeline_value.proofs.RepeatedItems.{count-left, window-left}
