@@ -7,7 +7,7 @@ use Rattle.std.proofs.lemmas.Option.{get_or_from_slice_get}
 use Rattle.barriers.specs.Needs.{Reaches, every_item}
 use Rattle.barriers.specs.NeedLaws.{count-every_item}
 use Rattle.leaf_board.specs.Case.{IsLawful, sum_below}
-use Rattle.stealing_pool.specs.Fronts.{full_count, joined, lists_of}
+use Rattle.stealing_pool.specs.Spans.{full_count, joined, lists_of}
 use Rattle.stealing_pool.specs.Reports.{Reported}
 use Rattle.stealing_pool.specs.SpanLaws.{joined-lists_of, sum-counts}
 use Rattle.fused_runs.specs.Places.{IsPlace, images_before, parts, place-behind, place-front}

@@ -6,7 +6,7 @@ ghost use Rattle.spliterator.specs.Clones.{ClonesAlike};
 ghost use Rattle.stages.specs.Distinct.{distinct};
 ghost use Rattle.parallel_streams.specs.Leaves.{ArePlanned};
 ghost use Rattle.split_tree.specs.Plan.{leaves_of, tree_of};
-ghost use Rattle.stealing_pool.specs.Fronts.{IsFront, folding};
+ghost use Rattle.leaf_reading.specs.Fronts.{IsFront, folding};
 
 use crate::distinct_items::DistinctItems;
 use crate::engine::Engine;

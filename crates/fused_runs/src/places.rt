@@ -6,7 +6,7 @@ ghost use Rattle.leaf_board.specs.Closing.{count_of, cut_of};
 ghost use Rattle.parts.specs.AtMostOne.{GivesAtMostOne};
 ghost use Rattle.fused_runs.specs.Places.{IsLeafPlace, IsPlace, PlaceOrFewer};
 ghost use Rattle.split_tree.specs.Plan.{leaves_of};
-ghost use Rattle.stealing_pool.specs.Fronts.{full_count, lists_of};
+ghost use Rattle.stealing_pool.specs.Spans.{full_count, lists_of};
 ghost use Rattle.stealing_pool.specs.Reports.{Reports};
 
 use crate::engine::Engine;

@@ -6,7 +6,8 @@ use Rattle.barriers.specs.Needs.{KeepsEnough}
 use Rattle.barriers.specs.NeedLaws.{value-front}
 use Rattle.collectors.specs.NestedLaws.{push, listed}
 use Rattle.leaf_board.specs.Closing.{Outcome, count_of, cut_of}
-use Rattle.stealing_pool.specs.Fronts.{folding, joined, work_of}
+use Rattle.leaf_reading.specs.Fronts.{folding}
+use Rattle.stealing_pool.specs.Spans.{joined, work_of}
 use Rattle.stealing_pool.specs.Jobs.{Work, StandsForRun}
 use Rattle.stealing_pool.specs.Reports.{Reports}
 use Rattle.stealing_pool.specs.SpanLaws.{run-front}

@@ -4,7 +4,7 @@ use Rattle.std.proofs.Common.{sym, ap, ap₂, ◌∙◌, subst, arith, ⊎_elim}
 use Rattle.std.proofs.lemmas.List.{take-append-drop}
 use Rattle.barriers.specs.Needs.{KeepsEnough, IsEnough, Reaches}
 use Rattle.leaf_board.specs.Closing.{Outcome, count_of, cut_of}
-use Rattle.stealing_pool.specs.Fronts.{joined, full_count}
+use Rattle.stealing_pool.specs.Spans.{joined, full_count}
 use Rattle.stealing_pool.specs.Reports.{Reported, Reports}
 use Rattle.stealing_pool.specs.SpanLaws.{joined-append, sum-counts}
 use Rattle.parallel_streams.specs.Reports.{IsHarmless, IsEntryOf}

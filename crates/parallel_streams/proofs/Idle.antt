@@ -3,7 +3,8 @@ use Rattle.std.specs.Prelude.{◌≡◌, ℕ, List, [], ◌∷◌, Option, None,
 use Rattle.std.proofs.Common.{sym, ap, ◌∙◌, subst, append-nil, inl}
 use Rattle.barriers.specs.Needs.{no_item}
 use Rattle.leaf_board.specs.Closing.{Outcome, count_of, cut_of}
-use Rattle.stealing_pool.specs.Fronts.{folding, full_count, joined}
+use Rattle.leaf_reading.specs.Fronts.{folding}
+use Rattle.stealing_pool.specs.Spans.{full_count, joined}
 use Rattle.stealing_pool.specs.Reports.{Reported, Reports}
 use Rattle.parallel_streams.specs.Cuts.{cut_at, length-cut_at}
 use Rattle.parallel_streams.specs.Reports.{IsRunOver}

@@ -2,7 +2,7 @@
 use Rattle.std.specs.Prelude.{◌≡◌, ◌<◌, ◌+◌, ℕ, zero, suc, List, [], ◌∷◌, ◌++◌, map, flat_map, length, take, slice_index_or, refl}
 use Rattle.std.proofs.Common.{sym, ap, ◌∙◌, subst, append-nil, append_assoc, arith}
 use Rattle.stages.specs.Appends.{Appends, append-append}
-use Rattle.stealing_pool.specs.Fronts.{joined}
+use Rattle.stealing_pool.specs.Spans.{joined}
 use Rattle.parallel_streams.specs.LeafLaws.{map-alone}
 
 joined-one : {C : Type 0} (i : ℕ) (lists : List (List C)) → i < length lists → joined (take (suc i) lists) ≡ joined (take i lists) ++ slice_index_or lists i []

@@ -3,7 +3,7 @@ use Rattle.std.specs.Prelude.{◌≡◌, ◌≤◌, ◌+◌, ◌-◌, ◌<◌, �
 use Rattle.std.proofs.Common.{sym, ap, ap₂, ◌∙◌, arith}
 use Rattle.std.proofs.lemmas.List.{take-append-drop, length-drop}
 use Rattle.std.proofs.lemmas.List.{take-map, drop-map}
-use Rattle.stealing_pool.specs.Fronts.{joined}
+use Rattle.stealing_pool.specs.Spans.{joined}
 use Rattle.parallel_streams.specs.LeafLaws.{drop-more}
 
 -- each place is at least the one before it, and the last is the end

@@ -3,7 +3,7 @@ use Rattle.std.specs.Prelude.{◌≡◌, ◌+◌, ℕ, zero, suc, List, [], ◌�
 use Rattle.std.proofs.Common.{sym, ap, ◌∙◌, arith}
 use Rattle.std.proofs.lemmas.List.{length-map}
 use Rattle.std.proofs.lemmas.List.Concat.{flat_map-append}
-use Rattle.stealing_pool.specs.Fronts.{joined}
+use Rattle.stealing_pool.specs.Spans.{joined}
 
 -- a stage's items through another are the items through both
 flat_map-fused : {A B C : Type 0} (f : A → List B) (g : B → List C) (l : List A) → flat_map (λ x. flat_map g (f x)) l ≡ flat_map g (flat_map f l)

@@ -2,8 +2,8 @@
 use Rattle.std.specs.Prelude.{◌≡◌, ◌+◌, ℕ, Bool, true, false, List, [], Option, Some, None, Result, Ok, Err, map, length}
 use Rattle.stealing_pool.specs.Jobs.{Work}
 use Rattle.leaf_board.specs.Closing.{Outcome}
-use Rattle.stealing_pool.specs.declared.job.LeafEnd.{LeafEnd}
-use Rattle.stealing_pool.specs.declared.job.LeafEnd.TheVariants.{Done, Cut}
+use Rattle.leaf_reading.specs.declared.leaf_end.LeafEnd.{LeafEnd}
+use Rattle.leaf_reading.specs.declared.leaf_end.LeafEnd.TheVariants.{Done, Cut}
 use Rattle.parallel_streams.specs.Cuts.{Ascends, cut_at}
 use Rattle.parallel_streams.specs.Ends.{ends_of}
 use Rattle.parallel_streams.specs.Leaves.{AreLeafEnds}

@@ -3,10 +3,11 @@ use Rattle.std.specs.Prelude.{◌≡◌, ◌<◌, ◌+◌, ◌++◌, ℕ, Bool, 
 use Rattle.std.proofs.Common.{sym, ap, ◌∙◌, subst, arith, true≢false}
 use Rattle.std.proofs.lemmas.List.{length-map}
 use Rattle.stealing_pool.specs.Jobs.{Work, Combines, StandsForRun, EndsLeaf}
-use Rattle.stealing_pool.specs.declared.job.LeafEnd.{LeafEnd}
-use Rattle.stealing_pool.specs.declared.job.LeafEnd.TheVariants.{Done, Cut}
+use Rattle.leaf_reading.specs.declared.leaf_end.LeafEnd.{LeafEnd}
+use Rattle.leaf_reading.specs.declared.leaf_end.LeafEnd.TheVariants.{Done, Cut}
 use Rattle.leaf_board.specs.Closing.{Outcome}
-use Rattle.stealing_pool.specs.Fronts.{Folding, Folds, joined, work_of}
+use Rattle.leaf_reading.specs.Fronts.{Folding, Folds}
+use Rattle.stealing_pool.specs.Spans.{joined, work_of}
 use Rattle.stealing_pool.specs.SpanLaws.{spans-combine}
 use Rattle.parallel_streams.specs.LeafLaws.{map-both, get-mapped}
 use Rattle.parallel_streams.specs.Cuts.{cut_at, cut_at-map, joined-cut_at, length-cut_at}

@@ -3,7 +3,8 @@ use Rattle.std.specs.Prelude.{◌≡◌, ◌<◌, ◌≢◌, ℕ, Bool, List, []
 use Rattle.barriers.specs.Needs.{no_item}
 use Rattle.leaf_board.specs.Closing.{Outcome, count_of, cut_of}
 use Rattle.stealing_pool.specs.Reports.{Reports}
-use Rattle.stealing_pool.specs.Fronts.{Folding, IsFront, joined, full_count}
+use Rattle.leaf_reading.specs.Fronts.{Folding, IsFront}
+use Rattle.stealing_pool.specs.Spans.{joined, full_count}
 
 -- other lists of the same leaves, which differ at leaves with no count alone
 pub record ReplacesSkipped {T : Type 0} (count : ℕ → Option ℕ) (lists others : List (List T)) : Type 0 where

@@ -2,7 +2,8 @@
 ghost use Rattle.std.specs.Prelude.{[], map};
 ghost use Rattle.spliterator.specs.Clones.{ClonesAlike};
 ghost use Rattle.collectors.specs.NestedLaws.{push};
-ghost use Rattle.stealing_pool.specs.Fronts.{folding, work_of};
+ghost use Rattle.leaf_reading.specs.Fronts.{folding};
+ghost use Rattle.stealing_pool.specs.Spans.{work_of};
 ghost use Rattle.parallel_streams.specs.Leaves.{IsCutList};
 ghost use Rattle.parallel_streams.specs.Reports.{IsEntryOf, IsReport};
 ghost use Rattle.stages.specs.Flags.{after};
@@ -13,12 +14,13 @@ use crate::places::Places;
 use barriers::{Barrier, Demand, Need};
 use collectors::{Collector, ToList, combine_containers};
 use leaf_board::Handout;
+use leaf_reading::{LeafEnd, feed_whole, run_leaf};
 use sources::SliceSplit;
 use split_tree::Tree;
 use spliterator::NoMemory;
 use stages::{Nothing, Sink, Stage, StreamFlags};
 use std::alloc::Global;
-use stealing_pool::{LeafEnd, RunEntry, feed_whole, run_leaf};
+use stealing_pool::RunEntry;
 
 /// A stream's items through a barrier. A clone of an item must have the item's content: that is part of what the stream relies on.
 ///

@@ -1,7 +1,8 @@
 //! All the runs of a stream, one after another, each on the workers.
 ghost use Rattle.std.specs.Prelude.{◌≡◌, ℕ, List, None, true, false, IfOk};
 ghost use Rattle.barriers.specs.Needs.{no_item};
-ghost use Rattle.stealing_pool.specs.Fronts.{folding, work_of, joined};
+ghost use Rattle.leaf_reading.specs.Fronts.{folding};
+ghost use Rattle.stealing_pool.specs.Spans.{work_of, joined};
 ghost use Rattle.leaf_board.specs.Closing.{Outcome};
 ghost use Rattle.parallel_streams.specs.Reports.{IsReport, IsRunOver};
 ghost use Rattle.parallel_streams.specs.Runs.{IsLawfulRun};
@@ -11,11 +12,12 @@ use crate::{Run, Stream};
 use barriers::{Demand, Need, Whole};
 use collectors::{Collector, combine_containers};
 use leaf_board::Handout;
+use leaf_reading::LeafEnd;
 use spliterator::NoMemory;
 use stages::Nothing;
 use std::alloc::Global;
 use std::thread::Threads;
-use stealing_pool::{Gate, LeafEnd, LeafJob, RunEntry, run_job};
+use stealing_pool::{Gate, LeafJob, RunEntry, run_job};
 
 // The run of the next barrier.
 #[derive(Drop)]

@@ -1,7 +1,7 @@
 //! A barrier's list that a collector keeps as it stands.
 ghost use Rattle.std.specs.Prelude.{◌≡◌, ◌≤◌, [], true, None, IfOk, length, map};
 ghost use Rattle.split_tree.specs.SplitTree.{leaf_numbers, numbers_from};
-ghost use Rattle.stealing_pool.specs.Fronts.{joined};
+ghost use Rattle.stealing_pool.specs.Spans.{joined};
 ghost use Rattle.collectors.specs.Laws.{IsContainerOf};
 ghost use Rattle.leaf_board.specs.Closing.{count_of, cut_of};
 ghost use Rattle.stealing_pool.specs.Reports.{Reports};
@@ -14,12 +14,13 @@ use crate::places::Places;
 use barriers::Need;
 use collectors::{Collector, fold_owned};
 use leaf_board::Handout;
+use leaf_reading::{LeafEnd, Portion};
 use split_tree::Tree;
 use spliterator::NoMemory;
 use stages::Nothing;
 use std::alloc::Global;
 use std::thread::Threads;
-use stealing_pool::{Gate, LeafEnd, LeafJob, NoGate, Portion, RunEntry, run_job};
+use stealing_pool::{Gate, LeafJob, NoGate, RunEntry, run_job};
 
 // The run of so many leaves that read nothing.
 #[derive(Drop)]

@@ -5,8 +5,8 @@ ghost use Rattle.parallel_streams.specs.declared.part.Part.TheVariants.{Before a
 
 use crate::places::Places;
 use collectors::Pieces;
+use leaf_reading::{LeafEnd, Portion};
 use spliterator::NoMemory;
-use stealing_pool::{LeafEnd, Portion};
 
 /// The value of a barrier: its items, and how they are cut into the leaves of the next run.
 #[derive(Drop)]

@@ -5,11 +5,12 @@ use crate::Stream;
 use barriers::{Demand, Need};
 use collectors::Collector;
 use leaf_board::Handout;
+use leaf_reading::{LeafEnd, Portion, feed_whole, run_leaf};
 use split_tree::{Plan, PlanError, Tree};
 use spliterator::{NoMemory, Spliterator};
 use stages::{Sink, Stage, StreamFlags};
 use std::alloc::Global;
-use stealing_pool::{LeafEnd, Portion, RunEntry, feed_whole, run_leaf};
+use stealing_pool::RunEntry;
 
 /// The items of a source.
 #[derive(Drop)]

@@ -8,11 +8,12 @@ use crate::Stream;
 use barriers::{Demand, Need};
 use collectors::Collector;
 use leaf_board::Handout;
+use leaf_reading::LeafEnd;
 use split_tree::Tree;
 use spliterator::NoMemory;
 use stages::{Sink, Stage, StreamFlags, Then};
 use std::alloc::Global;
-use stealing_pool::{LeafEnd, RunEntry};
+use stealing_pool::RunEntry;
 
 /// A stream's items through a stateless stage.
 #[derive(Drop)]

@@ -8,7 +8,8 @@ ghost use Rattle.stages.specs.Flags.{IsSound};
 ghost use Rattle.stealing_pool.specs.Jobs.{Work, EndsLeaf, Combines, StandsForRun};
 ghost use Rattle.leaf_board.specs.Closing.{Outcome, count_of, cut_of};
 ghost use Rattle.stealing_pool.specs.Reports.{Reports};
-ghost use Rattle.stealing_pool.specs.Fronts.{joined, folding, work_of};
+ghost use Rattle.stealing_pool.specs.Spans.{joined, work_of};
+ghost use Rattle.leaf_reading.specs.Fronts.{folding};
 ghost use Rattle.spliterator.specs.Clones.{ClonesAlike};
 ghost use Rattle.stages.specs.Operators.{IsAssociative};
 ghost use Rattle.stages.specs.Wrapping.{wrapped};
@@ -34,6 +35,7 @@ use barriers::{Demand, Distinct, DropWhile, FirstHit, Limit, Need, Skip, TakeWhi
 use collectors::{Collector, Counting, First, Reducing, ToMapStrict};
 use indexmap::IndexMap;
 use leaf_board::Handout;
+use leaf_reading::LeafEnd;
 use split_tree::Tree;
 use spliterator::{NoMemory, OrderedValue};
 use stages::{Filter, FlatMap, ListValue, Map, Mapping, Operator, Sink, Stage, StreamFlags, Test};
@@ -41,7 +43,7 @@ use std::alloc::Global;
 use std::hash::Hash;
 use std::marker::PhantomData;
 use std::thread::Threads;
-use stealing_pool::{Gate, LeafEnd, RunEntry, RunReport};
+use stealing_pool::{Gate, RunEntry, RunReport};
 
 /// A list of items that nobody has read yet: a source, and the operations that its items go through.
 ///

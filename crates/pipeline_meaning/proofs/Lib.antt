@@ -1,5 +1,4 @@
 pub mod Blocks
 pub mod Copies
 pub mod NumberFronts
-pub mod Separated
 pub mod TextFronts

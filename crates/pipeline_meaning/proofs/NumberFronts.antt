@@ -3,6 +3,7 @@ use Rattle.std.specs.Prelude.{◌≡◌, ℕ, zero, suc, ℤ, Bool, true, false,
 use Rattle.std.proofs.Common.{ap, ap₂, ◌∙◌, sym, subst, append-nil}
 use Rattle.std.proofs.Math.ListN.{replicate}
 use Rattle.std.specs.List.{list_all}
+use Rattle.std.proofs.Math.Bool.{and-true, and-false, and_assoc}
 use Rattle.std.proofs.lemmas.List.Folds.{list_all-append}
 use Rattle.stages.specs.Passing.{flat_map-flat_map, flat_map-one}
 use Rattle.pipeline_language.specs.declared.pipeline.NumberFunction.{NumberFunction}
@@ -83,20 +84,11 @@ repeat-behind steps repeats n l =
 
 maps-behind : (steps : List NumberStep) (repeats : List ℕ) (step : NumberStep) → are_maps (steps ++ step ∷ []) repeats ≡ (are_maps steps repeats && is_map_step step)
 maps-behind steps repeats step =
-    ap (λ b. is_none repeats && b) (list_all-append is_map_step steps (step ∷ [])) ∙ turned (is_none repeats) (list_all is_map_step steps) (is_map_step step)
-  where
-    turned : (a b c : Bool) → (a && (b && (c && true))) ≡ ((a && b) && c)
-    turned true true true = refl
-    turned true true false = refl
-    turned true false c = refl
-    turned false b c = refl
+    ap (λ b. is_none repeats && b) (list_all-append is_map_step steps (step ∷ []) ∙ ap (λ b. list_all is_map_step steps && b) (and-true (is_map_step step)))
+    ∙ sym (and_assoc (is_none repeats) (list_all is_map_step steps) (is_map_step step))
 
 repeats-end : (steps : List NumberStep) (repeats : List ℕ) (n : ℕ) → are_maps steps (repeats ++ n ∷ []) ≡ (are_maps steps repeats && false)
-repeats-end steps [] n = none (list_all is_map_step steps)
-  where
-    none : (b : Bool) → false ≡ (b && false)
-    none true = refl
-    none false = refl
+repeats-end steps [] n = sym (and-false (list_all is_map_step steps))
 repeats-end steps (m ∷ repeats) n = refl
 
 -- The three stages that are no barriers.

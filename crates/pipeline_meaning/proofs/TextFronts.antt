@@ -1,6 +1,7 @@
 -- Prepared stages over texts, and words of texts.
 use Rattle.std.specs.Prelude.{◌≡◌, ◌≤◌, ◌+◌, ◌==◌, ◌&&◌, ⊤, ℕ, Bool, true, false, List, [], ◌∷◌, ◌++◌, Option, Some, None, MatchOption, filter, flat_map, length, refl}
 use Rattle.std.proofs.Common.{Bor, arith, lit<, ap, ap₂, sym, subst, ◌∙◌, length-append}
+use Rattle.std.proofs.Math.Bool.{and-true}
 use Rattle.std.proofs.lemmas.List.Folds.{list_all-append}
 use Rattle.std.proofs.lemmas.List.Splits.{slice_split_first, slice_split_none}
 use Rattle.std.proofs.lemmas.List.Sums.{fails_before_first}
@@ -58,9 +59,5 @@ pub step-follows : (old new : TextSteps) (step : TextStep) (stage : TextStage) �
     → IsStep text_step_images text_stage is_map_step is_text_map step stage → Follows stage old new
 step-follows old new step stage more is = (
   λ l. ap (λ s. flat_map (text_images s) l) more ∙ all-one-more text_step_images old.steps.items step l ∙ is.0 (flat_map (text_images old.steps.items) l),
-  ap only_maps more ∙ list_all-append is_map_step old.steps.items (step ∷ []) ∙ ap (λ b. only_maps old.steps.items && b) (all-last (is_map_step step) ∙ is.1),
+  ap only_maps more ∙ list_all-append is_map_step old.steps.items (step ∷ []) ∙ ap (λ b. only_maps old.steps.items && b) (and-true (is_map_step step) ∙ is.1),
 )
-  where
-    all-last : (b : Bool) → (b && true) ≡ b
-    all-last true = refl
-    all-last false = refl

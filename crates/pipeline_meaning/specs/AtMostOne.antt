@@ -1,8 +1,8 @@
 -- The language's steps that give no item more than one image.
-use Rattle.std.specs.Prelude.{◌≡◌, ◌≤◌, ℕ, Bool, true, false, ◌&&◌, List, [], ◌∷◌, length, refl}
+use Rattle.std.specs.Prelude.{◌≡◌, ◌≤◌, ℕ, Bool, true, List, [], ◌∷◌, length}
 use Rattle.std.proofs.Common.{ap, sym, arith, true≢false}
 use Rattle.std.specs.List.{list_all}
-use Rattle.parts.specs.AtMostOne.{GivesAtMostOne, kept-few, then-few}
+use Rattle.parts.specs.AtMostOne.{GivesAtMostOne, kept-few, then-few, both-few}
 use Rattle.stages.specs.Passing.{flat_map-one}
 use Rattle.pipeline_meaning.specs.Prepared.{check_holds}
 use Rattle.pipeline_meaning.specs.Walks.{images_after}
@@ -20,16 +20,7 @@ pub after-few : {S A : Type 0} (images : S → A → List A) (is_few : S → Boo
     → (steps : List S) → list_all is_few steps ≡ true → GivesAtMostOne (images_after images steps)
 after-few images is_few each [] all x = omega arith
 after-few images is_few each (step ∷ steps) all x =
-    then-few (images step) (images_after images steps) (each step (and-left (is_few step) (list_all is_few steps) all))
-    (after-few images is_few each steps (and-right (is_few step) (list_all is_few steps) all)) x
-  where
-    and-left : (a b : Bool) → (a && b) ≡ true → a ≡ true
-    and-left true b h = refl
-    and-left false b h = h
-
-    and-right : (a b : Bool) → (a && b) ≡ true → b ≡ true
-    and-right true b h = h
-    and-right false b h = absurd (true≢false (sym h))
+    both-few (images step) (images_after images steps) (is_few step) (list_all is_few steps) (each step) (after-few images is_few each steps) all x
 
 step-few : (step : NumberStep) → GivesAtMostOne (number_step_images step)
 step-few (Map f) x = omega arith

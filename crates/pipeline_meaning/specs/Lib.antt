@@ -7,8 +7,6 @@ pub mod PreparedLaws
 pub mod Rows
 pub mod Stages
 pub mod Summaries
-pub mod SummaryLaws
 pub mod TextSteps
-pub mod Texts
 pub mod WalkLaws
 pub mod Walks

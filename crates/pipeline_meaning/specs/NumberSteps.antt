@@ -4,6 +4,7 @@ use Rattle.std.proofs.Math.ListN.{replicate}
 use Rattle.std.proofs.Common.{sym, ◌∙◌, true≢false}
 use Rattle.std.specs.List.{list_all}
 use Rattle.std.specs.declared.cmp.Ordering.{Ordering}
+use Rattle.std.proofs.lemmas.List.Sums.{AllPass-from_list_all}
 use Rattle.stages.specs.Flags.{KeepsSound}
 use Rattle.stages.specs.Passing.{flat_map-one}
 use Rattle.pipeline_language.specs.declared.pipeline.NumberStage.{NumberStage}
@@ -63,7 +64,7 @@ map-one (Map f) h x = refl
 map-one (Filter p) h x = absurd (true≢false (sym h))
 
 all-one : (steps : List NumberStep) (repeats : List ℕ) → are_maps steps repeats ≡ true → (x : ℤ) → images_of steps repeats x ≡ one_after_other map_image steps x ∷ []
-all-one steps [] h x = flat_map-one (steps_images steps x) ∙ one-image number_step_images is_map_step map_image map-one steps h x
+all-one steps [] h x = flat_map-one (steps_images steps x) ∙ one-image number_step_images is_map_step map_image map-one steps (AllPass-from_list_all is_map_step steps h) x
 all-one steps (n ∷ repeats) h x = absurd (true≢false (sym h))
 
 pub KeepsSound-number_steps : (order : ℤ → ℤ → Ordering) (s : NumberSteps) → KeepsSound order order (row_of (only_maps s)) (size_of (only_maps s)) (flat_map (number_images s))

@@ -1,12 +1,9 @@
 -- What the language's collectors make of a list, as text: numbers as they are, texts as their bytes.
-use Rattle.std.specs.Prelude.{ℕ, ℤ, pos, Bool, List, [], map, filter, length, bytes_eq}
+use Rattle.std.specs.Prelude.{ℕ, ℤ, pos, List, map, filter, length, bytes_eq}
 use Rattle.std.specs.Fmt.{signed_decimal}
-use Rattle.std.specs.Option.{option_map_or}
 use Rattle.std.specs.Ordering.{int_eq, int_cmp}
 use Rattle.stages.specs.Choices.{larger, smaller}
 use Rattle.stages.specs.Wrapping.{wrapped}
-use Rattle.collectors.specs.Grouping.{groups}
-use Rattle.collectors.specs.NestedLaws.{fails}
 use Rattle.collectors.specs.Reductions.{reduced, first, delimited}
 use Rattle.collectors.specs.Sums.{int_sum}
 use Rattle.pipeline_language.specs.declared.pipeline.NumberBase.{NumberBase}
@@ -24,28 +21,7 @@ use Rattle.pipeline_language.specs.declared.pipeline.TextSummary.TheVariants as 
 use Rattle.pipeline_language.specs.declared.pipeline.TextFunction.{TextFunction}
 use Rattle.pipeline_language.specs.declared.pipeline.TextFunction.TheVariants.{Length, Itself}
 use Rattle.pipeline_meaning.specs.Functions.{number_image, number_holds, text_length, text_holds}
-use Rattle.pipeline_meaning.specs.Texts.{optional_text, list_text, map_text, partition_text}
-
--- a text, as it stands
-abbrev pub itself : List ℕ → List ℕ
-itself text = text
-
--- Each distinct key, in the order of the first items, with the text of its items. java.util.stream.Collectors, groupingBy.
-abbrev pub groups_text : {X K : Type 0} → (K → List ℕ) → (K → K → Bool) → (X → K) → (List X → List ℕ) → List X → List ℕ
-groups_text key_text same key text l = map_text key_text itself (groups same key text l)
-
--- The text of the items that fail the test, and of those that pass. java.util.stream.Collectors, partitioningBy.
-abbrev pub parts_text : {X : Type 0} → (X → Bool) → (List X → List ℕ) → List X → List ℕ
-parts_text test text l = partition_text (text (filter (fails test) l)) (text (filter test l))
-
--- Each distinct key, in the order of the first items, with its items' values merged from left to right.
--- java.util.stream.Collectors, toMap with a merge function.
-abbrev pub merged_text : {X K V : Type 0} → (K → List ℕ) → (V → List ℕ) → (K → K → Bool) → (X → K) → (X → V) → (V → V → V) → List X → List ℕ
-merged_text key_text value_text same key value join l = groups_text key_text same key (λ items. option_map_or value_text (reduced join (map value items)) []) l
-
--- Each item's key with its value, in the order of the items, where no key comes twice. java.util.stream.Collectors, toMap by two functions.
-abbrev pub strict_text : {X K V : Type 0} → (K → List ℕ) → (V → List ℕ) → (X → K) → (X → V) → List X → List ℕ
-strict_text key_text value_text key value l = map_text key_text value_text (map (λ x. (key x, value x)) l)
+use Rattle.value_text.specs.Texts.{itself, optional_text, list_text, groups_text}
 
 -- java.util.stream.Collectors: counting, summingLong, maxBy, minBy, toList; java.util.stream.Stream, findFirst
 abbrev pub number_base_text : NumberBase → List ℤ → List ℕ

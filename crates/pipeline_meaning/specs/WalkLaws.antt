@@ -1,12 +1,14 @@
 -- Why a walk over prepared steps is what the stages make of a list.
-use Rattle.std.specs.Prelude.{◌≡◌, ◌≤◌, ◌<◌, ◌-◌, ◌+◌, ◌&&◌, ℕ, Bool, true, false, MatchBool, List, [], ◌∷◌, ◌++◌, flat_map, length, take, refl}
-use Rattle.std.proofs.Common.{ap, ap₂, ◌∙◌, sym, subst, arith, append-nil, get_or, true≢false}
+use Rattle.std.specs.Prelude.{◌≡◌, ◌≤◌, ◌<◌, ◌-◌, ◌+◌, ◌&&◌, ℕ, Bool, true, false, List, [], ◌∷◌, ◌++◌, flat_map, length, take, refl}
+use Rattle.std.proofs.Common.{ap, ◌∙◌, sym, subst, arith, append-nil, get_or}
 use Rattle.std.proofs.Math.ListN.{replicate}
-use Rattle.std.specs.List.{list_all}
+use Rattle.std.specs.List.{list_all, AllPass}
 use Rattle.std.specs.declared.cmp.Ordering.{Ordering}
 use Rattle.std.proofs.lemmas.List.{replicate-append-replicate, take_more}
 use Rattle.std.proofs.lemmas.List.Concat.{flat_map-append}
-use Rattle.std.proofs.lemmas.List.Folds.{list_all-append}
+use Rattle.std.proofs.lemmas.List.Elements.{All-head, All-tail}
+use Rattle.std.proofs.lemmas.List.Folds.{list_all_more}
+use Rattle.std.proofs.lemmas.List.Sums.{AllPass-from_list_all}
 use Rattle.stages.specs.declared.flags.Operation.TheVariants.{Map as map_row}
 use Rattle.stages.specs.Flags.{KeepsSound, IsSound, after}
 use Rattle.stages.specs.FlagLaws.{KeepsSound-map, KeepsSound-flat_map}
@@ -16,8 +18,7 @@ use Rattle.pipeline_meaning.specs.Walks.{one_after_other, images_after}
 
 -- the same images of each item
 pub flat_map-same : {A B : Type 0} (f g : A → List B) → ((x : A) → f x ≡ g x) → (l : List A) → flat_map f l ≡ flat_map g l
-flat_map-same f g h [] = refl
-flat_map-same f g h (x ∷ l) = ap₂ (λ a b. a ++ b) (h x) (flat_map-same f g h l)
+flat_map-same f g h l = λ i. flat_map (λ x. h x i) l
 
 -- images of copies
 pub copies-all : {A B : Type 0} (f : A → List B) (i n : ℕ) (x : A) → i ≤ n → flat_map f (replicate i x) ++ flat_map f (replicate (n - i) x) ≡ flat_map f (replicate n x)
@@ -49,25 +50,18 @@ module _ {S A : Type 0} (images : S → A → List A) where
 
   -- Where all steps are maps, a number has one image.
   pub one-image : (is_map : S → Bool) (image : S → A → A) → ((step : S) → is_map step ≡ true → (x : A) → images step x ≡ image step x ∷ [])
-      → (steps : List S) → list_all is_map steps ≡ true → (x : A) → images_after images steps x ≡ one_after_other image steps x ∷ []
+      → (steps : List S) → AllPass is_map steps → (x : A) → images_after images steps x ≡ one_after_other image steps x ∷ []
   one-image is_map image one [] h x = refl
   one-image is_map image one (step ∷ steps) h x =
-      ap (flat_map (images_after images steps)) (one step (and-left (is_map step) (list_all is_map steps) h) x)
-      ∙ append-nil (images_after images steps (image step x)) ∙ one-image is_map image one steps (and-right (is_map step) (list_all is_map steps) h) (image step x)
-    where
-      and-left : (a b : Bool) → (a && b) ≡ true → a ≡ true
-      and-left true b h = refl
-      and-left false b h = h
-
-      and-right : (a b : Bool) → (a && b) ≡ true → b ≡ true
-      and-right true b h = h
-      and-right false true h = refl
-      and-right false false h = h
+      let P : S → Type 0 = λ s. is_map s ≡ true in
+      ap (flat_map (images_after images steps)) (one step (All-head P step steps h) x)
+      ∙ append-nil (images_after images steps (image step x)) ∙ one-image is_map image one steps (All-tail P step steps h) (image step x)
 
   pub KeepsSound-walk : (order : A → A → Ordering) (is_map : S → Bool) (image : S → A → A) → ((step : S) → is_map step ≡ true → (x : A) → images step x ≡ image step x ∷ [])
       → (steps : List S) → KeepsSound order order (row_of (list_all is_map steps)) (size_of (list_all is_map steps)) (flat_map (images_after images steps))
   KeepsSound-walk order is_map image one steps =
-      KeepsSound-images order (images_after images steps) (one_after_other image steps) (list_all is_map steps) (one-image is_map image one steps)
+      KeepsSound-images order (images_after images steps) (one_after_other image steps) (list_all is_map steps)
+      (λ all. one-image is_map image one steps (AllPass-from_list_all is_map steps all))
 
   module _ {G : Type 0} (stage : G → List A → List A) where
     abbrev pub IsStep : (S → Bool) → (G → Bool) → S → G → Type 0
@@ -89,20 +83,7 @@ module _ {G A : Type 0} (stage : G → List A → List A) (is_map : G → Bool) 
   pub front-more : (old new : A → List A) (were are : Bool) (stages : List G) (i : ℕ) (d : G) → i < length stages
       → IsFront old were (take i stages) → IsBehind (get_or stages i d) old were new are → IsFront new are (take (i + 1) stages)
   front-more old new were are stages i d within front behind =
-      let P : List G → Type 0 = λ stages. IsFront new are stages in
-      let earlier = take i stages in
-      let last = get_or stages i d in
-      subst P (sym (take_more stages i d within)) (
-        λ l. behind.0 l ∙ ap (stage last) (front.0 l) ∙ sym (stages-one-more stage earlier last l),
-        behind.1 ∙ ap (λ b. b && is_map last) front.1 ∙ ends (list_all is_map earlier) (is_map last) ∙ sym (list_all-append is_map earlier (last ∷ [])),
+      let last = get_or stages i d in (
+        λ l. behind.0 l ∙ ap (stage last) (front.0 l) ∙ sym (ap (λ s. one_after_other stage s l) (take_more stages i d within) ∙ stages-one-more stage (take i stages) last l),
+        behind.1 ∙ ap (λ b. b && is_map last) front.1 ∙ sym (list_all_more is_map stages i d within),
       )
-    where
-      ends : (a b : Bool) → (a && b) ≡ (a && (b && true))
-      ends true true = refl
-      ends true false = refl
-      ends false b = refl
-
--- what holds where a stage was put
-pub where-put : {Put : Type 0} (Left : Type 0) (is_put : Bool) → is_put ≡ true → MatchBool is_put Put Left → Put
-where-put Left true is put = put
-where-put Left false is left = absurd (true≢false (sym is))

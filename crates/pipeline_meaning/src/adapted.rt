@@ -2,10 +2,10 @@
 ghost use Rattle.std.specs.Prelude.{◌≡◌};
 ghost use Rattle.pipeline_meaning.specs.Adapting.{AdaptedReady, adapted_items, adapted_add, adapted_laws};
 
-use crate::{Summarizes, Written};
 use collectors::Collector;
 use spliterator::NoMemory;
 use stages::{Mapping, Test};
+use value_text::{Summarizes, Written};
 
 /// What comes before another collector.
 #[derive(Drop)]

@@ -11,15 +11,16 @@ ghost use Rattle.collectors.specs.Sums.{sum_laws};
 ghost use Rattle.pipeline_meaning.specs.Prepared.{merging_join};
 ghost use Rattle.pipeline_meaning.specs.PreparedLaws.{merging_join-value};
 ghost use Rattle.pipeline_meaning.specs.Summaries.{number_base_text};
-ghost use Rattle.pipeline_meaning.specs.SummaryLaws.{optional_tells, either_tells, joined_text_laws};
+ghost use Rattle.value_text.specs.SummaryLaws.{optional_tells, either_tells, joined_text_laws};
 
-use crate::{ListText, NumberMerging, Summarizes, Written};
+use crate::NumberMerging;
 use collectors::{Collector, Counting, Reducing, SummingLong};
 use either::{Either, Left, Right};
 use parts::Itself;
 use pipeline_language::{NumberBase, NumberMerge};
 use spliterator::NoMemory;
 use std::alloc::Global;
+use value_text::{ListText, Summarizes, Written};
 
 // What is made of numbers at once, as is chosen at run time.
 type NumberBaseChoice = Either<

@@ -9,19 +9,19 @@ ghost use Rattle.pipeline_meaning.specs.Adapting.{adapted_items, adapted_laws};
 ghost use Rattle.pipeline_meaning.specs.Prepared.{mapping_image, check_holds};
 ghost use Rattle.pipeline_meaning.specs.PreparedLaws.{mapping_image-value};
 ghost use Rattle.pipeline_meaning.specs.Summaries.{number_inner_text, number_summary_text};
-ghost use Rattle.pipeline_meaning.specs.SummaryLaws.{either_tells, groups_tell};
+ghost use Rattle.value_text.specs.SummaryLaws.{either_tells, groups_tell};
 ghost use Rattle.pipeline_meaning.specs.contracts.number_bases.NumberBaseCollectorCollector.TheImpl.Laws as base;
 ghost use Rattle.pipeline_meaning.specs.contracts.number_bases.NumberBaseCollectorSummarizes.TheImpl.Laws as tells;
 
 use crate::number_bases::{NumberBaseCollector, number_base};
 use crate::seeded_hashes::SeededHashes;
-use crate::summarizes::grouped;
-use crate::{Adapted, Adapting, NumberCheck, NumberMapping, Summarizes, Written};
+use crate::{Adapted, Adapting, NumberCheck, NumberMapping};
 use collectors::{Collector, GroupingBy};
 use either::{Either, Left, Right};
 use pipeline_language::{NumberInner, NumberSummary};
 use spliterator::NoMemory;
 use std::alloc::Global;
+use value_text::{Summarizes, Written, grouped};
 
 /// What is made of numbers inside another collector.
 pub type NumberInnerCollector = Adapted<NumberMapping, NumberCheck, NumberBaseCollector>;

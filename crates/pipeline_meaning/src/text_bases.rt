@@ -5,15 +5,16 @@ ghost use Rattle.std.specs.Fmt.{signed_decimal};
 ghost use Rattle.collectors.specs.Either.{either_laws};
 ghost use Rattle.collectors.specs.Reductions.{first, first_laws};
 ghost use Rattle.collectors.specs.Sums.{sum_laws};
-ghost use Rattle.pipeline_meaning.specs.Summaries.{itself, text_base_text};
-ghost use Rattle.pipeline_meaning.specs.SummaryLaws.{optional_tells, either_tells, joined_text_laws};
+ghost use Rattle.value_text.specs.Texts.{itself};
+ghost use Rattle.pipeline_meaning.specs.Summaries.{text_base_text};
+ghost use Rattle.value_text.specs.SummaryLaws.{optional_tells, either_tells, joined_text_laws};
 
-use crate::{JoinedText, Summarizes, Written};
 use collectors::{Collector, Counting, First};
 use either::{Either, Left, Right};
 use pipeline_language::TextBase;
 use spliterator::NoMemory;
 use std::alloc::Global;
+use value_text::{JoinedText, Summarizes, Written};
 
 // What is made of texts at once, as is chosen at run time.
 type TextBaseChoice<'a> = Either<

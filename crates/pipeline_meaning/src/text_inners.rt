@@ -9,7 +9,7 @@ ghost use Rattle.pipeline_meaning.specs.Functions.{text_holds, text_length};
 ghost use Rattle.pipeline_meaning.specs.Prepared.{mapping_image, check_holds};
 ghost use Rattle.pipeline_meaning.specs.PreparedLaws.{mapping_image-value};
 ghost use Rattle.pipeline_meaning.specs.Summaries.{number_inner_text, text_inner_text};
-ghost use Rattle.pipeline_meaning.specs.SummaryLaws.{either_tells};
+ghost use Rattle.value_text.specs.SummaryLaws.{either_tells};
 ghost use Rattle.pipeline_meaning.specs.contracts.number_bases.NumberBaseCollectorCollector.TheImpl.Laws as numbers;
 ghost use Rattle.pipeline_meaning.specs.contracts.number_bases.NumberBaseCollectorSummarizes.TheImpl.Laws as numbers_told;
 ghost use Rattle.pipeline_meaning.specs.contracts.text_bases.TextBaseCollectorCollector.TheImpl.Laws as base;
@@ -17,13 +17,14 @@ ghost use Rattle.pipeline_meaning.specs.contracts.text_bases.TextBaseCollectorSu
 
 use crate::number_summaries::{NumberInnerCollector, number_inner};
 use crate::text_bases::{TextBaseCollector, text_base};
-use crate::{Adapted, Adapting, Summarizes, TextCheck, Written};
+use crate::{Adapted, Adapting, TextCheck};
 use collectors::{Collector, MappingTo};
 use either::{Either, Left, Right};
 use parts::{Itself, Length};
 use pipeline_language::{NumberInner, TextInner};
 use spliterator::NoMemory;
 use std::alloc::Global;
+use value_text::{Summarizes, Written};
 
 // What is made of texts inside another collector: of them, or of their lengths.
 type TextInnerChoice<'a> = Either<

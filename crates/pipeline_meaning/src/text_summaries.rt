@@ -7,21 +7,22 @@ ghost use Rattle.collectors.specs.Either.{either_laws};
 ghost use Rattle.collectors.specs.GroupingLaws.{grouping_laws};
 ghost use Rattle.pipeline_meaning.specs.Adapting.{adapted_items, adapted_laws};
 ghost use Rattle.pipeline_meaning.specs.Functions.{text_holds, text_length};
-ghost use Rattle.pipeline_meaning.specs.Summaries.{itself, text_inner_text, text_summary_text, text_groups_text};
-ghost use Rattle.pipeline_meaning.specs.SummaryLaws.{either_tells, groups_tell};
+ghost use Rattle.value_text.specs.Texts.{itself};
+ghost use Rattle.pipeline_meaning.specs.Summaries.{text_inner_text, text_summary_text, text_groups_text};
+ghost use Rattle.value_text.specs.SummaryLaws.{either_tells, groups_tell};
 ghost use Rattle.pipeline_meaning.specs.contracts.text_inners.TextInnerCollectorCollector.TheImpl.Laws as inner;
 ghost use Rattle.pipeline_meaning.specs.contracts.text_inners.TextInnerCollectorSummarizes.TheImpl.Laws as told;
 
 use crate::seeded_hashes::SeededHashes;
-use crate::summarizes::grouped;
 use crate::text_inners::{TextInnerCollector, text_inner, text_lengths};
-use crate::{Adapted, Adapting, Summarizes, TextCheck, Written};
+use crate::{Adapted, Adapting, TextCheck};
 use collectors::{Collector, GroupingBy};
 use either::{Either, Left, Right};
 use parts::{Itself, Length};
 use pipeline_language::{TextFunction, TextInner, TextSummary};
 use spliterator::NoMemory;
 use std::alloc::Global;
+use value_text::{Summarizes, Written, grouped};
 
 // The groups of texts by their lengths.
 type TextsByLength<'a> = GroupingBy<Length, TextInnerCollector<'a>, SeededHashes>;

@@ -8,7 +8,7 @@ use Rattle.spliterator.specs.Values.{DecidesEquality}
 use Rattle.stages.specs.Distinct.{AllApart}
 use Rattle.stages.specs.Tests.{apart-swap, or-false_left, or-false_right}
 use Rattle.collectors.specs.StrictMaps.{IsFirstRepeat}
-use Rattle.pipeline_meaning.specs.Summaries.{strict_text}
+use Rattle.value_text.specs.Texts.{strict_text}
 use Rattle.pipeline_value.specs.Value.{first_repeat, repeat_or, strict_told}
 
 module _ {K : Type 0} (same : K → K → Bool) (decides : DecidesEquality same) where

@@ -6,8 +6,7 @@ use Rattle.pipeline_language.specs.declared.pipeline.NumberTerminal.{NumberTermi
 use Rattle.pipeline_language.specs.declared.pipeline.NumberTerminal.TheVariants as of_numbers
 use Rattle.pipeline_language.specs.declared.pipeline.TextTerminal.{TextTerminal}
 use Rattle.pipeline_language.specs.declared.pipeline.TextTerminal.TheVariants as of_texts
-use Rattle.pipeline_meaning.specs.Summaries.{groups_text, parts_text}
-use Rattle.pipeline_meaning.specs.Texts.{pair_text}
+use Rattle.value_text.specs.Texts.{groups_text, parts_text, pair_text}
 use Rattle.pipeline_value.specs.declared.arrangements.Arrangement.{Arrangement}
 use Rattle.pipeline_value.specs.declared.arrangements.Arrangement.TheVariants.{Counts, Bases, Groups, Parts, Pair}
 

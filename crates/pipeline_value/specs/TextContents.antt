@@ -26,8 +26,8 @@ use Rattle.pipeline_language.specs.Content as content
 use Rattle.pipeline_language.specs.Syntax as syntax
 use Rattle.pipeline_meaning.specs.Functions.{text_holds}
 use Rattle.pipeline_meaning.specs.Stages as meaning
-use Rattle.pipeline_meaning.specs.Summaries.{parts_text, text_base_text, text_inner_text, text_groups_text, text_summary_text}
-use Rattle.pipeline_meaning.specs.Texts.{pair_text, truth_text}
+use Rattle.value_text.specs.Texts.{parts_text, pair_text, truth_text}
+use Rattle.pipeline_meaning.specs.Summaries.{text_base_text, text_inner_text, text_groups_text, text_summary_text}
 use Rattle.pipeline_value.specs.Value.{Told, text_told}
 use Rattle.pipeline_value.specs.NumberContents.{number_base_of, number_inner_of, number_merge_of, number_base-back, number_inner-back, number_merge-back}
 

@@ -29,8 +29,8 @@ use Rattle.pipeline_value.specs.declared.told.ValueError.{ValueError}
 use Rattle.pipeline_value.specs.declared.told.ValueError.TheVariants as errors
 use Rattle.pipeline_meaning.specs.Functions.{number_image, number_holds, number_join, text_length, text_holds, text_join}
 use Rattle.pipeline_meaning.specs.Stages.{number_stages, text_stages}
-use Rattle.pipeline_meaning.specs.Summaries.{itself, groups_text, parts_text, merged_text, strict_text, number_summary_text, text_summary_text, text_groups_text}
-use Rattle.pipeline_meaning.specs.Texts.{list_text, optional_text, pair_text, truth_text}
+use Rattle.value_text.specs.Texts.{itself, groups_text, parts_text, merged_text, strict_text, list_text, optional_text, pair_text, truth_text}
+use Rattle.pipeline_meaning.specs.Summaries.{number_summary_text, text_summary_text, text_groups_text}
 
 -- the text of a value, or of a key that is repeated where none may be
 abbrev pub Told : Type 0

@@ -1,8 +1,7 @@
 //! Groups, parts and pairs of a stream's items, told by their texts.
 
 ghost use Rattle.std.specs.Prelude.{Ok};
-ghost use Rattle.pipeline_meaning.specs.Summaries.{groups_text, parts_text};
-ghost use Rattle.pipeline_meaning.specs.Texts.{pair_text};
+ghost use Rattle.value_text.specs.Texts.{groups_text, parts_text, pair_text};
 ghost use Rattle.pipeline_value.specs.Arrangements.{IsReady, arranged_text, grouped_text};
 ghost use Rattle.pipeline_value.specs.Value.{Tells};
 
@@ -13,11 +12,11 @@ use crate::nested::{paired, parted};
 use crate::told::ValueError;
 use collectors::{Collector, Counting};
 use parallel_streams::Stream;
-use pipeline_meaning::{Rope, Spelled, Summarizes, Written, grouped};
 use stages::{Mapping, Test};
 use std::hash::Hash;
 use std::thread::Threads;
 use stealing_pool::Gate;
+use value_text::{Rope, Spelled, Summarizes, Written, grouped};
 
 /// The text of what an arrangement makes of a stream's items.
 pub(crate) fn arranged_value<R, X, K, P, B, D, H>(

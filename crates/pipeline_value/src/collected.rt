@@ -7,10 +7,10 @@ use crate::engine::Engine;
 use crate::told::{ValueError, ran};
 use collectors::Collector;
 use parallel_streams::Stream;
-use pipeline_meaning::{Rope, Summarizes, Written, write_result};
 use std::alloc::Global;
 use std::thread::Threads;
 use stealing_pool::Gate;
+use value_text::{Rope, Summarizes, Written, write_result};
 
 /// The text of what a collector makes of a stream.
 pub(crate) fn collected<R, X, C, H>(

@@ -8,10 +8,10 @@ use crate::told::{ValueError, ran_optional, ran_told};
 use collectors::SummingLong;
 use parallel_streams::Stream;
 use parts::Itself;
-use pipeline_meaning::Rope;
 use stages::{Max, Min, WrapMul};
 use std::thread::Threads;
 use stealing_pool::Gate;
+use value_text::Rope;
 
 /// A terminal that joins all numbers into one, or counts them.
 #[derive(Clone, Copy, Debug)]

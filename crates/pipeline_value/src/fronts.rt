@@ -12,11 +12,12 @@ use crate::numbers::{list_value, range_items};
 use crate::told::ValueError;
 use barriers::{Demand, FirstHit, TakeWhile};
 use pipeline_language::{NumberBody, NumberStage, NumberTerminal, NumberTest};
-use pipeline_meaning::{NumberCheck, Rope};
+use pipeline_meaning::NumberCheck;
 use sources::{RangeSplit, Windowed};
 use spliterator::Spliterator;
 use std::thread::Threads;
 use stealing_pool::Gate;
+use value_text::Rope;
 
 /// The sizes of the fronts. One worker reads each, since threads take longer to start than they would save.
 pub(crate) const FRONTS: [u64; 2] = [1 << 12, 1 << 17];

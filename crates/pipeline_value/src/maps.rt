@@ -2,7 +2,7 @@
 
 ghost use Rattle.std.specs.Prelude.{Ok, List};
 ghost use Rattle.stages.specs.Operators.{IsAssociative};
-ghost use Rattle.pipeline_meaning.specs.Summaries.{merged_text};
+ghost use Rattle.value_text.specs.Texts.{merged_text};
 ghost use Rattle.pipeline_value.specs.Value.{Tells, strict_told};
 
 use crate::collected::collected;
@@ -12,13 +12,14 @@ use crate::told::{ValueError, ran, told};
 use collectors::{Collector, DuplicateKey, ToMapStrict};
 use indexmap::IndexMap;
 use parallel_streams::Stream;
-use pipeline_meaning::{Rope, SeededHashes, Spelled, text_of};
+use pipeline_meaning::SeededHashes;
 use spliterator::Value;
 use stages::{Mapping, Operator};
 use std::alloc::Global;
 use std::hash::Hash;
 use std::thread::Threads;
 use stealing_pool::Gate;
+use value_text::{Rope, Spelled, text_of};
 
 /// The text of the map of a stream's keys and values, where values of one key are merged.
 pub(crate) fn merged_value<R, X, U, K, V, M, H>(

@@ -2,15 +2,15 @@
 
 ghost use Rattle.std.specs.Prelude.{◌≡◌, List};
 ghost use Rattle.stages.specs.Operators.{IsAssociative};
-ghost use Rattle.pipeline_meaning.specs.Summaries.{merged_text, parts_text};
-ghost use Rattle.pipeline_meaning.specs.Texts.{pair_text};
+ghost use Rattle.value_text.specs.Texts.{merged_text, parts_text, pair_text};
 
 use collectors::{Collector, PartitioningBy, Teeing, ToMap};
-use pipeline_meaning::{Both, SeededHashes, Spelled, Summarizes, Written};
+use pipeline_meaning::SeededHashes;
 use spliterator::Value;
 use stages::{Mapping, Operator, Test};
 use std::alloc::Global;
 use std::hash::Hash;
+use value_text::{Both, Spelled, Summarizes, Written};
 
 /// The results of the items that fail a test, and of those that pass.
 pub(crate) fn parted<D: Summarizes, P: Test<D::Item>>(

@@ -10,9 +10,10 @@ use crate::number_maps::{map_value, strict_map_value};
 use crate::told::{ValueError, ran_optional, ran_text, ran_told};
 use parallel_streams::Stream;
 use pipeline_language::NumberTerminal;
-use pipeline_meaning::{JoinedText, NumberCheck as Check, Rope};
+use pipeline_meaning::NumberCheck as Check;
 use std::thread::Threads;
 use stealing_pool::Gate;
+use value_text::{JoinedText, Rope};
 
 /// The text of a terminal's value on a stream of numbers.
 pub(crate) fn number_end<R, X, H>(

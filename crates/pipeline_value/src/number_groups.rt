@@ -12,9 +12,10 @@ use crate::engine::Engine;
 use collectors::Collector;
 use pipeline_language::{NumberBase, NumberSummary, NumberTerminal};
 use pipeline_meaning::{
-    NumberBaseCollector, NumberCheck, NumberMapping, NumberSummaryCollector, Summarizes,
-    number_base, number_summary,
+    NumberBaseCollector, NumberCheck, NumberMapping, NumberSummaryCollector, number_base,
+    number_summary,
 };
+use value_text::Summarizes;
 
 /// The arrangement of a terminal, by the collectors that its summaries name.
 pub(crate) type NumberArrangement = Arrangement<

@@ -8,9 +8,10 @@ use crate::maps::{merged_value, strict_value};
 use crate::told::ValueError;
 use parallel_streams::Stream;
 use pipeline_language::{NumberFunction, NumberMerge};
-use pipeline_meaning::{NumberMapping, NumberMerging, Rope};
+use pipeline_meaning::{NumberMapping, NumberMerging};
 use std::thread::Threads;
 use stealing_pool::Gate;
+use value_text::Rope;
 
 /// The text of the map of a stream's keys and values, where values of one key are merged.
 pub(crate) fn map_value<R, X, H>(

@@ -16,12 +16,13 @@ use fused_runs::gather;
 use parallel_streams::{Stream, of};
 use parts::AtMostOne;
 use pipeline_language::{NumberBody, NumberStage, NumberTerminal};
-use pipeline_meaning::{NumberSteps, Rope};
+use pipeline_meaning::NumberSteps;
 use sources::{RangeSplit, SliceSplit, Windowed};
 use spliterator::{NoMemory, Spliterator};
 use stages::{Nothing, Stage, Then};
 use std::thread::Threads;
 use stealing_pool::Gate;
+use value_text::Rope;
 
 /// The text of the value of a body, over a source's items behind a stage in front.
 pub(crate) fn number_value<R, S, A, H>(

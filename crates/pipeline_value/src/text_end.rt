@@ -1,7 +1,7 @@
 //! What the terminals make of texts.
 
 ghost use Rattle.std.specs.Prelude.{◌≡◌, bytes_eq, false};
-ghost use Rattle.pipeline_meaning.specs.Summaries.{itself};
+ghost use Rattle.value_text.specs.Texts.{itself};
 ghost use Rattle.pipeline_value.specs.Arrangements.{arranges_texts};
 ghost use Rattle.pipeline_value.specs.Value.{Tells, text_told};
 ghost use Rattle.spliterator.specs.Clones.{ClonesAlike};
@@ -13,12 +13,13 @@ use crate::text_parts::text_arranged_value;
 use crate::told::{ValueError, ran_optional, ran_text, ran_told};
 use parallel_streams::{Source, Staged, Stream};
 use pipeline_language::TextTerminal;
-use pipeline_meaning::{JoinedText, Rope, Spelled, TextCheck, TextSteps};
+use pipeline_meaning::{TextCheck, TextSteps};
 use sources::SliceSplit;
 use spliterator::{OrderedValue, Text};
 use std::hash::Hash;
 use std::thread::Threads;
 use stealing_pool::Gate;
+use value_text::{JoinedText, Rope, Spelled};
 
 /// The stream of a list's texts through stages.
 pub(crate) type Texts<'s, 'a> = Staged<Source<SliceSplit<'s, &'a str>>, TextSteps<'a>>;

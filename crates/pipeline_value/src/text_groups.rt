@@ -11,8 +11,9 @@ use crate::engine::Engine;
 use collectors::Collector;
 use pipeline_language::{TextBase, TextFunction, TextSummary, TextTerminal};
 use pipeline_meaning::{
-    Summarizes, TextBaseCollector, TextCheck, TextSummaryCollector, text_base, text_summary,
+    TextBaseCollector, TextCheck, TextSummaryCollector, text_base, text_summary,
 };
+use value_text::Summarizes;
 
 /// The arrangement of a terminal, by the collectors that its summaries name.
 pub(crate) type TextArrangement<'a> = Arrangement<

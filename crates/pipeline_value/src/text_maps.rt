@@ -1,7 +1,7 @@
 //! The maps whose values are texts or their lengths.
 
 ghost use Rattle.std.specs.Prelude.{◌≡◌, Ok, bytes_eq};
-ghost use Rattle.pipeline_meaning.specs.Summaries.{itself};
+ghost use Rattle.value_text.specs.Texts.{itself};
 ghost use Rattle.pipeline_language.specs.declared.pipeline.TextTerminal.TheVariants as terminals;
 ghost use Rattle.pipeline_value.specs.Value.{Tells, text_map_text, text_strict_told, text_told};
 
@@ -11,12 +11,13 @@ use crate::told::ValueError;
 use parallel_streams::Stream;
 use parts::{Itself, Length};
 use pipeline_language::{TextFunction, TextValue};
-use pipeline_meaning::{NumberMerging, Rope, Spelled, TextMerging};
+use pipeline_meaning::{NumberMerging, TextMerging};
 use spliterator::{OrderedValue, Text};
 use stages::Mapping;
 use std::hash::Hash;
 use std::thread::Threads;
 use stealing_pool::Gate;
+use value_text::{Rope, Spelled};
 
 /// The text of the map of a stream's keys and values, where values of one key are merged.
 pub(crate) fn map_value<T, R, X, H>(

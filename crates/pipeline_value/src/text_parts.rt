@@ -1,7 +1,8 @@
 //! What the terminals make of texts that they part, put under keys, or collect twice.
 
 ghost use Rattle.std.specs.Prelude.{◌≡◌, Ok, bytes_eq, ⊤};
-ghost use Rattle.pipeline_meaning.specs.Summaries.{itself, text_groups_text};
+ghost use Rattle.value_text.specs.Texts.{itself};
+ghost use Rattle.pipeline_meaning.specs.Summaries.{text_groups_text};
 ghost use Rattle.pipeline_value.specs.Arrangements.{IsReady, arranged_text};
 ghost use Rattle.pipeline_value.specs.Value.{Tells};
 
@@ -13,12 +14,12 @@ use collectors::{Collector, Counting};
 use parallel_streams::Stream;
 use parts::{Itself, Length};
 use pipeline_language::TextFunction;
-use pipeline_meaning::{Rope, Spelled, Summarizes, Written};
 use spliterator::{OrderedValue, Text};
 use stages::Test;
 use std::hash::Hash;
 use std::thread::Threads;
 use stealing_pool::Gate;
+use value_text::{Rope, Spelled, Summarizes, Written};
 
 /// The text of what an arrangement makes of a stream's texts.
 pub(crate) fn text_arranged_value<T, R, X, P, B, D, H>(

@@ -15,12 +15,13 @@ use crate::told::ValueError;
 use parallel_streams::{Stream, of};
 use parts::{AtMostOne, Length};
 use pipeline_language::{NumberBody, TextEnd, TextStage};
-use pipeline_meaning::{Rope, TextSteps};
+use pipeline_meaning::TextSteps;
 use sources::{SliceSplit, Windowed};
 use spliterator::{OrderedValue, Spliterator, Text};
 use stages::{Map, Nothing, Stage, Then};
 use std::thread::Threads;
 use stealing_pool::Gate;
+use value_text::Rope;
 
 /// The text of the value of stages and what follows them, over a list of texts.
 pub(crate) fn text_value<'a, R: Threads + Sync, H: Gate + Sync>(

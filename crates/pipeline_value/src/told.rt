@@ -2,15 +2,15 @@
 
 ghost use Rattle.std.specs.Prelude.{◌≡◌, ℕ, List, Option, Ok, Err, IfOk, IsErr, option_map};
 ghost use Rattle.parallel_streams.specs.Runs.{AnswersUnder};
-ghost use Rattle.pipeline_meaning.specs.Texts.{optional_text};
+ghost use Rattle.value_text.specs.Texts.{optional_text};
 ghost use Rattle.pipeline_value.specs.Value.{Tells};
 ghost use Rattle.pipeline_value.specs.declared.told.ValueError.TheVariants as variants;
 
 use crate::engine::Engine;
 use parallel_streams::StreamError;
-use pipeline_meaning::{Rope, Spelled, Written, text_of};
 use spliterator::NoMemory;
 use std::alloc::{AllocError, Global};
+use value_text::{Rope, Spelled, Written, text_of};
 
 /// Why a pipeline has no value.
 #[derive(Debug, Drop)]

@@ -16,13 +16,14 @@ use crate::texts::text_value;
 use crate::told::{ValueError, told};
 use parallel_streams::Run;
 use pipeline_language::{NumberBody, NumberSource, Pipeline};
-use pipeline_meaning::{Rope, SeededHashes};
+use pipeline_meaning::SeededHashes;
 use sources::RangeSplit;
 use spliterator::{Spliterator, Value};
 use stages::Nothing;
 use std::alloc::Global;
 use std::thread::Threads;
 use stealing_pool::Gate;
+use value_text::Rope;
 
 /// The text of a pipeline's value. Keys are hashed by `hashes`, since whoever writes a file picks them. A count that is known from the
 /// source's size runs no leaf.

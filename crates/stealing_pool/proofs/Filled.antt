@@ -3,20 +3,21 @@ use Rattle.std.proofs.Common.{◌≡◌, ◌≢◌, ◌<◌, ◌+◌, ◌∷◌,
 use Rattle.std.specs.Prelude.{All}
 use Rattle.std.proofs.Math.ListN.{set, length-set}
 use Rattle.std.proofs.lemmas.Bool.{cases_eq}
-use Rattle.std.proofs.lemmas.List.{length-map, length-replicate}
+use Rattle.std.proofs.lemmas.List.{length-map, length-replicate, get_or-map}
 use Rattle.std.proofs.lemmas.List.Elements.{All-head, All-tail}
 use Rattle.barriers.specs.Needs.{Reaches}
 use Rattle.leaf_board.specs.Case.{sum_below, IsLawful}
 use Rattle.leaf_board.specs.Statuses.{Status, Unknown, Given, Published, Skipped}
 use Rattle.leaf_board.specs.Records.{Closes}
-use Rattle.stealing_pool.specs.declared.job.Portion.{Portion}
+use Rattle.leaf_board.proofs.Sums.{sum_below-same}
+use Rattle.leaf_reading.specs.declared.leaf_end.Portion.{Portion}
 use Rattle.stealing_pool.specs.declared.worker.Ran.{Ran}
 use Rattle.stealing_pool.specs.declared.worker.Shift.{Shift}
 use Rattle.stealing_pool.specs.Jobs.{Work, IsCase}
 use Rattle.stealing_pool.specs.Shifts.{IsRan, IsShift}
 use Rattle.stealing_pool.specs.Gathers.{put_in, place_shifts, HasLeaves}
 use Rattle.stealing_pool.specs.Reports.{Reported, Reports}
-use Rattle.stealing_pool.proofs.Places.{length-put_in, get_or_map_in}
+use Rattle.stealing_pool.proofs.Places.{length-put_in, some_of}
 
 module _ {A : Type 0} where
   -- a filled place stays filled
@@ -64,20 +65,6 @@ module _ {S A : Type 0} where
       let size = length-put_in places s.ran.items in
       place_fills (put_in places s.ran.items) ss j k f e (λ a x w b y v. let at : (get_or (get_or ss a x).ran.items b y).leaf < length places = All-tail P s ss all a x w b y v in omega arith) (omega arith) inside d
 
-some_of : {X : Type 0} (xs : List X) (k : ℕ) → k < length xs → X
-some_of [] k within = absurd (omega arith)
-some_of (x ∷ xs) k within = x
-
-same_at : {X : Type 0} (xs : List X) (k : ℕ) (d e : X) → k < length xs → get_or xs k d ≡ get_or xs k e
-same_at [] k d e within = absurd (omega arith)
-same_at (x ∷ xs) zero d e within = refl
-same_at (x ∷ xs) (suc k) d e within = same_at xs k d e (omega arith)
-
--- the sums of the counts of the board's case
-sums_same : (f g : ℕ → ℕ) (m : ℕ) → ((i : ℕ) → i < m → f i ≡ g i) → sum_below f m ≡ sum_below g m
-sums_same f g zero same = refl
-sums_same f g (suc m) same = let before = sums_same f g m (λ i below. same i (omega arith)) in let here = same m (omega arith) in omega arith
-
 module _ {S A : Type 0} (work : Work A) (Is : S → Type 0) (number : S → ℕ) (status : S → ℕ → Status) (drained : S → Type 0) (made_cut : S → ℕ → Type 0) (seats : List S)
     (shifts : List (Shift S A)) (all : length shifts ≡ length seats)
     (each : (k : ℕ) (d : S) (e : Shift S A) → k < length seats → IsShift work Is number status drained made_cut (get_or seats k d) (get_or shifts k e))
@@ -91,9 +78,7 @@ module _ {S A : Type 0} (work : Work A) (Is : S → Type 0) (number : S → ℕ)
 
   -- a seat that was handed back
   back_at : (j : ℕ) (d : S) (f : Shift S A) → j < length shifts → get_or back j d ≡ (get_or shifts j f).seat
-  back_at j d f within =
-      let found = get_or_map_in (λ s. s.seat) shifts j d within in
-      ap (λ xs. get_or xs j d) back_is ∙ (found.1 ∙ ap (λ s. s.seat) (same_at shifts j found.0 f within))
+  back_at j d f within = ap (λ xs. get_or xs j d) back_is ∙ get_or-map (λ s. s.seat) shifts j f d within
 
   within_places : All (λ s. All (λ r. r.leaf < length (replicate {A = Option (Portion A)} n None)) s.ran.items) shifts
   within_places k e within j d inside =
@@ -105,7 +90,7 @@ module _ {S A : Type 0} (work : Work A) (Is : S → Type 0) (number : S → ℕ)
   cut_enough : (c : ℕ) → cut ≡ Some c → Reaches work.needed (sum_below work.full (c + 1))
   cut_enough c is =
       let just = closes.justified c is in
-      let same : sum_below full (c + 1) ≡ sum_below work.full (c + 1) = sums_same full work.full (c + 1) (λ i below. case.each i (let e = case.all in let l = just.0 in omega arith)) in
+      let same : sum_below full (c + 1) ≡ sum_below work.full (c + 1) = sum_below-same full work.full (c + 1) (λ i below. case.each i (let e = case.all in let l = just.0 in omega arith)) in
       subst (Reaches work.needed) same (subst (λ (r : Option ℕ). Reaches r (sum_below full (c + 1))) case.needs just.1)
 
   has_leaf : (i j : ℕ) (d : Option (Portion A)) (f : Shift S A) → j < length shifts → status (get_or shifts j f).seat i ≢ Unknown → (s : Status) → status (get_or shifts j f).seat i ≡ s

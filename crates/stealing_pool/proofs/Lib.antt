@@ -3,6 +3,5 @@ pub mod Drawn
 pub mod Places
 pub mod Picked
 pub mod Filled
-pub mod Fronts
 pub mod Forks
 pub mod Shifts

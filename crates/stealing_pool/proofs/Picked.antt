@@ -3,10 +3,12 @@ use Rattle.std.proofs.Common.{◌≡◌, ◌<◌, ◌+◌, ◌^◌, ◌++◌, �
 use Rattle.std.proofs.lemmas.Bool.{cases_lt}
 use Rattle.barriers.specs.Needs.{Reaches, IsBelow}
 use Rattle.leaf_board.specs.Case.{sum_below}
-use Rattle.stealing_pool.specs.declared.job.Portion.{Portion}
-use Rattle.stealing_pool.specs.Jobs.{Work, IsWithin}
+use Rattle.leaf_reading.specs.declared.leaf_end.Portion.{Portion}
+use Rattle.stealing_pool.specs.Jobs.{Work}
+use Rattle.leaf_reading.specs.Fronts.{IsWithin}
 use Rattle.stealing_pool.specs.Gathers.{sum_from, AreKept, AreWanted, HoldsLeaf, IsRow}
-use Rattle.stealing_pool.proofs.Rows.{reaches_more, sum_from-add}
+use Rattle.stealing_pool.specs.SpanLaws.{reaches-more}
+use Rattle.stealing_pool.proofs.Rows.{sum_from-add}
 
 -- the count of what stands in a place
 abbrev pub portion_count : {A : Type 0} → Option (Portion A) → ℕ
@@ -90,7 +92,7 @@ module _ {A : Type 0} (work : Work A) (count : ℕ → ℕ) (row row' : List A) 
                   (let here : i ≡ k = (let l = longer in omega arith) in
                   elim held.1.1 [
                     | inl full ↦ ap count here ∙ (is ∙ (full ∙ ap work.full (sym here)))
-                    | inr reached ↦ absurd (under (reaches_more work.needed p.count (total + p.count) (omega arith) reached))
+                    | inr reached ↦ absurd (under (reaches-more work.needed p.count (total + p.count) (omega arith) reached))
                   ])
             ];
         total_is = total_more ∙ ap (sum_from count 0) (sym longer);

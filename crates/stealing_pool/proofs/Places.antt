@@ -1,17 +1,18 @@
 -- What stands in the places of the leaves.
 use Rattle.std.proofs.Common.{◌≡◌, ◌<◌, ◌+◌, ◌∷◌, ℕ, zero, suc, map, replicate, List, [], Option, Some, None, length, get_or, drop, ap, sym, ◌∙◌, refl, subst, inl, inr, arith, add-one, drop-cons, get_or-set_same, get_or-set_other}
-use Rattle.std.proofs.lemmas.List.{length-map, length-replicate, get_or-replicate, drop_all}
+use Rattle.std.proofs.lemmas.List.{length-map, length-replicate, get_or-map, get_or-replicate, drop_all}
 use Rattle.std.specs.Prelude.{All}
 use Rattle.std.proofs.Math.ListN.{set, length-set}
 use Rattle.std.proofs.lemmas.List.Elements.{All-same, All-head, All-tail}
 use Rattle.std.proofs.lemmas.Bool.{cases_lt, cases_eq}
-use Rattle.stealing_pool.specs.declared.job.Portion.{Portion}
+use Rattle.leaf_reading.specs.declared.leaf_end.Portion.{Portion}
 use Rattle.stealing_pool.specs.declared.worker.Ran.{Ran}
 use Rattle.stealing_pool.specs.declared.worker.Shift.{Shift}
 use Rattle.stealing_pool.specs.Jobs.{Work}
 use Rattle.stealing_pool.specs.Gathers.{put_in, place_shifts, HoldsLeaf, HoldsLeaves}
 use Rattle.stealing_pool.specs.Shifts.{IsRan, IsShift}
 use Rattle.leaf_board.specs.Statuses.{Status, AreSeats}
+use Rattle.leaf_board.proofs.Sums.{set_each}
 
 -- the first of what is left
 pub drop_next : {X : Type 0} (k : ℕ) (xs ys : List X) (x : X) → drop k xs ≡ x ∷ ys → (k < length xs) × ((d : X) → get_or xs k d ≡ x) × (drop (k + 1) xs ≡ ys)
@@ -45,11 +46,10 @@ pub length-place_shifts : {S A : Type 0} (places : List (Option (Portion A))) (s
 length-place_shifts places [] = refl
 length-place_shifts places (s ∷ ss) = length-place_shifts (put_in places s.ran.items) ss ∙ length-put_in places s.ran.items
 
--- an element of a mapped list, at a place within it
-pub get_or_map_in : {X Y : Type 0} (f : X → Y) (xs : List X) (k : ℕ) (d : Y) → k < length xs → (e : X) × (get_or (map f xs) k d ≡ f (get_or xs k e))
-get_or_map_in f [] k d within = absurd (omega arith)
-get_or_map_in f (x ∷ xs) zero d within = (x, refl)
-get_or_map_in f (x ∷ xs) (suc k) d within = get_or_map_in f xs k d (omega arith)
+-- a member of a list that has a place
+pub some_of : {X : Type 0} (xs : List X) (k : ℕ) → k < length xs → X
+some_of [] k within = absurd (omega arith)
+some_of (x ∷ xs) k within = x
 
 module _ {S A : Type 0} (work : Work A) (Is : S → Type 0) (number : S → ℕ) (status : S → ℕ → Status) (drained : S → Type 0) (made_cut : S → ℕ → Type 0) (seats : List S) (shifts : List (Shift S A)) (all : length shifts ≡ length seats)
     (each : (k : ℕ) (d : S) (e : Shift S A) → k < length seats → IsShift work Is number status drained made_cut (get_or seats k d) (get_or shifts k e)) where
@@ -63,9 +63,9 @@ module _ {S A : Type 0} (work : Work A) (Is : S → Type 0) (number : S → ℕ)
         all = let g = given.all in omega arith;
         each = λ k d within.
             let inside : k < length shifts = omega arith in
-            let found = get_or_map_in (λ s. s.seat) shifts k d inside in
-            let shift = each k d found.0 (omega arith) in
-            let at : get_or back k d ≡ (get_or shifts k found.0).seat = ap (λ xs. get_or xs k d) is ∙ found.1 in
+            let e = some_of shifts k inside in
+            let shift = each k d e (omega arith) in
+            let at : get_or back k d ≡ (get_or shifts k e).seat = ap (λ xs. get_or xs k d) is ∙ get_or-map (λ s. s.seat) shifts k e d inside in
             let P : S → Type 0 = λ s. Is s × (number s ≡ k) in
             subst P (sym at) (shift.of, shift.numbered ∙ (given.each k d (omega arith)).1);
       }
@@ -74,13 +74,8 @@ module _ {A : Type 0} (work : Work A) where
   -- one more leaf in its place
   one_holds : (places : List (Option (Portion A))) (r : Ran A) → length places ≡ work.leaves → HoldsLeaves work places → IsRan work r → HoldsLeaves work (set places r.leaf (Some r.portion))
   one_holds places r size holds ran i d within =
-      elim (cases_eq i r.leaf) [
-        | inl here ↦
-            (let P : ℕ → Type 0 = λ j. HoldsLeaf work j (get_or (set places r.leaf (Some r.portion)) j d) in
-            let inside : r.leaf < length places = let p = ran.place in omega arith in
-            subst P (sym here) (rw get_or-set_same (ran.keeps, ran.lawful, ran.within)))
-        | inr other ↦ rw get_or-set_other (holds i d within)
-      ]
+      let inside : r.leaf < length places = let p = ran.place in omega arith in
+      set_each (HoldsLeaf work) places r.leaf (Some r.portion) d i inside (λ here. (ran.keeps, ran.lawful, ran.within)) (λ other. holds i d within)
 
   put_holds : (places : List (Option (Portion A))) (ran : List (Ran A)) → length places ≡ work.leaves → HoldsLeaves work places → All (IsRan work) ran → HoldsLeaves work (put_in places ran)
   put_holds places [] size holds all = holds

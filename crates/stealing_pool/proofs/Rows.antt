@@ -1,13 +1,11 @@
 -- What stands for leaves that stand side by side.
-use Rattle.std.proofs.Common.{◌≡◌, ◌<◌, ◌≤◌, ◌+◌, ◌∷◌, ◌∙◌, ℕ, zero, suc, List, [], Option, Some, None, length, take, drop, ap, sym, subst, arith, add-zero}
+use Rattle.std.proofs.Common.{◌≡◌, ◌<◌, ◌≤◌, ◌+◌, ◌∷◌, ◌∙◌, ℕ, zero, suc, List, [], Option, Some, None, length, length-append, take, drop, ap, sym, subst, arith, add-zero}
+use Rattle.std.proofs.Math.Seq.{take-add}
 use Rattle.std.proofs.lemmas.List.{take_all, length-take-le, length-drop}
 use Rattle.barriers.specs.Needs.{Reaches}
 use Rattle.stealing_pool.specs.Jobs.{Work, Combines}
 use Rattle.stealing_pool.specs.Gathers.{sum_from, AreKept, AreWanted, StandsForPart}
-
-pub reaches_more : (need : Option ℕ) (a b : ℕ) → a ≤ b → Reaches need a → Reaches need b
-reaches_more None a b le reached = reached
-reaches_more (Some r) a b le reached = omega arith
+use Rattle.stealing_pool.specs.SpanLaws.{reaches-more}
 
 -- the sum over leaves is that over the first ones and that over those that follow
 pub sum_from-add : (count : ℕ → ℕ) (first m n : ℕ) → sum_from count first (m + n) ≡ sum_from count first m + sum_from count (first + m) n
@@ -34,7 +32,7 @@ module _ {A : Type 0} (work : Work A) (count : ℕ → ℕ) where
   -- the leaves that follow are wanted too
   pub wanted-drop : (first m n : ℕ) → AreWanted work.needed count first (m + n) → AreWanted work.needed count (first + m) n
   wanted-drop first m n wanted j some within reached =
-      wanted (m + j) (omega arith) (omega arith) (reaches_more work.needed (sum_from count (first + m) j) (sum_from count first (m + j)) (let s = sum_from-add count first m j in omega arith) reached)
+      wanted (m + j) (omega arith) (omega arith) (reaches-more work.needed (sum_from count (first + m) j) (sum_from count first (m + j)) (let s = sum_from-add count first m j in omega arith) reached)
 
 -- a leaf takes the first of the row
 pub stands_one : {A : Type 0} (work : Work A) (kept : A) (row rest : List A) → row ≡ kept ∷ rest → StandsForPart work 1 row kept
@@ -49,12 +47,7 @@ stands_left work kept row m n short stands =
     subst P (take_all m row short ∙ sym (take_all (m + n) row (omega arith))) stands
 
 take_both : {A : Type 0} (row : List A) (m n : ℕ) → m ≤ length row → length (take (m + n) row) ≡ m + length (take n (drop m row))
-take_both row zero n within = let same : length (take (0 + n) row) ≡ length (take n row) = ap (λ k. length (take k row)) (omega arith) in omega arith
-take_both [] (suc m) n within = absurd (omega arith)
-take_both (k ∷ row) (suc m) n within =
-    let shape : suc m + n ≡ suc (m + n) = omega arith in
-    let same : length (take (suc m + n) (k ∷ row)) ≡ length (take (suc (m + n)) (k ∷ row)) = ap (λ j. length (take j (k ∷ row))) shape in
-    let rest = take_both row m n (omega arith) in omega arith
+take_both row m n within = ap length (take-add m n row) ∙ length-append (take m row) (take n (drop m row)) ∙ ap (λ k. k + length (take n (drop m row))) (length-take-le m row within)
 
 -- what stands for both parts
 pub stands_both : {A : Type 0} (work : Work A) (left right both : A) (row : List A) (m n : ℕ) → 0 < m → m < length row → StandsForPart work m row left → StandsForPart work n (drop m row) right → Combines work left right both

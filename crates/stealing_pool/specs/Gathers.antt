@@ -4,8 +4,9 @@ use Rattle.barriers.specs.Needs.{Reaches}
 use Rattle.leaf_board.specs.Case.{IsLawful, sum_below}
 use Rattle.split_tree.specs.declared.tree.Tree.{Tree}
 use Rattle.split_tree.specs.SplitTree.{leaf_numbers, numbers_from}
-use Rattle.stealing_pool.specs.Jobs.{Work, IsWithin}
-use Rattle.stealing_pool.specs.declared.job.Portion.{Portion}
+use Rattle.stealing_pool.specs.Jobs.{Work}
+use Rattle.leaf_reading.specs.Fronts.{IsWithin}
+use Rattle.leaf_reading.specs.declared.leaf_end.Portion.{Portion}
 use Rattle.stealing_pool.specs.declared.worker.Ran.{Ran}
 use Rattle.stealing_pool.specs.declared.worker.Shift.{Shift}
 

@@ -2,8 +2,9 @@
 use Rattle.std.specs.Prelude.{◌≡◌, ◌<◌, ◌≤◌, ◌+◌, ◌⊎◌, ℕ, Option, Some, None}
 use Rattle.barriers.specs.Needs.{Reaches}
 use Rattle.leaf_board.specs.Case.{IsLawful}
-use Rattle.stealing_pool.specs.declared.job.LeafEnd.{LeafEnd}
-use Rattle.stealing_pool.specs.declared.job.LeafEnd.TheVariants.{Done, Cut}
+use Rattle.leaf_reading.specs.Fronts.{IsWithin}
+use Rattle.leaf_reading.specs.declared.leaf_end.LeafEnd.{LeafEnd}
+use Rattle.leaf_reading.specs.declared.leaf_end.LeafEnd.TheVariants.{Done, Cut}
 
 -- What there is to do: so many leaves, with so many counting items each, of which so many are needed in all. `Keeps from to count kept` says that
 -- `kept` stands for the leaves from one number up to, not including, another: for all of their items, or for a front of them that is enough, with so
@@ -13,11 +14,6 @@ pub record Work (A : Type 0) : Type 1 where
   pub full : ℕ → ℕ
   pub needed : Option ℕ
   pub Keeps : ℕ → ℕ → ℕ → A → Type 0
-
--- a count that doesn't pass the need
-abbrev pub IsWithin : Option ℕ → ℕ → Type 0
-IsWithin None n = n ≡ 0
-IsWithin (Some r) n = n ≤ r
 
 -- a leaf that ended left what is kept of it, with a lawful count; one that was cut has a known cut left of it
 abbrev pub EndsLeaf : {A : Type 0} → Work A → ℕ → ℕ → LeafEnd A → Type 0

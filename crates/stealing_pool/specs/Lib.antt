@@ -2,8 +2,6 @@ pub mod Jobs
 pub mod Shifts
 pub mod Gathers
 pub mod Reports
-pub mod Fronts
-pub mod KeeperLaws
+pub mod Spans
 pub mod SpanLaws
-pub mod Keepers
 pub mod Cases

@@ -3,7 +3,8 @@ use Rattle.std.specs.Prelude.{◌≡◌, ◌<◌, ◌+◌, ◌≢◌, ℕ, false
 use Rattle.barriers.specs.Needs.{Reaches}
 use Rattle.leaf_board.specs.Case.{IsLawful}
 use Rattle.leaf_board.specs.Statuses.{Status, Unknown, Given, Published, Skipped, Turns}
-use Rattle.stealing_pool.specs.Jobs.{Work, IsWithin, IsCase}
+use Rattle.stealing_pool.specs.Jobs.{Work, IsCase}
+use Rattle.leaf_reading.specs.Fronts.{IsWithin}
 use Rattle.stealing_pool.specs.declared.worker.Ran.{Ran}
 use Rattle.stealing_pool.specs.declared.worker.Shift.{Shift}
 

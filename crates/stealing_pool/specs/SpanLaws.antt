@@ -1,19 +1,20 @@
 -- What containers of leaves make together: for the jobs whose work is `work_of` lists.
 use Rattle.std.specs.Prelude.{◌≡◌, ◌<◌, ◌≤◌, ◌+◌, ℕ, Bool, zero, suc, List, [], ◌∷◌, ◌++◌, Option, Some, None, Result, Ok, Err, OnOk, IfOk, count_by, flat_map, map, take, drop, length, cond, slice_get, refl}
 use Rattle.std.proofs.Common.{◌∙◌, ap, sym, subst, arith, append-nil, append_assoc, inl, inr, get_or}
-use Rattle.std.proofs.lemmas.List.{take_all, take-take, take-append-drop}
+use Rattle.std.proofs.lemmas.List.{take_all, take-take, take-append-drop, drop-take, drop_more, get_or-map}
 use Rattle.std.proofs.lemmas.List.Concat.{flat_map-append, flat_map-cons}
 use Rattle.std.proofs.lemmas.Option.{get_or_from_slice_get}
 use Rattle.std.proofs.lemmas.List.Sums.{sum_by-append}
 use Rattle.std.proofs.Math.Seq.{take-suc}
 use Rattle.barriers.specs.Needs.{Reaches}
 use Rattle.leaf_board.specs.Case.{sum_below}
-use Rattle.stealing_pool.specs.declared.job.LeafEnd.{LeafEnd}
-use Rattle.stealing_pool.specs.declared.job.LeafEnd.TheVariants.{Done, Cut}
+use Rattle.leaf_reading.specs.declared.leaf_end.LeafEnd.{LeafEnd}
+use Rattle.leaf_reading.specs.declared.leaf_end.LeafEnd.TheVariants.{Done, Cut}
 use Rattle.stealing_pool.specs.Jobs.{EndsLeaf, Combines, StandsForRun}
-use Rattle.stealing_pool.specs.Fronts.{Folding, Folds, IsFront, EndsList, joined, lists_of, full_count, work_of}
+use Rattle.leaf_reading.specs.Fronts.{Folding, Folds, IsFront, EndsList}
+use Rattle.stealing_pool.specs.Spans.{joined, lists_of, full_count, work_of}
 
-reaches-more : (need : Option ℕ) (a b : ℕ) → a ≤ b → Reaches need a → Reaches need b
+pub reaches-more : (need : Option ℕ) (a b : ℕ) → a ≤ b → Reaches need a → Reaches need b
 reaches-more None a b le reached = reached
 reaches-more (Some r) a b le reached = omega arith
 
@@ -24,13 +25,6 @@ span-split (suc from) zero to xs before after = absurd (omega arith)
 span-split (suc from) (suc middle) zero xs before after = absurd (omega arith)
 span-split (suc from) (suc middle) (suc to) [] before after = refl
 span-split (suc from) (suc middle) (suc to) (x ∷ xs) before after = span-split from middle to xs (omega arith) (omega arith)
-
--- one member
-span-one : {X : Type 0} (i : ℕ) (xs : List X) (d : X) → i < length xs → drop i (take (suc i) xs) ≡ get_or xs i d ∷ []
-span-one zero [] d within = absurd (omega arith)
-span-one (suc i) [] d within = absurd (omega arith)
-span-one zero (x ∷ xs) d within = refl
-span-one (suc i) (x ∷ xs) d within = span-one i xs d (omega arith)
 
 pub joined-append : {T : Type 0} (xs ys : List (List T)) → joined (xs ++ ys) ≡ joined xs ++ joined ys
 joined-append xs ys = flat_map-append (λ l. l) xs ys
@@ -44,14 +38,9 @@ joined-lists_of items expand (s ∷ leaves) =
     let all : flat_map expand (flat_map items (s ∷ leaves)) ≡ flat_map expand (items s) ++ flat_map expand (flat_map items leaves) = ap (flat_map expand) (flat_map-cons items s leaves) ∙ flat_map-append expand (items s) (flat_map items leaves) in
     one ∙ ap (λ l. flat_map expand (items s) ++ l) rest ∙ sym all
 
-pub map-at : {X Y : Type 0} (f : X → Y) (xs : List X) (i : ℕ) (d : Y) (e : X) → i < length xs → get_or (map f xs) i d ≡ f (get_or xs i e)
-map-at f [] i d e within = absurd (omega arith)
-map-at f (x ∷ xs) zero d e within = refl
-map-at f (x ∷ xs) (suc i) d e within = map-at f xs i d e (omega arith)
-
 -- the list of a leaf
 pub list-at : {S X T : Type 0} (items : S → List X) (expand : X → List T) (leaves : List S) (leaf : ℕ) (s : S) → leaf < length leaves → slice_get leaves leaf ≡ Some s → get_or (lists_of items expand leaves) leaf [] ≡ flat_map expand (items s)
-list-at items expand leaves leaf s within is = map-at (λ l. flat_map expand (items l)) leaves leaf [] s within ∙ ap (λ l. flat_map expand (items l)) (get_or_from_slice_get leaves leaf s s is)
+list-at items expand leaves leaf s within is = get_or-map (λ l. flat_map expand (items l)) leaves leaf s [] within ∙ ap (λ l. flat_map expand (items l)) (get_or_from_slice_get leaves leaf s s is)
 
 -- the full counts of the first leaves add up to the count of their lists
 pub sum-counts : {T : Type 0} (counted : T → Bool) (lists : List (List T)) (n : ℕ) → n ≤ length lists → sum_below (full_count counted lists) n ≡ count_by counted (joined (take n lists))
@@ -69,7 +58,7 @@ module _ {T C A : Type 0} (f : Folding T C) (content : A → C) (lists : List (L
   leaf-ends leaf cut whole within is Cut told = told
   leaf-ends leaf cut whole within is (Done p) (front, rest, split, folds, counts, small, end) =
       let count : List T → ℕ = λ xs. count_by f.counted xs in
-      let one : drop leaf (take (leaf + 1) lists) ≡ get_or lists leaf [] ∷ [] = (let next : leaf + 1 ≡ suc leaf = omega arith in ap (λ n. drop leaf (take n lists)) next ∙ span-one leaf lists [] within) in
+      let one : drop leaf (take (leaf + 1) lists) ≡ get_or lists leaf [] ∷ [] = drop-take leaf 1 lists ∙ ap (take 1) (drop_more lists leaf [] within) in
       let list : joined (drop leaf (take (leaf + 1) lists)) ≡ front ++ rest = ap joined one ∙ append-nil (get_or lists leaf []) ∙ is ∙ split in
       let full : full_count f.counted lists leaf ≡ count front + count rest = ap count (is ∙ split) ∙ sum_by-append (λ y. cond (f.counted y) 1 0) front rest in (
         (front, rest, list, folds, counts, end),

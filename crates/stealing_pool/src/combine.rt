@@ -39,16 +39,6 @@ fn combine_node<J: LeafJob>(
     Ok(kept)
 }
 
-/// Combines what is kept of a node's leaves in this thread.
-fn combine_here<J: LeafJob>(job: &J, tree: &Tree, row: Vec<J::Kept>) -> Result<J::Kept, NoMemory>
-    requires ready { J.ready job.now }
-    requires some { 0 < length row.items }
-    ensures { IfOk result (StandsForPart (J.work job.now) (length (leaf_numbers tree.now)) row.items) }
-{
-    let mut row = row.into_iter();
-    combine_node(job, tree, &mut row)
-}
-
 /// Combines what is kept of a node's leaves. Of so many levels from here on the right child is another thread's, where it has any.
 #[cycle(forks)]
 fn combine_part<R: Threads + Sync, J: LeafJob + Sync>(
@@ -67,7 +57,7 @@ where
 {
     let (left, right) = match tree {
         Tree::Node(left, right) if levels > 0 => (left, right),
-        _ => return combine_here(job, tree, row),
+        _ => return combine_node(job, tree, &mut row.into_iter()),
     };
     let middle = right.first_leaf() - left.first_leaf();
     if row.len() <= middle {

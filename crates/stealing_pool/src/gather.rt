@@ -1,23 +1,12 @@
 //! What is kept of the leaves is put in its places, and the leaves that the answer needs are picked.
-ghost use Rattle.std.specs.Prelude.{◌≡◌, ◌<◌, ◌↔◌, length, IfOk, OnOk, IsTrue, All, None, replicate, map, false};
-ghost use Rattle.barriers.specs.Needs.{need_of, Reaches};
+ghost use Rattle.std.specs.Prelude.{◌≡◌, ◌<◌, length, IfOk, OnOk, All, None, replicate, map, false};
 ghost use Rattle.stealing_pool.specs.Gathers.{put_in, place_shifts, HoldsLeaves, HasLeaves, IsRow};
 
-use crate::job::{LeafJob, Portion};
+use crate::job::LeafJob;
 use crate::worker::{Ran, Shift};
-use barriers::Need;
+use leaf_reading::{Portion, is_enough};
 use spliterator::NoMemory;
 use std::alloc::Global;
-
-/// Whether so many counting items are enough.
-pub fn is_enough(need: Need, count: u64) -> bool
-    ensures { IsTrue result ↔ Reaches (need_of need) count }
-{
-    match need {
-        Need::Never => false,
-        Need::Reach(needed) => needed <= count,
-    }
-}
 
 /// Puts what is kept of each leaf in its place.
 fn put_all<K: Drop>(places: &mut Vec<Option<Portion<K>>>, ran: Vec<Ran<K>>)

@@ -6,23 +6,8 @@ ghost use Rattle.stealing_pool.specs.Jobs.{Work, EndsLeaf, Combines};
 
 use barriers::Need;
 use leaf_board::Handout;
+use leaf_reading::LeafEnd;
 use spliterator::NoMemory;
-
-/// What is kept of a leaf, and how many of its items count.
-#[derive(Drop)]
-pub struct Portion<K> {
-    pub count: u64,
-    pub kept: K,
-}
-
-/// How the run of a leaf ended.
-#[derive(Drop)]
-pub enum LeafEnd<K> {
-    /// What is kept of the leaf is all of it or is enough.
-    Done(Portion<K>),
-    /// A cut was found left of the leaf.
-    Cut,
-}
 
 /// The work of one run: what a thread does with a leaf, and how two results are combined.
 ///

@@ -2,16 +2,17 @@
 ghost use Rattle.std.specs.Prelude.{◌<◌, ◌≤◌, IfOk, flat_map, length};
 ghost use Rattle.leaf_board.specs.Closing.{cut_of, count_of};
 ghost use Rattle.split_tree.specs.Plan.{leaves_of};
-ghost use Rattle.stealing_pool.specs.Fronts.{folding, IsFront, lists_of, full_count, work_of};
+ghost use Rattle.leaf_reading.specs.Fronts.{folding, IsFront};
+ghost use Rattle.stealing_pool.specs.Spans.{lists_of, full_count, work_of};
 ghost use Rattle.stealing_pool.specs.Reports.{Reports};
 
 use crate::gate::Gate;
-use crate::job::{LeafEnd, LeafJob};
+use crate::job::LeafJob;
 use crate::job_run::{Gathered, run_job};
-use crate::leaf::run_leaf;
 use barriers::{Demand, Need};
 use collectors::{Collector, combine_containers};
 use leaf_board::Handout;
+use leaf_reading::{LeafEnd, run_leaf};
 use split_tree::Plan;
 use spliterator::{NoMemory, Spliterator};
 use stages::Stage;

@@ -7,9 +7,10 @@ ghost use Rattle.stealing_pool.specs.Shifts.{Accepts, IsRan, IsShift, Serves, Ke
 
 use crate::crew::Worker;
 use crate::gate::Gate;
-use crate::job::{LeafEnd, LeafJob, Portion};
+use crate::job::LeafJob;
 use barriers::Need;
 use leaf_board::{Draw, Handout};
+use leaf_reading::{LeafEnd, Portion};
 use spliterator::NoMemory;
 use std::alloc::Global;
 

@@ -5,13 +5,14 @@ use pipeline_language::{
     TextFunction, TextInner, TextSummary,
 };
 use pipeline_meaning::{
-    Both, JoinedText, NumberCheck, NumberMapping, NumberMerging, Seed, SeededHashes, Summarizes,
-    Written, number_base, number_summary, text_summary, write_result,
+    NumberCheck, NumberMapping, NumberMerging, Seed, SeededHashes, number_base, number_summary,
+    text_summary,
 };
 use spliterator::NoMemory;
 use std::alloc::Global;
 use std::process::Abort;
 use std::test::Fail;
+use value_text::{Both, JoinedText, Summarizes, Written, write_result};
 
 /// Checks the text of what a collector makes of the items.
 fn check<C: Summarizes>(

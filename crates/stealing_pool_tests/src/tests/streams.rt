@@ -2,12 +2,14 @@
 ghost use Rattle.std.specs.Prelude.{◌≡◌, ◌<◌, ◌≤◌, List, [], IfOk, length, map, slice_index_or};
 ghost use Rattle.leaf_board.specs.Statuses.{SameFrom, StaysSeat};
 ghost use Rattle.split_tree.specs.SplitTree.{leaf_numbers, numbers_from};
-ghost use Rattle.stealing_pool.specs.Fronts.{folding, EndsList, IsFront, joined, work_of};
+ghost use Rattle.leaf_reading.specs.Fronts.{folding, EndsList, IsFront};
+ghost use Rattle.stealing_pool.specs.Spans.{joined, work_of};
 
 use super::plan_of;
 use barriers::{Demand, Need, Whole};
 use collectors::{Collector, SummingLong, combine_containers};
 use leaf_board::Handout;
+use leaf_reading::{LeafEnd, run_leaf};
 use parts::Itself;
 use sources::RangeSplit;
 use split_tree::{Plan, Tree};
@@ -16,7 +18,7 @@ use stages::Nothing;
 use std::alloc::Global;
 use std::test::Fail;
 use std::thread::Threads;
-use stealing_pool::{Gathered, LeafEnd, LeafJob, NoGate, run_job, run_leaf};
+use stealing_pool::{Gathered, LeafJob, NoGate, run_job};
 
 /// A stream, as far as its last run goes: it hands the items of each leaf to a demand and a collector.
 trait LastRun {

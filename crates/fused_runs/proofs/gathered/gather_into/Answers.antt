@@ -1,6 +1,6 @@
 -- The plan's leaves have the source's items.
 use Rattle.std.proofs.Common.{flat_map, List, subst}
-use Rattle.stealing_pool.specs.Fronts.{IsFront, folding}
+use Rattle.leaf_reading.specs.Fronts.{IsFront, folding}
 use Rattle.fused_runs.proofs.gathered.gather_into.Goals as goal
 
 pub returns : goal.returns

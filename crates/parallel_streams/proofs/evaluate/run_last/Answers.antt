@@ -1,4 +1,4 @@
-use Rattle.stealing_pool.specs.Fronts.{folding}
+use Rattle.leaf_reading.specs.Fronts.{folding}
 use Rattle.stealing_pool.specs.SpanLaws.{run-front}
 use Rattle.parallel_streams.proofs.evaluate.run_last.Goals as goal
 

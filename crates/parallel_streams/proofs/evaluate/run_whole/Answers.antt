@@ -1,6 +1,6 @@
 use Rattle.std.proofs.Common.{map, None, IfOk, subst}
 use Rattle.barriers.specs.Needs.{no_item}
-use Rattle.stealing_pool.specs.Fronts.{folding}
+use Rattle.leaf_reading.specs.Fronts.{folding}
 use Rattle.parallel_streams.specs.Ends.{ends_of}
 use Rattle.parallel_streams.specs.Reports.{IsRunOver}
 use Rattle.parallel_streams.proofs.Idle.{idle-run-ok, listed-run-ok}

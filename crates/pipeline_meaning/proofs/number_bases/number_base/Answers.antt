@@ -3,9 +3,9 @@ use Rattle.std.proofs.Common.{rules, ap, sym, ◌∙◌}
 use Rattle.std.specs.Fmt.{signed_decimal}
 use Rattle.collectors.specs.Reductions.{reduced}
 use Rattle.pipeline_meaning.specs.Prepared.{merging_join}
-use Rattle.pipeline_meaning.specs.SummaryLaws.{reduced-first_of}
+use Rattle.value_text.specs.SummaryLaws.{reduced-first_of}
 use Rattle.pipeline_meaning.specs.Summaries.{number_base_text}
-use Rattle.pipeline_meaning.specs.Texts.{optional_text}
+use Rattle.value_text.specs.Texts.{optional_text}
 use Rattle.pipeline_meaning.proofs.number_bases.number_base.Goals as goal
 
 pub returns-in-First-clause-summary : goal.returns-in-First-clause-summary

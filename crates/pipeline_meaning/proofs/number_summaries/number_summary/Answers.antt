@@ -2,7 +2,7 @@
 use Rattle.std.proofs.Common.{ap, sym, ◌∙◌}
 use Rattle.std.specs.Fmt.{signed_decimal}
 use Rattle.std.specs.Ordering.{int_eq}
-use Rattle.pipeline_meaning.specs.SummaryLaws.{groups-same}
+use Rattle.value_text.specs.SummaryLaws.{groups-same}
 use Rattle.pipeline_meaning.specs.Summaries.{number_summary_text}
 use Rattle.pipeline_meaning.proofs.number_summaries.number_summary.Goals as goal
 

@@ -3,8 +3,9 @@ use Rattle.std.proofs.Common.{refl, ap, sym, ◌∙◌}
 use Rattle.std.specs.Prelude.{bytes_eq}
 use Rattle.std.specs.Fmt.{signed_decimal}
 use Rattle.std.specs.Ordering.{int_eq}
-use Rattle.pipeline_meaning.specs.SummaryLaws.{groups-same}
-use Rattle.pipeline_meaning.specs.Summaries.{itself, text_groups_text, text_inner_text}
+use Rattle.value_text.specs.SummaryLaws.{groups-same}
+use Rattle.value_text.specs.Texts.{itself}
+use Rattle.pipeline_meaning.specs.Summaries.{text_groups_text, text_inner_text}
 use Rattle.pipeline_meaning.proofs.text_summaries.text_groups.Goals as goal
 
 pub returns-in-Length-clause-summary : goal.returns-in-Length-clause-summary

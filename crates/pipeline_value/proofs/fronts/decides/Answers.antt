@@ -1,7 +1,7 @@
 use Rattle.std.proofs.Common.{ap, ⊎_elim}
 use Rattle.std.specs.Prelude.{not, Ok}
 use Rattle.pipeline_meaning.specs.Functions.{number_holds}
-use Rattle.pipeline_meaning.specs.Texts.{truth_text}
+use Rattle.value_text.specs.Texts.{truth_text}
 use Rattle.pipeline_value.proofs.StageFronts.{all-front, any-front}
 use Rattle.pipeline_value.proofs.fronts.decides.Goals as goal
 

@@ -1,5 +1,5 @@
 use Rattle.std.proofs.Common.{rules, refl, sym, ap₂, Ok}
-use Rattle.pipeline_meaning.specs.Texts.{partition_text}
+use Rattle.value_text.specs.Texts.{partition_text}
 use Rattle.pipeline_value.proofs.number_groups.number_arrangement.Goals as goal
 
 -- bounded: a wrong body would search to its limit

@@ -2,7 +2,7 @@
 use Rattle.std.proofs.Common.{◌<◌, ap, sym, ◌∙◌}
 use Rattle.std.specs.Prelude.{flat_map, length}
 use Rattle.stages.specs.Passing.{flat_map-flat_map}
-use Rattle.pipeline_meaning.specs.WalkLaws.{where-put}
+use Rattle.std.proofs.lemmas.Bool.{MatchBool-at_true}
 use Rattle.pipeline_value.specs.Narrowing.{stage-more}
 use Rattle.pipeline_value.proofs.settled.settle.Goals as goal
 
@@ -11,7 +11,7 @@ loop-taken-preserved-then-branch g c =
     let makes = g.G.LanguageStage.makes in
     let items = flat_map (g.A.Stage.expand c.args.front.now) (g.S.Spliterator.items c.loop-taken.source) in
     let within : c.loop-taken.taken < length c.args.stages.now = c.loop-taken-test.true in
-    where-put _ c.in_ok-put_behind.field-0 c.if-branch.true c.in_ok-put_behind.ensures items
+    MatchBool-at_true _ _ c.if-branch.true c.in_ok-put_behind.ensures items
     ∙ ap (λ stage. makes stage (flat_map (g.G.Steps.Stage.expand c.loop-taken.steps) items)) c.index-stages-taken.is
     ∙ stage-more makes c.args.stages.now c.loop-taken.taken _ (flat_map (g.G.Steps.Stage.expand c.loop-taken.steps) items) _ within c.loop-taken.invariant
 

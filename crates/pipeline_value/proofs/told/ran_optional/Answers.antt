@@ -1,7 +1,7 @@
 -- The text of the item is that of its content.
 use Rattle.std.specs.Prelude.{ℕ, List, Ok}
 use Rattle.std.proofs.Common.{subst}
-use Rattle.pipeline_meaning.specs.SummaryLaws.{optional_tells}
+use Rattle.value_text.specs.SummaryLaws.{optional_tells}
 use Rattle.pipeline_value.specs.Value.{Tells}
 use Rattle.pipeline_value.proofs.told.ran_optional.Goals as goal
 

@@ -3,7 +3,8 @@ use Rattle.std.specs.Prelude.{flat_map, Result, Ok, Err, IfOk}
 use Rattle.split_tree.specs.Plan.{leaves_of}
 use Rattle.stealing_pool.specs.declared.job_run.Gathered.{Gathered}
 use Rattle.stealing_pool.specs.Jobs.{StandsForRun}
-use Rattle.stealing_pool.specs.Fronts.{Folding, folding, lists_of, work_of, IsFront}
+use Rattle.leaf_reading.specs.Fronts.{Folding, folding, IsFront}
+use Rattle.stealing_pool.specs.Spans.{lists_of, work_of}
 use Rattle.stealing_pool.specs.SpanLaws.{joined-lists_of, run-front}
 use Rattle.stealing_pool.proofs.plan_run.run_leaves.Goals as goal
 

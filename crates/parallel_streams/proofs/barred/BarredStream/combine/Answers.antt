@@ -1,6 +1,6 @@
 use Rattle.std.proofs.Common.{[], map}
 use Rattle.collectors.specs.NestedLaws.{push}
-use Rattle.stealing_pool.specs.Fronts.{folding}
+use Rattle.leaf_reading.specs.Fronts.{folding}
 use Rattle.parallel_streams.specs.ProgressLaws.{combines-own_ok}
 use Rattle.parallel_streams.proofs.barred.BarredStream.combine.Goals as goal
 

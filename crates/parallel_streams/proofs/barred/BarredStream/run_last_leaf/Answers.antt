@@ -1,5 +1,5 @@
 use Rattle.std.proofs.Common.{◌≡◌, List, Some, map, flat_map, slice_get, subst, sym, ap, ◌∙◌}
-use Rattle.stealing_pool.specs.Fronts.{folding}
+use Rattle.leaf_reading.specs.Fronts.{folding}
 use Rattle.stealing_pool.specs.SpanLaws.{leaf-ends-ok}
 use Rattle.parallel_streams.specs.Cuts.{cut_at}
 use Rattle.parallel_streams.specs.Ends.{ends_of}

@@ -1,7 +1,8 @@
 use Rattle.std.proofs.Common.{List, [], map, subst, sym, ◌∙◌}
 use Rattle.std.specs.Prelude.{IfOk}
 use Rattle.collectors.specs.NestedLaws.{push}
-use Rattle.stealing_pool.specs.Fronts.{folding, work_of}
+use Rattle.leaf_reading.specs.Fronts.{folding}
+use Rattle.stealing_pool.specs.Spans.{work_of}
 use Rattle.stealing_pool.specs.Jobs.{EndsLeaf}
 use Rattle.parallel_streams.specs.LeafLaws.{map-alone}
 use Rattle.parallel_streams.specs.ProgressLaws.{ends-own_ok}

@@ -1,5 +1,6 @@
 use Rattle.std.proofs.Common.{List, subst, IfOk}
-use Rattle.stealing_pool.specs.Fronts.{folding, work_of}
+use Rattle.leaf_reading.specs.Fronts.{folding}
+use Rattle.stealing_pool.specs.Spans.{work_of}
 use Rattle.stealing_pool.specs.Jobs.{EndsLeaf}
 use Rattle.parallel_streams.specs.LeafLaws.{map-alone}
 use Rattle.parallel_streams.proofs.evaluate.LastRunLeafJob.run_leaf.Goals as goal

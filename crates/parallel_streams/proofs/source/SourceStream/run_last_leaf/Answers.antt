@@ -2,7 +2,7 @@ use Rattle.std.proofs.Common.{◌≡◌, ◌<◌, ℕ, [], map, flat_map, length
 use Rattle.std.proofs.lemmas.List.{length-map}
 use Rattle.std.specs.List.{slice_index_or}
 use Rattle.split_tree.specs.Plan.{leaves_of}
-use Rattle.stealing_pool.specs.Fronts.{folding}
+use Rattle.leaf_reading.specs.Fronts.{folding}
 use Rattle.stealing_pool.specs.SpanLaws.{leaf-ends-ok}
 use Rattle.parallel_streams.specs.LeafLaws.{map-both, get-mapped}
 use Rattle.parallel_streams.proofs.source.SourceStream.run_last_leaf.Goals as goal

@@ -1,5 +1,6 @@
 use Rattle.std.proofs.Common.{List, map, flat_map, subst, ap, IfOk}
-use Rattle.stealing_pool.specs.Fronts.{folding, work_of}
+use Rattle.leaf_reading.specs.Fronts.{folding}
+use Rattle.stealing_pool.specs.Spans.{work_of}
 use Rattle.stealing_pool.specs.Jobs.{EndsLeaf}
 use Rattle.parallel_streams.specs.LeafLaws.{map-fused}
 use Rattle.parallel_streams.proofs.staged.StagedStream.run_last_leaf.Goals as goal

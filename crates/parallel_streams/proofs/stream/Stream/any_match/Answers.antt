@@ -1,6 +1,6 @@
 use Rattle.std.proofs.Common.{◌∙◌, ap, sym, Some}
 use Rattle.barriers.specs.NeedLaws.{value-front}
-use Rattle.stealing_pool.specs.Fronts.{joined}
+use Rattle.stealing_pool.specs.Spans.{joined}
 use Rattle.parallel_streams.specs.Meeting.{KeepsEnough-any}
 use Rattle.parallel_streams.specs.Terminals.{any_meets}
 use Rattle.parallel_streams.proofs.stream.Stream.any_match.Goals as goal

@@ -1,7 +1,7 @@
 use Rattle.std.proofs.Common.{List, None, subst, sym, ◌∙◌}
 use Rattle.barriers.specs.Needs.{no_item}
 use Rattle.barriers.specs.NeedLaws.{KeepsEnough-never, whole-front}
-use Rattle.stealing_pool.specs.Fronts.{joined}
+use Rattle.stealing_pool.specs.Spans.{joined}
 use Rattle.parallel_streams.proofs.Harmless.{is-entry}
 use Rattle.parallel_streams.proofs.stream.Stream.collect_reported.Goals as goal
 

@@ -1,6 +1,6 @@
 use Rattle.std.proofs.Common.{◌∙◌, ap, sym}
 use Rattle.collectors.specs.Reductions.{first}
-use Rattle.stealing_pool.specs.Fronts.{joined}
+use Rattle.stealing_pool.specs.Spans.{joined}
 use Rattle.parallel_streams.proofs.Firsts.{first-front}
 use Rattle.parallel_streams.proofs.stream.Stream.find_first.Goals as goal
 

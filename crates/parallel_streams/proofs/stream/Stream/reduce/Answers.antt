@@ -2,7 +2,7 @@ use Rattle.std.proofs.Common.{◌∙◌, ap, sym, fold, option_map}
 use Rattle.barriers.specs.Needs.{no_item}
 use Rattle.barriers.specs.NeedLaws.{whole-front}
 use Rattle.collectors.specs.Reductions.{reduced}
-use Rattle.stealing_pool.specs.Fronts.{joined}
+use Rattle.stealing_pool.specs.Spans.{joined}
 use Rattle.parallel_streams.proofs.Firsts.{fold-reduced_some, fold-reduced_none}
 use Rattle.parallel_streams.proofs.stream.Stream.reduce.Goals as goal
 

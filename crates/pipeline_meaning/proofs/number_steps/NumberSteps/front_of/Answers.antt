@@ -1,10 +1,11 @@
 use Rattle.std.proofs.Common.{rules, arith}
+use Rattle.std.proofs.lemmas.Bool.{MatchBool-at_true}
 use Rattle.std.proofs.lemmas.Grind.{common_steps}
 use Rattle.pipeline_meaning.specs.declared.number_steps.NumberSteps.{NumberSteps}
 use Rattle.pipeline_meaning.proofs.NumberFronts.{no-stages}
 use Rattle.pipeline_meaning.specs.NumberSteps.{number_images, only_maps}
 use Rattle.pipeline_meaning.specs.Stages.{number_stage, is_number_map}
-use Rattle.pipeline_meaning.specs.WalkLaws.{front-more, where-put}
+use Rattle.pipeline_meaning.specs.WalkLaws.{front-more}
 use Rattle.pipeline_meaning.proofs.number_steps.NumberSteps.front_of.Goals as goal
 
 pub loop-place-init : goal.loop-place-init
@@ -17,7 +18,7 @@ loop-place-preserved c =
     let old = c.loop-place.front in
     let new = c.put.new.self in
     front-more number_stage is_number_map (number_images old) (number_images new) (only_maps old) (only_maps new) c.args.stages.now c.loop-place.place _
-    c.loop-place-test.true c.loop-place.invariant (where-put _ c.in_ok-put.field-0 c.if-not-branch.false c.in_ok-put.ensures)
+    c.loop-place-test.true c.loop-place.invariant (MatchBool-at_true _ _ c.if-not-branch.false c.in_ok-put.ensures)
 
 -- bounded: a wrong body would search to its limit
 pub returns-then-not-branch-clause-means : goal.returns-then-not-branch-clause-means

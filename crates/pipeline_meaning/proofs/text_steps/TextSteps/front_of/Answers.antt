@@ -1,8 +1,9 @@
 use Rattle.std.proofs.Common.{rules, arith}
+use Rattle.std.proofs.lemmas.Bool.{MatchBool-at_true}
 use Rattle.std.proofs.lemmas.Grind.{common_steps}
 use Rattle.pipeline_meaning.specs.Stages.{text_stage, is_text_map}
 use Rattle.pipeline_meaning.specs.TextSteps.{text_images, only_maps}
-use Rattle.pipeline_meaning.specs.WalkLaws.{front-more, where-put}
+use Rattle.pipeline_meaning.specs.WalkLaws.{front-more}
 use Rattle.pipeline_meaning.proofs.TextFronts.{no-stages}
 use Rattle.pipeline_meaning.proofs.text_steps.TextSteps.front_of.Goals as goal
 
@@ -14,7 +15,7 @@ loop-place-preserved c =
     let old = c.loop-place.front.steps.items in
     let new = c.put.new.self.steps.items in
     front-more text_stage is_text_map (text_images old) (text_images new) (only_maps old) (only_maps new) c.args.stages.now c.loop-place.place _
-    c.loop-place-test.true c.loop-place.invariant (where-put _ c.in_ok-put.field-0 c.if-not-branch.false c.in_ok-put.ensures)
+    c.loop-place-test.true c.loop-place.invariant (MatchBool-at_true _ _ c.if-not-branch.false c.in_ok-put.ensures)
 
 -- bounded: a wrong body would search to its limit
 pub returns-then-not-branch-clause-means : goal.returns-then-not-branch-clause-means

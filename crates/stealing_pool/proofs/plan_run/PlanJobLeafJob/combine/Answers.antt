@@ -1,5 +1,6 @@
 use Rattle.split_tree.specs.Plan.{leaves_of}
-use Rattle.stealing_pool.specs.Fronts.{folding, lists_of}
+use Rattle.leaf_reading.specs.Fronts.{folding}
+use Rattle.stealing_pool.specs.Spans.{lists_of}
 use Rattle.stealing_pool.specs.SpanLaws.{spans-combine-ok}
 use Rattle.stealing_pool.proofs.plan_run.PlanJobLeafJob.combine.Goals as goal
 

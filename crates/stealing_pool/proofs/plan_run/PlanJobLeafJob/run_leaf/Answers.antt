@@ -2,7 +2,8 @@ use Rattle.std.proofs.Common.{◌<◌, length, arith}
 use Rattle.std.specs.Prelude.{flat_map}
 use Rattle.std.proofs.lemmas.List.{length-map}
 use Rattle.split_tree.specs.Plan.{leaves_of}
-use Rattle.stealing_pool.specs.Fronts.{folding, lists_of}
+use Rattle.leaf_reading.specs.Fronts.{folding}
+use Rattle.stealing_pool.specs.Spans.{lists_of}
 use Rattle.stealing_pool.specs.SpanLaws.{list-at, leaf-ends-ok}
 use Rattle.stealing_pool.proofs.plan_run.PlanJobLeafJob.run_leaf.Goals as goal
 

@@ -1,7 +1,8 @@
 use Rattle.std.specs.Prelude.{List, Result, Ok, Err, IfOk}
 use Rattle.stealing_pool.specs.declared.job_run.Gathered.{Gathered}
 use Rattle.stealing_pool.specs.Jobs.{StandsForRun}
-use Rattle.stealing_pool.specs.Fronts.{Folding, folding, joined, work_of, IsFront}
+use Rattle.leaf_reading.specs.Fronts.{Folding, folding, IsFront}
+use Rattle.stealing_pool.specs.Spans.{joined, work_of}
 use Rattle.stealing_pool.specs.SpanLaws.{run-front}
 use Rattle.stealing_pool_tests.proofs.tests.streams.evaluate.Goals as goal
 

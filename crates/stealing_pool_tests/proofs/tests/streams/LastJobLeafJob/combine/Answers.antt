@@ -1,4 +1,4 @@
-use Rattle.stealing_pool.specs.Fronts.{folding}
+use Rattle.leaf_reading.specs.Fronts.{folding}
 use Rattle.stealing_pool.specs.SpanLaws.{spans-combine-ok}
 use Rattle.stealing_pool_tests.proofs.tests.streams.LastJobLeafJob.combine.Goals as goal
 

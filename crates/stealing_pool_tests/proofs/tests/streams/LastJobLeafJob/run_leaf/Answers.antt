@@ -1,5 +1,5 @@
 use Rattle.std.proofs.Common.{refl}
-use Rattle.stealing_pool.specs.Fronts.{folding}
+use Rattle.leaf_reading.specs.Fronts.{folding}
 use Rattle.stealing_pool.specs.SpanLaws.{leaf-ends-ok}
 use Rattle.stealing_pool_tests.proofs.tests.streams.LastJobLeafJob.run_leaf.Goals as goal
 

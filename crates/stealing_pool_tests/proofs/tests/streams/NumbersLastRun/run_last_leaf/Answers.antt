@@ -1,22 +1,17 @@
 use Rattle.std.proofs.Common.{◌≡◌, ◌<◌, ◌∙◌, ◌∷◌, [], ℕ, ℤ, List, Some, ap, sym, subst, refl, length, arith, get_or}
 use Rattle.std.specs.Prelude.{IfOk, flat_map, map, slice_get}
-use Rattle.std.proofs.lemmas.List.{length-map}
-use Rattle.std.proofs.lemmas.List.Concat.{flat_map-cons}
+use Rattle.std.proofs.lemmas.List.{length-map, get_or-map}
 use Rattle.std.proofs.lemmas.Option.{get_or_from_slice_get}
 use Rattle.spliterator.specs.Values.{IsI64}
+use Rattle.stages.specs.Passing.{flat_map-one}
 use Rattle.sources.specs.Integers.{integers}
 use Rattle.sources.specs.declared.range.RangeSplit.{RangeSplit}
 use Rattle.split_tree.specs.Plan.{leaves_of}
-use Rattle.stealing_pool.specs.Fronts.{folding, EndsList}
-use Rattle.stealing_pool.specs.SpanLaws.{map-at}
+use Rattle.leaf_reading.specs.Fronts.{folding, EndsList}
 use Rattle.stealing_pool_tests.proofs.tests.streams.NumbersLastRun.run_last_leaf.Goals as goal
 
-alone : {X : Type 0} (xs : List X) → flat_map (λ x. x ∷ []) xs ≡ xs
-alone [] = refl
-alone (x ∷ xs) = flat_map-cons (λ y. y ∷ []) x xs ∙ ap (λ l. x ∷ l) (alone xs)
-
 at_leaf : {S X : Type 0} (items : S → List X) (leaves : List S) (leaf : ℕ) (s : S) → leaf < length leaves → slice_get leaves leaf ≡ Some s → flat_map (λ x. x ∷ []) (items s) ≡ get_or (map items leaves) leaf []
-at_leaf items leaves leaf s within is = alone (items s) ∙ sym (map-at items leaves leaf [] s within ∙ ap items (get_or_from_slice_get leaves leaf s s is))
+at_leaf items leaves leaf s within is = flat_map-one (items s) ∙ sym (get_or-map items leaves leaf s [] within ∙ ap items (get_or_from_slice_get leaves leaf s s is))
 
 pub returns-clause-end : goal.returns-clause-end
 returns-clause-end g c =

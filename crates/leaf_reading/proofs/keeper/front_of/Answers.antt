@@ -1,0 +1,11 @@
+use Rattle.std.proofs.Common.{sym, subst, map, take, length}
+use Rattle.barriers.specs.Needs.{need_of, CountsNone}
+use Rattle.barriers.specs.declared.demand.Need.{Need}
+use Rattle.leaf_reading.proofs.Fronts.{count_none}
+use Rattle.leaf_reading.proofs.keeper.front_of.Goals as goal
+
+pub returns-in-Never-clause-counting : goal.returns-in-Never-clause-counting
+returns-in-Never-clause-counting g c =
+    let counted = g.D.Demand.counted c.args.demand.now in
+    let P : Need → Type 0 = λ need. CountsNone (need_of need) counted in
+    sym (count_none counted (subst P c.in-Never.is c.requires.need.never) (map g.T.Value.content (take (length c.args.items.now) c.args.items.now)))

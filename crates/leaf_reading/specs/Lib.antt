@@ -1,0 +1,4 @@
+pub mod Fronts
+pub mod KeeperLaws
+pub mod Keepers
+pub mod Stretches

@@ -1,0 +1,12 @@
+//! Reads one leaf: its source's items pass a stage, and are kept until they are enough or the leaf is cut.
+#![tactic(auto)]
+
+mod keeper;
+mod leaf;
+mod leaf_end;
+mod stretch;
+
+pub use keeper::is_enough;
+pub use leaf::run_leaf;
+pub use leaf_end::{LeafEnd, Portion};
+pub use stretch::feed_whole;

@@ -1,0 +1,269 @@
+//! A leaf's items go to a sink, a stretch at a time.
+ghost use Rattle.std.specs.Prelude.{◌<◌, flat_map, length, MatchBool, OnOk, IfOk};
+ghost use Rattle.leaf_board.specs.Statuses.{SameFrom, StaysSeat};
+ghost use Rattle.leaf_reading.specs.Stretches.{TakesOn};
+
+use leaf_board::Handout;
+use spliterator::{NoMemory, Spliterator};
+use stages::{Sink, Stage};
+use std::alloc::Global;
+
+/// The source items between two questions whether the leaf was cut.
+const STRETCH: u64 = 1024;
+
+/// The source items of a round, which are those between two questions how many items are left.
+const ROUND: u64 = 8;
+
+/// Feeds one of the source's items to a sink. Says whether it did: nothing is left, or no item makes a difference any more.
+fn feed_one<S: Spliterator, G: Stage<In = S::Item>, K: Sink<G::Out>>(
+    stage: &G,
+    source: &mut S,
+    sink: &mut K,
+) -> Result<bool, NoMemory>
+    requires stage { G.ready stage.now }
+    requires sink { K.ready sink.old }
+    ensures taken { OnOk result (TakesOn K.takes (flat_map (G.expand stage.now)) (S.items source.old) sink.old (S.items source.new) sink.new) }
+    ensures ready { OnOk result (K.ready sink.new) }
+    ensures more { IfOk result (λ more. MatchBool more (length (S.items source.new) < length (S.items source.old)) (K.takes sink.new (flat_map (G.expand stage.now) (S.items source.new)) sink.new)) }
+{
+    if sink.is_full() {
+        return Ok(false);
+    }
+    let Some(x) = source.try_advance()? else {
+        return Ok(false);
+    };
+    stage.feed(x, sink)?;
+    Ok(true)
+}
+
+/// Feeds so many of a source's items to a sink. Says whether it did: else nothing is left, or no item makes a difference any more.
+///
+/// Where the number is a constant and small, a compiler lays the steps out in a row, and steps the source's own numbers once for all.
+#[inline(always)]
+fn feed_some<S: Spliterator, G: Stage<In = S::Item>, K: Sink<G::Out>>(
+    stage: &G,
+    source: &mut S,
+    sink: &mut K,
+    number: u64,
+) -> Result<bool, NoMemory>
+    requires some { 0 < number }
+    requires stage { G.ready stage.now }
+    requires sink { K.ready sink.old }
+    ensures taken { OnOk result (TakesOn K.takes (flat_map (G.expand stage.now)) (S.items source.old) sink.old (S.items source.new) sink.new) }
+    ensures ready { OnOk result (K.ready sink.new) }
+    ensures more { IfOk result (λ more. MatchBool more (length (S.items source.new) < length (S.items source.old)) (K.takes sink.new (flat_map (G.expand stage.now) (S.items source.new)) sink.new)) }
+{
+    for _read in 0..number {
+        if !feed_one(stage, source, sink)? {
+            return Ok(false);
+        }
+    }
+    Ok(true)
+}
+
+/// Feeds rounds of a source's items to a sink, at least one, as long as it tells that more than so many items are left. Says whether more
+/// may make a difference.
+///
+/// The loop keeps one number, the source's own. Where it is at least a round's, that each item of a round is there follows from it.
+fn feed_rounds<S: Spliterator, G: Stage<In = S::Item>, K: Sink<G::Out>>(
+    stage: &G,
+    source: &mut S,
+    sink: &mut K,
+    above: u64,
+) -> Result<bool, NoMemory>
+    requires stage { G.ready stage.now }
+    requires sink { K.ready sink.old }
+    ensures taken { OnOk result (TakesOn K.takes (flat_map (G.expand stage.now)) (S.items source.old) sink.old (S.items source.new) sink.new) }
+    ensures ready { OnOk result (K.ready sink.new) }
+    ensures more { IfOk result (λ more. MatchBool more (length (S.items source.new) < length (S.items source.old)) (K.takes sink.new (flat_map (G.expand stage.now) (S.items source.new)) sink.new)) }
+{
+    'reading: loop {
+        if !feed_some(stage, source, sink, ROUND)? {
+            return Ok(false);
+        }
+        match source.exact_size() {
+            Some(left) if above < left => {}
+            _ => return Ok(true),
+        }
+    }
+}
+
+/// Feeds a source's items to a sink until it tells that no more than so many are left. Says whether more may make a difference.
+///
+/// It feeds rounds as long as one fits, and then single items.
+fn feed_counted<S: Spliterator, G: Stage<In = S::Item>, K: Sink<G::Out>>(
+    stage: &G,
+    source: &mut S,
+    sink: &mut K,
+    rest: u64,
+) -> Result<bool, NoMemory>
+    requires stage { G.ready stage.now }
+    requires sink { K.ready sink.old }
+    ensures taken { OnOk result (TakesOn K.takes (flat_map (G.expand stage.now)) (S.items source.old) sink.old (S.items source.new) sink.new) }
+    ensures ready { OnOk result (K.ready sink.new) }
+    ensures more { IfOk result (λ more. MatchBool more (length (S.items source.new) < length (S.items source.old)) (K.takes sink.new (flat_map (G.expand stage.now) (S.items source.new)) sink.new)) }
+{
+    let above = rest.saturating_add(ROUND - 1);
+    'reading: loop {
+        let more = match source.exact_size() {
+            Some(left) if above < left => feed_rounds(stage, source, sink, above)?,
+            _ => feed_one(stage, source, sink)?,
+        };
+        if !more {
+            return Ok(false);
+        }
+        match source.exact_size() {
+            Some(left) if rest < left => {}
+            Some(0) => return Ok(false),
+            _ => return Ok(true),
+        }
+    }
+}
+
+/// Feeds a stretch of what the source covers to a sink, item by item. Says whether more may make a difference.
+fn feed_items<S: Spliterator, G: Stage<In = S::Item>, K: Sink<G::Out>>(
+    stage: &G,
+    source: &mut S,
+    sink: &mut K,
+) -> Result<bool, NoMemory>
+    requires stage { G.ready stage.now }
+    requires sink { K.ready sink.old }
+    ensures taken { OnOk result (TakesOn K.takes (flat_map (G.expand stage.now)) (S.items source.old) sink.old (S.items source.new) sink.new) }
+    ensures ready { OnOk result (K.ready sink.new) }
+    ensures more { IfOk result (λ more. MatchBool more (length (S.items source.new) < length (S.items source.old)) (K.takes sink.new (flat_map (G.expand stage.now) (S.items source.new)) sink.new)) }
+{
+    match source.exact_size() {
+        Some(0) => Ok(false),
+        Some(left) => feed_counted(stage, source, sink, left.saturating_sub(STRETCH)),
+        None => feed_some(stage, source, sink, STRETCH),
+    }
+}
+
+/// Feeds a block of at most so many of a source's items to a sink. Says whether more may make a difference.
+fn feed_block<S: Spliterator, G: Stage<In = S::Item>, K: Sink<G::Out>>(
+    stage: &G,
+    source: &mut S,
+    most: usize,
+    room: &mut Vec<S::Item>,
+    sink: &mut K,
+) -> Result<bool, NoMemory>
+    requires some { 0 < most }
+    requires stage { G.ready stage.now }
+    requires sink { K.ready sink.old }
+    ensures taken { OnOk result (TakesOn K.takes (flat_map (G.expand stage.now)) (S.items source.old) sink.old (S.items source.new) sink.new) }
+    ensures ready { OnOk result (K.ready sink.new) }
+    ensures more { IfOk result (λ more. MatchBool more (length (S.items source.new) < length (S.items source.old)) (K.takes sink.new (flat_map (G.expand stage.now) (S.items source.new)) sink.new)) }
+{
+    if sink.is_full() {
+        return Ok(false);
+    }
+    source.next_block(most, room)?;
+    if room.is_empty() {
+        return Ok(false);
+    }
+    stage.feed_all(room, sink)?;
+    Ok(true)
+}
+
+/// Feeds a stretch of a source's items to a sink in blocks that grow: each is as long as those before it, and 64 at least. Says whether more may
+/// make a difference.
+fn feed_growing<S: Spliterator, G: Stage<In = S::Item>, K: Sink<G::Out>>(
+    stage: &G,
+    source: &mut S,
+    room: &mut Vec<S::Item>,
+    sink: &mut K,
+) -> Result<bool, NoMemory>
+    requires stage { G.ready stage.now }
+    requires sink { K.ready sink.old }
+    ensures taken { OnOk result (TakesOn K.takes (flat_map (G.expand stage.now)) (S.items source.old) sink.old (S.items source.new) sink.new) }
+    ensures ready { OnOk result (K.ready sink.new) }
+    ensures more { IfOk result (λ more. MatchBool more (length (S.items source.new) < length (S.items source.old)) (K.takes sink.new (flat_map (G.expand stage.now) (S.items source.new)) sink.new)) }
+{
+    let mut fed: usize = 0;
+    'reading: loop {
+        let most = fed.max(64);
+        if !feed_block(stage, source, most, room, sink)? {
+            return Ok(false);
+        }
+        fed = fed.saturating_add(most);
+        if STRETCH as usize <= fed {
+            return Ok(true);
+        }
+    }
+}
+
+/// Feeds a stretch of what the source covers to a sink, as the stage prefers it. Says whether more may make a difference.
+fn feed_stretch<S: Spliterator, G: Stage<In = S::Item>, K: Sink<G::Out>>(
+    stage: &G,
+    source: &mut S,
+    is_first: bool,
+    room: &mut Vec<S::Item>,
+    sink: &mut K,
+) -> Result<bool, NoMemory>
+    requires stage { G.ready stage.now }
+    requires sink { K.ready sink.old }
+    ensures taken { OnOk result (TakesOn K.takes (flat_map (G.expand stage.now)) (S.items source.old) sink.old (S.items source.new) sink.new) }
+    ensures ready { OnOk result (K.ready sink.new) }
+    ensures more { IfOk result (λ more. MatchBool more (length (S.items source.new) < length (S.items source.old)) (K.takes sink.new (flat_map (G.expand stage.now) (S.items source.new)) sink.new)) }
+{
+    if !stage.prefers_blocks() {
+        feed_items(stage, source, sink)
+    } else if is_first {
+        feed_growing(stage, source, room, sink)
+    } else {
+        feed_block(stage, source, STRETCH as usize, room, sink)
+    }
+}
+
+/// Feeds what the source covers to a sink, until no more makes a difference, or the leaf is cut. Says whether it wasn't cut.
+pub(crate) fn feed_until_cut<B: Handout, S: Spliterator, G: Stage<In = S::Item>, K: Sink<G::Out>>(
+    alloc: Global,
+    stage: &G,
+    source: S,
+    sink: &mut K,
+    board: &B,
+    seat: &mut B::Seat,
+    leaf: usize,
+) -> Result<bool, NoMemory>
+    requires stage { G.ready stage.now }
+    requires sink { K.ready sink.old }
+    requires of { B.is_of board.now seat.old }
+    requires within { leaf < B.leaves board.now }
+    ensures seat { StaysSeat (B.is_of board.now) B.number B.draws_left B.made_cut seat.old seat.new }
+    ensures same { SameFrom (B.status seat.old) (B.status seat.new) }
+    ensures fed { IfOk result (λ ended. MatchBool ended (K.takes sink.old (flat_map (G.expand stage.now) (S.items source)) sink.new) (B.cut seat.new < leaf)) }
+{
+    let mut source = source;
+    let mut room = Vec::new(alloc);
+    let mut is_first = true;
+    'reading: loop {
+        let more = feed_stretch(stage, &mut source, is_first, &mut room, sink)?;
+        is_first = false;
+        if !more {
+            return Ok(true);
+        }
+        if board.is_cut(seat, leaf) {
+            return Ok(false);
+        }
+    }
+}
+
+/// Feeds all that a source covers through a stage to a sink, as far as it makes a difference.
+pub fn feed_whole<S: Spliterator, G: Stage<In = S::Item>, K: Sink<G::Out>>(
+    alloc: Global,
+    stage: &G,
+    source: S,
+    sink: &mut K,
+) -> Result<(), NoMemory>
+    requires stage { G.ready stage.now }
+    requires sink { K.ready sink.old }
+    ensures fed { OnOk result (K.takes sink.old (flat_map (G.expand stage.now) (S.items source)) sink.new) }
+{
+    let mut source = source;
+    let mut room = Vec::new(alloc);
+    'reading: loop {
+        if !feed_stretch(stage, &mut source, false, &mut room, sink)? {
+            return Ok(());
+        }
+    }
+}

@@ -1,0 +1,2 @@
+pub mod SummaryLaws
+pub mod Texts
