@@ -1,10 +1,10 @@
 -- What stands in the places of the leaves.
-use Rattle.std.proofs.Common.{◌≡◌, ◌<◌, ◌+◌, ◌∷◌, ℕ, zero, suc, map, replicate, List, [], Option, Some, None, length, get_or, drop, ap, sym, ◌∙◌, refl, subst, inl, inr, arith, add-one, drop-cons, get_or-set_same, get_or-set_other}
+use Rattle.std.proofs.Common.{◌≡◌, ◌<◌, ◌+◌, ◌∷◌, ℕ, map, replicate, List, [], Option, Some, None, length, get_or, drop, ap, sym, ◌∙◌, refl, subst, inl, inr, arith, add-one, drop-cons}
 use Rattle.std.proofs.lemmas.List.{length-map, length-replicate, get_or-map, get_or-replicate, drop_all}
 use Rattle.std.specs.Prelude.{All}
 use Rattle.std.proofs.Math.ListN.{set, length-set}
 use Rattle.std.proofs.lemmas.List.Elements.{All-same, All-head, All-tail}
-use Rattle.std.proofs.lemmas.Bool.{cases_lt, cases_eq}
+use Rattle.std.proofs.lemmas.Bool.{cases_lt}
 use Rattle.leaf_reading.specs.declared.leaf_end.Portion.{Portion}
 use Rattle.stealing_pool.specs.declared.worker.Ran.{Ran}
 use Rattle.stealing_pool.specs.declared.worker.Shift.{Shift}

@@ -1,8 +1,7 @@
 -- What stands for leaves that stand side by side.
-use Rattle.std.proofs.Common.{◌≡◌, ◌<◌, ◌≤◌, ◌+◌, ◌∷◌, ◌∙◌, ℕ, zero, suc, List, [], Option, Some, None, length, length-append, take, drop, ap, sym, subst, arith, add-zero}
+use Rattle.std.proofs.Common.{◌≡◌, ◌<◌, ◌≤◌, ◌+◌, ◌∷◌, ◌∙◌, ℕ, zero, suc, List, [], length, length-append, take, drop, ap, sym, subst, arith, add-zero}
 use Rattle.std.proofs.Math.Seq.{take-add}
 use Rattle.std.proofs.lemmas.List.{take_all, length-take-le, length-drop}
-use Rattle.barriers.specs.Needs.{Reaches}
 use Rattle.stealing_pool.specs.Jobs.{Work, Combines}
 use Rattle.stealing_pool.specs.Gathers.{sum_from, AreKept, AreWanted, StandsForPart}
 use Rattle.stealing_pool.specs.SpanLaws.{reaches-more}

@@ -1,5 +1,5 @@
 -- A run of leaves, as contracts see it.
-use Rattle.std.specs.Prelude.{◌≡◌, ◌<◌, ◌≤◌, ◌+◌, ◌⊎◌, ℕ, Option, Some, None}
+use Rattle.std.specs.Prelude.{◌≡◌, ◌<◌, ◌≤◌, ◌+◌, ◌⊎◌, ℕ, Option}
 use Rattle.barriers.specs.Needs.{Reaches}
 use Rattle.leaf_board.specs.Case.{IsLawful}
 use Rattle.leaf_reading.specs.Fronts.{IsWithin}

@@ -1,5 +1,5 @@
 -- What containers of leaves make together: for the jobs whose work is `work_of` lists.
-use Rattle.std.specs.Prelude.{◌≡◌, ◌<◌, ◌≤◌, ◌+◌, ℕ, Bool, zero, suc, List, [], ◌∷◌, ◌++◌, Option, Some, None, Result, Ok, Err, OnOk, IfOk, count_by, flat_map, map, take, drop, length, cond, slice_get, refl}
+use Rattle.std.specs.Prelude.{◌≡◌, ◌<◌, ◌≤◌, ◌+◌, ℕ, Bool, zero, suc, List, [], ◌∷◌, ◌++◌, Option, Some, None, Result, Ok, Err, OnOk, IfOk, count_by, flat_map, take, drop, length, cond, slice_get, refl}
 use Rattle.std.proofs.Common.{◌∙◌, ap, sym, subst, arith, append-nil, append_assoc, inl, inr, get_or}
 use Rattle.std.proofs.lemmas.List.{take_all, take-take, take-append-drop, drop-take, drop_more, get_or-map}
 use Rattle.std.proofs.lemmas.List.Concat.{flat_map-append, flat_map-cons}

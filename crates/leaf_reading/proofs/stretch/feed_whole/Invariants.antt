@@ -1,4 +1,4 @@
-use Rattle.std.proofs.Common.{◌≤◌, length}
+use Rattle.std.proofs.Common.{length}
 use Rattle.std.specs.Prelude.{flat_map}
 use Rattle.leaf_reading.specs.Stretches.{TakesOn}
 use Rattle.leaf_reading.proofs.stretch.feed_whole.Given as goal

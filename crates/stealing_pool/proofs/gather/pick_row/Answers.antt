@@ -32,7 +32,7 @@ returns-then-is_enough g c =
     let counts : count_in c.args.places.items k ≡ portion.count = ap portion_count (next.1 None ∙ c.in-Some-place.is) in
     let held : HoldsLeaf work k (Some portion) = subst (HoldsLeaf work k) (next.1 place ∙ c.in-Some-place.is) (c.requires.holds k place within) in
     let R : Option ℕ → Type 0 = λ needed. Reaches needed (c.loop-place.total + portion.count) in
-    picked_enough work (count_in c.args.places.items) row c.push.new.self.items c.loop-place.total portion k refl counts held inv.4 c.in_ok-push.ensures.items within (subst R c.need-need.ensures.is (c.is_enough.ensures.0 c.if-is_enough.true))
+    picked_enough work (count_in c.args.places.items) row c.push.new.self.items c.loop-place.total portion k refl counts held inv.4 c.in_ok-push.ensures.items within (subst R c.need-need.ensures.is (c.is_enough.ensures.reached.0 c.if-is_enough.true))
 
 pub loop-place-preserved : goal.loop-place-preserved
 loop-place-preserved g c =
@@ -48,7 +48,7 @@ loop-place-preserved g c =
     let counts : count_in c.args.places.items k ≡ portion.count = ap portion_count (next.1 None ∙ c.in-Some-place.is) in
     let held : HoldsLeaf work k (Some portion) = subst (HoldsLeaf work k) (next.1 place ∙ c.in-Some-place.is) (c.requires.holds k place within) in
     let R : Option ℕ → Type 0 = λ needed. Reaches needed (c.loop-place.total + portion.count) in
-    let under : R work.needed → ⊥ = λ reached. let t : c.is_enough.result ≡ true = c.is_enough.ensures.1 (subst R (sym c.need-need.ensures.is) reached) in let f = c.if-is_enough.false in cc in
+    let under : R work.needed → ⊥ = λ reached. let t : c.is_enough.result ≡ true = c.is_enough.ensures.reached.1 (subst R (sym c.need-need.ensures.is) reached) in let f = c.if-is_enough.false in cc in
     let longer : length c.push.new.self.items ≡ k + 1 = ap length c.in_ok-push.ensures.items ∙ length-append row (portion.kept ∷ []) in
     let fewer = ap length is.0 in (
       tt,

@@ -11,7 +11,7 @@ returns-then-is_enough-clause-taken g c =
     let k = c.args.self.now in
     let f = folding (g.D.Demand.needed k.demand.now) (g.D.Demand.counted k.demand.now) g.T.Value.is_value (g.C.Collector.empty k.collector.now) (g.C.Collector.add k.collector.now) in
     let R : Option ℕ → Type 0 = λ need. Reaches need k.portion.count in
-    (refl, refl, refl, front_full f (g.C.Collector.content k.collector.now) k.portion (subst R c.requires.1.same (c.is_enough.ensures.0 c.if-is_enough.true)) _)
+    (refl, refl, refl, front_full f (g.C.Collector.content k.collector.now) k.portion (subst R c.requires.1.same (c.is_enough.ensures.reached.0 c.if-is_enough.true)) _)
 
 pub returns-clause-taken : goal.returns-clause-taken
 returns-clause-taken g c =
@@ -19,7 +19,7 @@ returns-clause-taken g c =
     let needs = c.requires.1 in
     let f = folding (g.D.Demand.needed k.demand.now) (g.D.Demand.counted k.demand.now) g.T.Value.is_value (g.C.Collector.empty k.collector.now) (g.C.Collector.add k.collector.now) in
     let R : Option ℕ → Type 0 = λ need. Reaches need k.portion.count in
-    let under : R f.needed → ⊥ = λ reached. let t : c.is_enough.result ≡ true = c.is_enough.ensures.1 (subst R (sym needs.same) reached) in let e = c.if-is_enough.false in cc in
+    let under : R f.needed → ⊥ = λ reached. let t : c.is_enough.result ≡ true = c.is_enough.ensures.reached.1 (subst R (sym needs.same) reached) in let e = c.if-is_enough.false in cc in
     let content = g.T.Value.content in
     let block = c.as_slice-block.result.now in
     let taken = c.front_of-taken.result.0 in
