@@ -58,7 +58,7 @@ where
     C::Out: Send,
     H: Gate + Sync,
     requires collector { C.ready collector.now }
-    ensures { IfOk result (C.gives collector.now (S.items source)) }
+    ensures value { IfOk result (C.gives collector.now (S.items source)) }
 {
     collected(engine, &of(source), collector)
 }
@@ -90,7 +90,8 @@ where
     requires few { A.is_few stage.now ≡ true }
     requires fits { most < 2 ^ 63 }
     requires collector { C.ready collector.now }
-    ensures { IfOk result (C.gives collector.now (take most (flat_map (A.expand stage.now) (S.items source)))) }
+    ensures value { let images = flat_map (A.expand stage.now) (S.items source) in
+        IfOk result (C.gives collector.now (take most images)) }
 {
     let part = limited_part(engine, source, stage, most)?;
     collected(engine, &of(part).then(stage), collector)
@@ -122,7 +123,8 @@ where
     requires few { A.is_few stage.now ≡ true }
     requires fits { number < 2 ^ 63 }
     requires collector { C.ready collector.now }
-    ensures { IfOk result (C.gives collector.now (drop number (flat_map (A.expand stage.now) (S.items source)))) }
+    ensures value { let images = flat_map (A.expand stage.now) (S.items source) in
+        IfOk result (C.gives collector.now (drop number images)) }
 {
     let part = skipped_part(engine, source, stage, number)?;
     collected(engine, &of(part).then(stage), collector)
@@ -155,7 +157,8 @@ where
     requires few { A.is_few stage.now ≡ true }
     requires test { P.ready test.now }
     requires collector { C.ready collector.now }
-    ensures { IfOk result (C.gives collector.now (take_while (P.holds test.now) (flat_map (A.expand stage.now) (S.items source)))) }
+    ensures value { let images = flat_map (A.expand stage.now) (S.items source) in
+        IfOk result (C.gives collector.now (take_while (P.holds test.now) images)) }
 {
     let failing = Filter::new(Not(test));
     let part = taken_part(engine, source, stage, test, &failing)?;
@@ -189,7 +192,8 @@ where
     requires few { A.is_few stage.now ≡ true }
     requires test { P.ready test.now }
     requires collector { C.ready collector.now }
-    ensures { IfOk result (C.gives collector.now (drop_while (P.holds test.now) (flat_map (A.expand stage.now) (S.items source)))) }
+    ensures value { let images = flat_map (A.expand stage.now) (S.items source) in
+        IfOk result (C.gives collector.now (drop_while (P.holds test.now) images)) }
 {
     let failing = Filter::new(Not(test));
     let part = dropped_part(engine, source, stage, test, &failing)?;
@@ -223,7 +227,8 @@ where
     requires stage { A.ready stage.now }
     requires clones { ClonesAlike A.Out.is_clone A.Out.content }
     requires collector { C.ready collector.now }
-    ensures { IfOk result (C.gives collector.now (distinct A.Out.same (flat_map (A.expand stage.now) (S.items source)))) }
+    ensures value { let images = flat_map (A.expand stage.now) (S.items source) in
+        IfOk result (C.gives collector.now (distinct A.Out.same images)) }
 {
     let kept = gather_distinct(engine, hashes, source, stage)?;
     collected_items(engine, SliceSplit::new(kept.as_slice()), collector)

@@ -30,8 +30,12 @@ where
     requires stage { A.ready stage.now }
     requires few { GivesAtMostOne (A.expand stage.now) }
     requires fits { number < 2 ^ 63 }
-    ensures front { IfOk result (λ end. flat_map (A.expand stage.now) (take end (S.items source)) ≡ take number (flat_map (A.expand stage.now) (S.items source))) }
-    ensures rest { IfOk result (λ end. flat_map (A.expand stage.now) (drop end (S.items source)) ≡ drop number (flat_map (A.expand stage.now) (S.items source))) }
+    ensures front { let images = flat_map (A.expand stage.now) in
+        let items = S.items source in
+        IfOk result (λ end. images (take end items) ≡ take number (images items)) }
+    ensures rest { let images = flat_map (A.expand stage.now) in
+        let items = S.items source in
+        IfOk result (λ end. images (drop end items) ≡ drop number (images items)) }
 {
     let all = source.count();
     if all <= number {
@@ -67,8 +71,12 @@ where
     requires few { GivesAtMostOne (A.expand stage.now) }
     requires failing { F.ready failing.now }
     requires fails { F.expand failing.now ≡ items_failing (P.holds _test.now) }
-    ensures taken { IfOk result (λ end. flat_map (A.expand stage.now) (take end (S.items source)) ≡ take_while (P.holds _test.now) (flat_map (A.expand stage.now) (S.items source))) }
-    ensures dropped { IfOk result (λ end. flat_map (A.expand stage.now) (drop end (S.items source)) ≡ drop_while (P.holds _test.now) (flat_map (A.expand stage.now) (S.items source))) }
+    ensures taken { let images = flat_map (A.expand stage.now) in
+        let items = S.items source in
+        IfOk result (λ end. images (take end items) ≡ take_while (P.holds _test.now) (images items)) }
+    ensures dropped { let images = flat_map (A.expand stage.now) in
+        let items = S.items source in
+        IfOk result (λ end. images (drop end items) ≡ drop_while (P.holds _test.now) (images items)) }
 {
     let failing = Then::new(stage, failing);
     match place_of(engine, source, &failing, 1)? {
@@ -98,7 +106,8 @@ where
     requires stage { A.ready stage.now }
     requires few { GivesAtMostOne (A.expand stage.now) }
     requires fits { most < 2 ^ 63 }
-    ensures { IfOk result (λ part. flat_map (A.expand stage.now) (S.items part) ≡ take most (flat_map (A.expand stage.now) (S.items source))) }
+    ensures value { let images = flat_map (A.expand stage.now) in
+        IfOk result (λ part. images (S.items part) ≡ take most (images (S.items source))) }
 {
     let end = items_of(engine, source, stage, most)?;
     Ok(source.first(end))
@@ -125,7 +134,8 @@ where
     requires stage { A.ready stage.now }
     requires few { GivesAtMostOne (A.expand stage.now) }
     requires fits { number < 2 ^ 63 }
-    ensures { IfOk result (λ part. flat_map (A.expand stage.now) (S.items part) ≡ drop number (flat_map (A.expand stage.now) (S.items source))) }
+    ensures value { let images = flat_map (A.expand stage.now) in
+        IfOk result (λ part. images (S.items part) ≡ drop number (images (S.items source))) }
 {
     let end = items_of(engine, source, stage, number)?;
     Ok(source.after_first(end))
@@ -156,7 +166,8 @@ where
     requires few { GivesAtMostOne (A.expand stage.now) }
     requires failing { F.ready failing.now }
     requires fails { F.expand failing.now ≡ items_failing (P.holds test.now) }
-    ensures { IfOk result (λ part. flat_map (A.expand stage.now) (S.items part) ≡ take_while (P.holds test.now) (flat_map (A.expand stage.now) (S.items source))) }
+    ensures value { let images = flat_map (A.expand stage.now) in
+        IfOk result (λ part. images (S.items part) ≡ take_while (P.holds test.now) (images (S.items source))) }
 {
     let end = items_before_failing(engine, source, stage, test, failing)?;
     Ok(source.first(end))
@@ -187,7 +198,8 @@ where
     requires few { GivesAtMostOne (A.expand stage.now) }
     requires failing { F.ready failing.now }
     requires fails { F.expand failing.now ≡ items_failing (P.holds test.now) }
-    ensures { IfOk result (λ part. flat_map (A.expand stage.now) (S.items part) ≡ drop_while (P.holds test.now) (flat_map (A.expand stage.now) (S.items source))) }
+    ensures value { let images = flat_map (A.expand stage.now) in
+        IfOk result (λ part. images (S.items part) ≡ drop_while (P.holds test.now) (images (S.items source))) }
 {
     let end = items_before_failing(engine, source, stage, test, failing)?;
     Ok(source.after_first(end))

@@ -1,12 +1,12 @@
 -- What a strict map's collector makes, as what is told.
-use Rattle.std.specs.Prelude.{◌≡◌, ℕ, Bool, true, false, ◌||◌, List, [], ◌∷◌, ◌++◌, map, refl, Some, None, Ok, Err}
+use Rattle.std.specs.Prelude.{◌≡◌, ℕ, Bool, true, List, [], ◌∷◌, ◌++◌, map, refl, Some, None, Ok, Err}
 use Rattle.std.specs.List.{list_any}
 use Rattle.std.proofs.Common.{sym, ap, ◌∙◌, subst, append-nil, append_assoc}
 use Rattle.std.proofs.lemmas.List.Folds.{list_any-append}
 use Rattle.fused_runs.proofs.FirstOnes.{apart-before}
 use Rattle.spliterator.specs.Values.{DecidesEquality}
 use Rattle.stages.specs.Distinct.{AllApart}
-use Rattle.stages.specs.Tests.{apart-swap, or-false_left, or-false_right}
+use Rattle.stages.specs.Tests.{or-false_left}
 use Rattle.collectors.specs.StrictMaps.{IsFirstRepeat}
 use Rattle.value_text.specs.Texts.{strict_text}
 use Rattle.pipeline_value.specs.Value.{first_repeat, repeat_or, strict_told}

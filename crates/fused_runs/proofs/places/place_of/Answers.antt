@@ -1,5 +1,4 @@
 -- The short front has the image.
-use Rattle.std.proofs.Common.{◌≡◌}
 use Rattle.fused_runs.specs.Places.{place-front}
 use Rattle.fused_runs.proofs.places.place_of.Goals as goal
 
