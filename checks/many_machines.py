@@ -3,10 +3,10 @@
 
     checks/many_machines.py
 
-Ranges are cut into 5 parts, of which some have no item behind a filter; texts stand in the files of a folder. A fault of a file has to be told
-as the program tells it, and the status of a part passed on. Each command that docs/many-machines.md shows with an answer is run as well. Where
-GNU parallel isn't installed, a loop over the parts takes its place, and the first line says so: nothing is installed. The program has to be
-built before (`rt run` in crates/pstream).
+Ranges are cut into 5 parts, of which some have no item behind a filter; texts stand in the files of a folder. A fault of a file has to be
+told as the program tells it, and the status of a part passed on. Each command that docs/many-machines.md shows with an answer is run as
+well. Where GNU parallel isn't installed, a loop over the parts takes its place, and the first line says so: nothing is installed. The
+program has to be built before (`rt run` in crates/pstream).
 """
 
 import contextlib
@@ -28,11 +28,14 @@ PROGRAM = '#!/bin/sh\n[ "$1" = /dev/stdin ] || ! grep -q "^range 2 4$" "$1" || {
 
 # the second of these filters keeps nothing, and the first nothing of the first parts of `range 0 30`
 FILTERS = ["filter greater 19\nfilter divisible 2\n", "filter greater 100\n"]
-FOLDS = ["sum", "product", "max", "min", "count", "findfirst", "tolist", "allmatch greater 20", "anymatch divisible 7", "nonematch equals 25"]
+FOLDS = [
+    "sum", "product", "max", "min", "count", "findfirst", "tolist", "allmatch greater 20", "anymatch divisible 7", "nonematch equals 25",
+]
 # lines that run in the second pipeline, and what stands behind them
 GATHERED = [
-    "groupby mod 3 count", "groupby mod 3 tolist", "partition less 25 sum", "teeing max first", "tomap mod 3 self last", "tomapstrict self negate",
-    "limit 3\nsum", "skip 2\ncount", "takewhile divisible 4\ncount", "dropwhile divisible 4\ncount", "map mod 3\ndistinct\nmap add 1\nsum",
+    "groupby mod 3 count", "groupby mod 3 tolist", "partition less 25 sum", "teeing max first", "tomap mod 3 self last",
+    "tomapstrict self negate", "limit 3\nsum", "skip 2\ncount", "takewhile divisible 4\ncount", "dropwhile divisible 4\ncount",
+    "map mod 3\ndistinct\nmap add 1\nsum",
 ]
 ENDS = ["-9223372036854775808 -9223372036854775801", "9223372036854775800 9223372036854775807", "3 5", "5 3"]
 
@@ -141,7 +144,8 @@ def failures(trial):
         yield "not combined: " + end.replace("\n", " / "), (status, out), (2, "")
     too_large = "pipeline 1\nrange 0 300000\ntolist\n"
     yield "a second pipeline that is too large", told(trial.range_in_parts(too_large)), (2, "", "line 0: TOO_LARGE")
-    yield "no range", trial.range_in_parts("pipeline 1\nclosed 0 9\nsum\n"), (2, "", f"range.sh: line 2 of {trial.file} has to be a range\n")
+    no_range = "pipeline 1\nclosed 0 9\nsum\n"
+    yield "no range", told(trial.range_in_parts(no_range)), (2, "", f"range.sh: line 2 of {trial.file} has to be a range")
     yield "no parts", told(trial.run(SCRIPTS / "range.sh", "0", trial.file)), (2, "", "range.sh: PARTS has to be a number from 1 to 99999")
     trial.second_part("echo out of memory >&2; exit 3")
     yield "a part that is refused memory", told(trial.range_in_parts("pipeline 1\nrange 0 10\nsum\n")), (3, "", "out of memory")
@@ -160,7 +164,7 @@ def main():
     with tempfile.TemporaryDirectory() as folder:
         trial = Trial(pathlib.Path(folder))
         if not parallel_is_there():
-            print("not tried: GNU parallel isn't installed (Debian's package `parallel`). A loop over the parts stands in its place.", flush=True)
+            print("not tried: GNU parallel isn't installed (Debian's package `parallel`); a loop stands in its place", flush=True)
             trial.has_program("parallel", LOOP)
         findings = (finding for part in (shown, ranges, order, texts, failures) for finding in part(trial))
         conclude(findings)
