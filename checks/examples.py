@@ -43,7 +43,7 @@ def findings():
         end = wanted(file)
         ends = [(words, run([file, *words])) for words in SETTINGS]
         yield file.stem, (rows_of(file, end, page), [found for found in ends if found[1] != end]), (1, [])
-    strays = {path.stem for path in EXAMPLES.iterdir()} - {file.stem for file in files} - {"README"}
+    strays = {path.stem for path in EXAMPLES.iterdir() if path.is_file()} - {file.stem for file in files} - {"README"}
     yield "no answer without a pipeline", strays, set()
 
 
