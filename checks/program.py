@@ -59,13 +59,14 @@ WORKERS = ["1", "7"]
 MOST_OF_ROWS = 1000
 MOST_REFUSALS = 100
 WANT_OF_MEMORY = (3, b"", b"out of memory\n")
+NO_TEXT = b"error: invalid UTF-8 was detected in one or more arguments\n"
 # a request for the largest file, and what a small file asks for beside it
 GREATEST_REQUEST = 1_100_000
 MOST_BYTES = 3_000_000
 
 
 def devices():
-    """What the program does on devices, and what it has to do."""
+    """What the program does on devices, and with words that aren't text, and what it has to do."""
     with open("/dev/full", "wb") as full:
         yield "an output that is full", run([SUM], stdout=full), (3, b"", b"write failed\n")
         yield "help to an output that is full", run(["--help"], stdout=full), (3, b"", b"write failed\n")
@@ -75,6 +76,7 @@ def devices():
     yield "a folder", run([EXAMPLES]), (3, b"", b"read failed\n")
     yield "no such file", run([EXAMPLES / "none"]), (3, b"", b"read failed\n")
     yield "an endless file", run(["/dev/zero"]), (2, b"", b"line 0: TOO_LARGE\n")
+    yield "a word that isn't UTF-8", run([SUM, b"\xff"]), (2, b"", NO_TEXT)
 
 
 def rows():
