@@ -1,0 +1,5 @@
+//! The tests of `summaries`.
+#![tactic(auto)]
+
+#[cfg(test)]
+mod tests;
