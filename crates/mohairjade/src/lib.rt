@@ -31,3 +31,4 @@ pub use stages::{
     WrapAdd, WrapMul,
 };
 pub use stealing_pool::{Gate, NoGate, RunEntry, RunReport};
+pub use summaries::{Summarizing, Summary};
