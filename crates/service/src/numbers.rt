@@ -1,5 +1,4 @@
 //! Numbers: a sum of squares, a first one, those that differ, and a front with what its run tells of its leaves.
-
 use crate::square::Square;
 use mohairjade::{
     Above, Below, Engine, Even, Filter, Map, NoGate, RangeSplit, Run, RunReport, SliceSplit,
