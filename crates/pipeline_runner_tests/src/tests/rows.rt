@@ -18,8 +18,8 @@ pub static WORKERS: [u32; 4] = [1, 2, 7, 64];
 /// The targets that each row runs at: a leaf an item, several items a leaf, and the one that is chosen.
 static TARGETS: [u64; 3] = [1, 3, 0];
 
-/// Those of rows over long ranges, which have as many leaves at 3 as at 1.
-pub static TARGETS_OF_LONG: [u64; 2] = [1, 0];
+/// Those of rows over long ranges: thousands of leaves, and the one that is chosen. At 1 each of 65,536 leaves adds up the counts of those before it.
+pub static TARGETS_OF_LONG: [u64; 2] = [60, 0];
 
 /// The lines behind the first one of a file, and what is written of it, which ends a line, or told.
 pub type Row<'a> = (&'a [u8], &'a str);
