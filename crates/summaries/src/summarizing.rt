@@ -75,7 +75,7 @@ impl Summary {
     /// The sum divided by the count, rounded down: none where the count isn't above 0. `getAverage` of Java's `LongSummaryStatistics` answers
     /// a floating-point number.
     pub fn average(&self) -> Option<i64>
-        ensures { result ≡ average_of self.now.sum self.now.count }
+        ensures quotient { result ≡ average_of self.now.sum self.now.count }
     {
         if self.count > 0 {
             Some(self.sum.div_euclid(self.count))
