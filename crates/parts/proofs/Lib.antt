@@ -1,4 +1,5 @@
 pub mod BlockSteps
+pub mod CopySteps
 pub mod Inverses
 pub mod NearNumbers
 pub mod Quotients

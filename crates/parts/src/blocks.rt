@@ -1,7 +1,7 @@
 //! Tight loops over a block of numbers: one for every function, one for every test, and one for copies.
 //!
 //! A function or a test comes by value: its numbers stay in registers, where through a reference they are read again behind each write.
-ghost use Rattle.std.specs.Prelude.{◌≡◌, ◌≤◌, OnOk, [], ◌∷◌, cond, filter, flat_map, length, map, pos, take};
+ghost use Rattle.std.specs.Prelude.{◌≡◌, ◌≤◌, ◌+◌, ◌*◌, OnOk, [], ◌∷◌, cond, filter, flat_map, length, map, pos, take};
 ghost use Rattle.std.specs.Int.{int_rem_euclid};
 ghost use Rattle.std.proofs.Math.ListN.{replicate};
 
@@ -87,15 +87,33 @@ pub fn keep_runs<P: Test<i64> + Copy>(test: P, items: &mut Vec<i64>)
     }
 }
 
+/// How many copies are written at once.
+const AT_ONCE: usize = 4;
+
+/// Writes so many copies of each number to the front of a room, some at once: more of them may follow, which the next number's overwrite.
+fn write_copies(number: usize, items: &[i64], room: &mut [i64])
+    requires { number * length items.now + 4 ≤ length room.old }
+    ensures { take (number * length items.now) room.new ≡ flat_map (replicate number) items.now }
+{
+    let mut end = 0;
+    for x in items {
+        let mut place = end;
+        end += number;
+        while place < end {
+            room[place..place + AT_ONCE].copy_from_slice(&[*x; AT_ONCE]);
+            place += AT_ONCE;
+        }
+    }
+}
+
 /// Puts so many copies of each number into a room, in turn.
 pub fn copy_each(number: usize, items: &[i64], room: &mut Vec<i64>) -> Result<(), NoMemory>
     ensures { OnOk result (room.new.items ≡ flat_map (replicate number) items.now) }
 {
-    room.clear();
-    for x in items {
-        for _copy in 0..number {
-            room.push(*x)?;
-        }
-    }
+    let count = number.checked_mul(items.len()).ok_or(NoMemory)?;
+    let size = count.checked_add(AT_ONCE).ok_or(NoMemory)?;
+    room.resize(size, 0)?;
+    write_copies(number, items, room.as_mut_slice());
+    room.truncate(count);
     Ok(())
 }
