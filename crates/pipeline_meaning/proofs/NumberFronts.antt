@@ -75,7 +75,7 @@ step-behind steps repeats step l =
     ∙ sym (copies-last (number_step_images step) (step_image step) (step_keeps step) (step-one step) repeats (flat_map (steps_images steps) l))
     ∙ ap (flat_map (number_step_images step)) (flat_map-flat_map (steps_images steps) (copies repeats) l)
 
-repeat-behind : (steps : List NumberStep) (repeats : List ℕ) (n : ℕ) (l : List ℤ)
+pub repeat-behind : (steps : List NumberStep) (repeats : List ℕ) (n : ℕ) (l : List ℤ)
     → flat_map (images_of steps (repeats ++ n ∷ [])) l ≡ flat_map (replicate n) (flat_map (images_of steps repeats) l)
 repeat-behind steps repeats n l =
     sym (flat_map-flat_map (steps_images steps) (copies (repeats ++ n ∷ [])) l)

@@ -1,6 +1,7 @@
 //! The stages over numbers that look at one item at a time, as one stage that runs each over a whole block.
 ghost use Rattle.std.specs.Prelude.{◌≡◌, ◌≤◌, ◌<◌, ℕ, ℤ, IsTrue, IfOk, OnOk, List, MatchBool, Option, flat_map, length, take};
 ghost use Rattle.std.specs.List.{HoldsAt, list_all};
+ghost use Rattle.std.proofs.Math.ListN.{replicate};
 ghost use Rattle.std.specs.Ordering.{int_cmp};
 ghost use Rattle.pipeline_meaning.specs.NumberSteps.{number_images, number_step_images, steps_images, is_map_step, is_none, only_maps, Follows, KeepsSound-number_steps};
 ghost use Rattle.pipeline_meaning.specs.Rows.{row_of, size_of};
@@ -104,6 +105,25 @@ impl NumberSteps {
             | NumberStage::DropWhile(_) => return Ok(false),
         }
         Ok(true)
+    }
+
+    /// Takes the last repeat off, and says how many copies it makes of each number: 1 where there is none, or where it makes none.
+    ///
+    /// ```text
+    /// map mod 7, flatmap repeat 3    // map mod 7, and 3
+    /// ```
+    pub fn take_repeat(&mut self) -> u64
+        ensures some { 1 ≤ result }
+        ensures copies { (l : List ℤ) → flat_map (replicate result) (flat_map (⟦<NumberSteps as Stage>⟧.expand self.new) l) ≡ flat_map (⟦<NumberSteps as Stage>⟧.expand self.old) l }
+    {
+        match self.repeats.last() {
+            Some(number) if *number >= 1 => {
+                let copies = *number;
+                self.repeats.pop();
+                copies
+            }
+            _ => 1,
+        }
     }
 
     pub(crate) fn has_no_repeats(&self) -> bool
