@@ -36,6 +36,7 @@ ROWS = {
         ("numbers 1 2 5 1\ndropwhile less 3\ntolist", "[5, 1]"),
         ("numbers 1 2 3\nskip 10\ncount", "0"),
         ("numbers 1 2 3\nflatmap repeat 0\ncount", "0"),
+        ("numbers 3 -1\nflatmap repeat 5\nproduct", "-243"),
         ("lines 2\na b\nc\nflatmap words\njoining - < >", "<a-b-c>"),
         ("lines 3\nbb\na\ncc\ngroupby length joining +", "{2=bb+cc, 1=a}"),
         ("numbers 4 8 15\nskip 1\nlimit 1\nmap add 1\ntolist", "[9]"),

@@ -23,6 +23,14 @@ NUMBERS = {
     "map-filter-max": (["map mul 3", "filter divisible 7", "max"], [3, 7], None),
 }
 
+# the same for what is measured beside the loop by hand alone
+BY_HAND = {
+    "mod-all": (["map mod 1000", "allmatch less 1000"], [1000, 1000]),
+    "divisible-none": (["filter divisible 7", "nonematch equals -7"], [7, -7]),
+    "group-count": (["groupby mod 1000 count"], [1000]),
+    "group-sum": (["groupby mod 1000 sum"], [1000]),
+}
+
 # a map of counts, keys in the order of their first item
 COUNT = "if (!(k in c)) o[m++] = k; c[k]++"
 PRINT_COUNTS = 'printf "{"; for (j = 0; j < m; j++) printf "%s%d=%d", j ? ", " : "", o[j], c[o[j]]; print "}"'
@@ -47,6 +55,23 @@ def number_cases(tools):
             *awk_peers(tools, MANY, awk),
         ]
         yield tools.Case(f"{MANY:,} numbers, {name}", [tools.pstream, file, "--workers", str(WORKERS)], peers)
+
+
+def hand_cases(tools):
+    """Folds, matches and groups beside the loop by hand, on one worker and on four, over a range and over a file's numbers."""
+    peer = tools.rust(HERE / "peer_numbers.rs")
+    folds = {name: (lines, constants) for name, (lines, constants, _) in NUMBERS.items()}
+    numbers = random.Random(1)
+    listed = "numbers " + " ".join(str(numbers.randint(-10**6, 10**6)) for _ in range(125_000))
+    for name, (lines, constants) in {**folds, **BY_HAND}.items():
+        many = SOME if name.startswith("group") else MANY
+        ranged = tools.file(f"{name}-range", ["pipeline 1", f"range 0 {many}", *lines])
+        file = tools.file(f"{name}-file", ["pipeline 1", listed, *lines])
+        constants = [str(constant) for constant in constants]
+        for workers in (1, WORKERS):
+            for told, path, words in [(f"{many:,} numbers", ranged, ["0", str(many)]), ("a file's 125,000 numbers", file, ["file", file])]:
+                hand = tools.Peer("the loop by hand", [peer, name, str(workers), *words, *constants], limit=1.5)
+                yield tools.Case(f"{told}, {name}, {workers} workers", [tools.pstream, path, "--workers", str(workers)], [hand])
 
 
 def collector_cases(tools):
@@ -104,3 +129,4 @@ def cases(tools):
     yield from line_case(tools)
     yield from collector_cases(tools)
     yield from number_cases(tools)
+    yield from hand_cases(tools)

@@ -3,6 +3,7 @@ pub mod ContentLaws
 pub mod Copies
 pub mod Differing
 pub mod FitLaws
+pub mod FoldedCopies
 pub mod Folds
 pub mod Fronts
 pub mod KnownSizes
@@ -11,6 +12,7 @@ pub mod OneToOne
 pub mod Ranges
 pub mod Repeats
 pub mod Settling
+pub mod Spans
 pub mod TextContents
 pub mod Value
 pub mod Narrowing

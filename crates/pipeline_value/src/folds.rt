@@ -1,13 +1,18 @@
 //! The terminals that join all numbers into one, or count them.
 
-ghost use Rattle.pipeline_value.specs.Folds.{fold_terminal};
+ghost use Rattle.std.specs.Prelude.{◌≡◌, ◌≤◌, flat_map};
+ghost use Rattle.std.proofs.Math.ListN.{replicate};
+ghost use Rattle.pipeline_value.specs.Folds.{fold_of, fold_terminal};
 ghost use Rattle.pipeline_value.specs.Value.{Tells, number_told};
 
 use crate::engine::Engine;
-use crate::told::{ValueError, ran_optional, ran_told};
+use crate::known_size::as_count;
+use crate::powers::{power, wrapping_product};
+use crate::told::{ValueError, ran, ran_optional, told};
 use collectors::SummingLong;
 use parallel_streams::Stream;
 use parts::Itself;
+use pipeline_language::NumberTerminal;
 use stages::{Max, Min, WrapMul};
 use std::thread::Threads;
 use stealing_pool::Gate;
@@ -23,11 +28,32 @@ pub(crate) enum Fold {
     Count,
 }
 
-/// The text of a fold's value on a stream of numbers.
+impl Fold {
+    /// The terminal as a fold, if it is one.
+    pub(crate) fn of(terminal: &NumberTerminal) -> Option<Fold>
+        ensures { result ≡ fold_of terminal.now }
+    {
+        match terminal {
+            NumberTerminal::Sum => Some(Fold::Sum),
+            NumberTerminal::Product => Some(Fold::Product),
+            NumberTerminal::Max => Some(Fold::Max),
+            NumberTerminal::Min => Some(Fold::Min),
+            NumberTerminal::Count => Some(Fold::Count),
+            _ => None,
+        }
+    }
+}
+
+/// The text of a fold's value on so many copies of each number of a stream. No copy is made.
+///
+/// ```text
+/// 5 numbers, 3 copies of each, sum    // 3 times the sum of the 5
+/// ```
 pub(crate) fn fold_value<R, X, H>(
     engine: &Engine<'_, R, H>,
     stream: &X,
     fold: Fold,
+    copies: u64,
 ) -> Result<Rope, ValueError>
 where
     R: Threads + Sync,
@@ -36,18 +62,21 @@ where
     X::Part: Send,
     H: Gate + Sync,
     requires stream { X.ready stream.now }
-    ensures { Tells (number_told (fold_terminal fold) (X.value stream.now)) result }
+    requires some { 1 ≤ copies }
+    ensures { Tells (number_told (fold_terminal fold) (flat_map (replicate copies) (X.value stream.now))) result }
 {
     let (rt, alloc, run) = (engine.rt, engine.alloc, &engine.run);
     match fold {
         // a sum needs no question whether a number came before
         Fold::Sum => {
             let sum = SummingLong::new(Itself);
-            ran_told(engine, stream.collect(rt, alloc, run, &sum))
+            let sum = ran(engine, stream.collect(rt, alloc, run, &sum))?;
+            told(alloc, &wrapping_product(sum, as_count(copies)))
         }
         Fold::Product => {
             let product = WrapMul::new();
-            ran_told(engine, stream.reduce(rt, alloc, run, 1, &product))
+            let product = ran(engine, stream.reduce(rt, alloc, run, 1, &product))?;
+            told(alloc, &power(product, copies))
         }
         Fold::Max => {
             let larger = Max::new();
@@ -57,6 +86,9 @@ where
             let smaller = Min::new();
             ran_optional(engine, stream.reduce_optional(rt, alloc, run, &smaller))
         }
-        Fold::Count => ran_told(engine, stream.count(rt, alloc, run)),
+        Fold::Count => {
+            let count = ran(engine, stream.count(rt, alloc, run))?;
+            told(alloc, &wrapping_product(count, as_count(copies)))
+        }
     }
 }

@@ -75,7 +75,7 @@ fn terminal_count(size: u64, terminal: &TextTerminal<'_>) -> Option<i64>
 }
 
 /// A number of items, as an `i64` that wraps.
-fn as_count(size: u64) -> i64
+pub(crate) fn as_count(size: u64) -> i64
     ensures { result ≡ wrapped (pos size) }
 {
     size.cast_signed()

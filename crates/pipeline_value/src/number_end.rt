@@ -1,5 +1,7 @@
 //! What the terminals make of numbers.
 
+ghost use Rattle.std.specs.Prelude.{◌≡◌, None, flat_map};
+ghost use Rattle.pipeline_value.specs.Folds.{fold_of};
 ghost use Rattle.pipeline_value.specs.Value.{Tells, number_told};
 
 use crate::arranged::arranged_value;
@@ -8,15 +10,19 @@ use crate::folds::{Fold, fold_value};
 use crate::number_groups::number_arrangement;
 use crate::number_maps::{map_value, strict_map_value};
 use crate::told::{ValueError, ran_optional, ran_text, ran_told};
-use parallel_streams::Stream;
+use parallel_streams::{Stream, of};
+use parts::AtMostOne;
 use pipeline_language::NumberTerminal;
-use pipeline_meaning::NumberCheck as Check;
+use pipeline_meaning::{NumberCheck as Check, NumberSteps};
+use sources::Windowed;
+use spliterator::Spliterator;
+use stages::{Stage, Then};
 use std::thread::Threads;
 use stealing_pool::Gate;
 use value_text::{JoinedText, Rope};
 
-/// The text of a terminal's value on a stream of numbers.
-pub(crate) fn number_end<R, X, H>(
+/// The text of a terminal's value on a stream of numbers. The terminal is no fold.
+fn unfolded_end<R, X, H>(
     engine: &Engine<'_, R, H>,
     stream: &X,
     terminal: &NumberTerminal,
@@ -28,6 +34,7 @@ where
     X::Part: Send,
     H: Gate + Sync,
     requires stream { X.ready stream.now }
+    requires unfolded { fold_of terminal.now ≡ None }
     ensures { Tells (number_told terminal.now (X.value stream.now)) result }
 {
     if let Some(arrangement) = number_arrangement(engine, terminal) {
@@ -35,11 +42,6 @@ where
     }
     let (rt, alloc, run) = (engine.rt, engine.alloc, &engine.run);
     match *terminal {
-        NumberTerminal::Sum => fold_value(engine, stream, Fold::Sum),
-        NumberTerminal::Product => fold_value(engine, stream, Fold::Product),
-        NumberTerminal::Max => fold_value(engine, stream, Fold::Max),
-        NumberTerminal::Min => fold_value(engine, stream, Fold::Min),
-        NumberTerminal::Count => fold_value(engine, stream, Fold::Count),
         NumberTerminal::FindFirst => ran_optional(engine, stream.find_first(rt, alloc, run)),
         NumberTerminal::ToList => {
             let list = JoinedText::list(alloc);
@@ -62,5 +64,40 @@ where
         NumberTerminal::GroupBy(_, _)
         | NumberTerminal::Partition(_, _)
         | NumberTerminal::Teeing(_, _) => unreachable!(),
+        NumberTerminal::Sum
+        | NumberTerminal::Product
+        | NumberTerminal::Max
+        | NumberTerminal::Min
+        | NumberTerminal::Count => unreachable!(),
     }
+}
+
+/// The text of a terminal's value on what steps make of a source's items behind a stage in front. A fold takes the copies that the last
+/// step asks for without their being made.
+pub(crate) fn number_end<R, S, A, H>(
+    engine: &Engine<'_, R, H>,
+    source: S,
+    front: A,
+    mut steps: NumberSteps,
+    terminal: &NumberTerminal,
+) -> Result<Rope, ValueError>
+where
+    R: Threads + Sync,
+    S: Windowed + Copy + Drop + Send + Sync,
+    S::Item: Clone + Send + Sync,
+    A: AtMostOne + Stage<In = S::Item, Out = i64> + Drop + Sync,
+    H: Gate + Sync,
+    requires { A.ready front }
+    ensures { Tells (number_told terminal.now (flat_map (⟦<NumberSteps as Stage>⟧.expand steps) (flat_map (A.expand front) (S.items source)))) result }
+{
+    let Some(fold) = Fold::of(terminal) else {
+        return unfolded_end(engine, &of(source).then(Then::new(front, steps)), terminal);
+    };
+    let copies = steps.take_repeat();
+    fold_value(
+        engine,
+        &of(source).then(Then::new(front, steps)),
+        fold,
+        copies,
+    )
 }

@@ -13,7 +13,6 @@ use crate::settled::settle;
 use crate::told::ValueError;
 use barriers::Skip;
 use fused_runs::gather;
-use parallel_streams::{Stream, of};
 use parts::AtMostOne;
 use pipeline_language::{NumberBody, NumberStage, NumberTerminal};
 use pipeline_meaning::NumberSteps;
@@ -44,11 +43,11 @@ where
     let stages = body.stages.as_slice();
     let settled = settle(engine, source, &front, stages)?;
     let taken = settled.taken;
-    let stage = Then::new(front, settled.steps);
     if taken == stages.len() {
-        return number_end(engine, &of(settled.source).then(stage), &body.terminal);
+        return number_end(engine, settled.source, front, settled.steps, &body.terminal);
     }
     let barrier = &stages[taken];
+    let stage = Then::new(front, settled.steps);
     let items = through_barrier(engine, settled.source, &stage, barrier)?;
     list_value(engine, items, &stages[taken + 1..], &body.terminal)
 }
@@ -70,7 +69,7 @@ pub(crate) fn list_value<R: Threads + Sync, H: Gate + Sync>(
     let taken = settled.taken;
     let steps = settled.steps;
     if taken == stages.len() {
-        return number_end(engine, &of(settled.source).then(steps), terminal);
+        return number_end(engine, settled.source, Nothing::new(), steps, terminal);
     }
     let barrier = &stages[taken];
     let kept = through_barrier(engine, settled.source, &steps, barrier)?;

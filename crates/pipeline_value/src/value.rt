@@ -7,6 +7,7 @@ ghost use Rattle.pipeline_value.specs.Value.{Tells, number_body_told, pipeline_t
 use crate::differing::drop_distincts;
 use crate::engine::Engine;
 use crate::fronts::{FRONTS, front_value};
+use crate::known_folds::known_fold;
 use crate::known_size::known_count;
 use crate::narrowed::narrowed;
 use crate::numbers::{list_value, number_value};
@@ -102,7 +103,8 @@ fn listed_value<R: Threads + Sync, H: Gate + Sync>(
 
 /// The text of the value of a body, over a range. A `distinct` that its numbers come to without repeats is dropped, and so are repeats
 /// before a `distinct`; limits and skips that look at no item narrow the range, and a short front of it may be enough. Sums, products and
-/// negatives that come first are taken by the numbers themselves, and the copies of repeats before what cuts are made by their source.
+/// negatives that come first are taken by the numbers themselves, whose sum, least and greatest are known, and the copies of repeats before what
+/// cuts are made by their source.
 fn narrowed_value<R: Threads + Sync, H: Gate + Sync>(
     engine: &Engine<'_, R, H>,
     range: RangeSplit,
@@ -120,6 +122,9 @@ fn narrowed_value<R: Threads + Sync, H: Gate + Sync>(
         }
     }
     let numbers = stepped(range, &mut body.stages);
+    if let Some(told) = known_fold(engine, numbers, &body) {
+        return told;
+    }
     repeats_first(&mut body.stages);
     let copies = with_copies(numbers, &mut body.stages);
     number_value(engine, copies, Nothing::new(), &body)

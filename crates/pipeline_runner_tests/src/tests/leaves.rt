@@ -56,8 +56,12 @@ const CUT: &[u8] =
 
 const LENGTHS: &[u8] = b"pipeline 1\nlines 2\na\nb\nmap self\nmap length\ncount\n";
 
-/// A count of a known size runs no leaf.
-static COUNTS: [LeafRow<'_>; 12] = [
+const SUM: &[u8] = b"pipeline 1\nrange 0 262145\nmap mul 3\nsum\n";
+
+const GREATEST: &[u8] = b"pipeline 1\nrange 0 4611686018427387904\nmax\n";
+
+/// A count of a known size runs no leaf, nor does a fold of many numbers by one step, unless the user has a target.
+static COUNTS: [LeafRow<'_>; 15] = [
     (LONG_RANGE, 4, 0, 0),
     (LONG_RANGE, 4, 1, 0),
     (SKIPPED, 4, 0, 0),
@@ -70,6 +74,9 @@ static COUNTS: [LeafRow<'_>; 12] = [
     (CUT, 4, 1, 0),
     (LENGTHS, 4, 0, 0),
     (LENGTHS, 4, 1, 0),
+    (SUM, 4, 0, 0),
+    (SUM, 4, 65537, 4),
+    (GREATEST, 4, 0, 0),
 ];
 
 #[test]
@@ -126,19 +133,13 @@ static SMALL: [WorkerRow<'_>; 6] = [
 /// Other runs take the workers that are wanted.
 static LARGE: [WorkerRow<'_>; 6] = [
     // one step more than a small run has
+    (b"pipeline 1\nclosed 0 262144\nproduct\n", 2, 0, 2, "0\n"),
     (
-        b"pipeline 1\nclosed 0 262144\nsum\n",
+        b"pipeline 1\nrange 0 131073\nmap mod 1000\nsum\n",
         2,
         0,
         2,
-        "34359869440\n",
-    ),
-    (
-        b"pipeline 1\nrange 0 131073\nmap add 1\nsum\n",
-        2,
-        0,
-        2,
-        "8590131201\n",
+        "65437128\n",
     ),
     // items may become many
     (

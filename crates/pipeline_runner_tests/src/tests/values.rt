@@ -1,11 +1,11 @@
 //! Lines behind the first one of a file, each with what a run writes.
 
 use super::gates::Watch;
-use super::rows::{ONE, Row, TWO, WORKERS, all_right, right_at};
+use super::rows::{ONE, Row, TARGETS_OF_LONG, TWO, WORKERS, all_right, all_right_at, right_at};
 use std::test::Fail;
 
 /// Sums, products and the like of numbers, which need no list.
-static REDUCTIONS: [Row<'_>; 18] = [
+static REDUCTIONS: [Row<'_>; 26] = [
     (b"range 1 6\nsum\n", "15\n"),
     (b"range 1 6\nmap self\nsum\n", "15\n"),
     (b"range 5 5\nsum\n", "0\n"),
@@ -27,6 +27,48 @@ static REDUCTIONS: [Row<'_>; 18] = [
     (b"numbers 2 5 3\nanymatch equals 5\n", "true\n"),
     (b"numbers 7\nnonematch equals 7\n", "false\n"),
     (b"range 0 70000\nsum\n", "2449965000\n"),
+    // folds of copies
+    (b"range 0 5\nflatmap repeat 3\nsum\n", "30\n"),
+    (
+        b"closed 1 3\nflatmap repeat 2\nmap add 1\nproduct\n",
+        "576\n",
+    ),
+    (
+        b"numbers 3 -1\nflatmap repeat 5\nfilter less 9\nproduct\n",
+        "-243\n",
+    ),
+    (b"numbers 3 -1\nflatmap repeat 5\nmin\n", "Optional[-1]\n"),
+    (b"numbers 3 -1\nflatmap repeat 5\nmax\n", "Optional[3]\n"),
+    (
+        b"numbers 3 -1\nflatmap repeat 5\nflatmap repeat 7\ncount\n",
+        "70\n",
+    ),
+    (b"numbers 3 -1\nflatmap repeat 0\nmax\n", "Optional.empty\n"),
+    (b"numbers 3 -1\nflatmap repeat 0\nproduct\n", "1\n"),
+];
+
+/// Folds of numbers by one step, more than a small run has.
+static STEPS: [Row<'_>; 8] = [
+    (b"range 0 300000\nmap add 1\nsum\n", "45000150000\n"),
+    (
+        b"range 0 300000\nmap mul 61489146912\nsum\n",
+        "-9223388469542400\n",
+    ),
+    (b"closed -5 300000\nmax\n", "Optional[300000]\n"),
+    (b"closed -5 300000\nmin\n", "Optional[-5]\n"),
+    (b"closed -5 300000\nmap mul -2\nmax\n", "Optional[10]\n"),
+    (
+        b"closed -5 300000\nmap mul -2\nmin\n",
+        "Optional[-600000]\n",
+    ),
+    (
+        b"range 0 300000\nmap add 9223372036854775807\nmax\n",
+        "Optional[9223372036854775807]\n",
+    ),
+    (
+        b"range 0 300000\nmap add 9223372036854775807\nmin\n",
+        "Optional[-9223372036854775808]\n",
+    ),
 ];
 
 /// Lists of numbers behind stages.
@@ -239,6 +281,7 @@ fn are_written(rt: HostRuntime) -> Result<(), Fail> {
     all_right(&rt, rt.alloc(), &[ONE, TWO], &of_both)?;
     let of_the_second = [NESTED.as_slice(), STRICT.as_slice(), MORE_GROUPS.as_slice()];
     all_right(&rt, rt.alloc(), &[TWO], &of_the_second)?;
+    all_right_at(&rt, rt.alloc(), &TARGETS_OF_LONG, &[ONE], &[&STEPS])?;
     Ok(())
 }
 

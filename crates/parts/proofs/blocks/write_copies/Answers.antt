@@ -23,6 +23,7 @@ loop-x-preserved c =
     let front = flat_map (replicate n) (take i c.args.items.now) in
     let enough = room-left n i (length c.args.items.now) (length c.args.room.now) c.loop-x-test.true c.requires in
     let long : c.loop-x.end ≤ length c.loop-x.room = omega (arith, enough, c.loop-x.invariant.0, c.loop-x.auto.room) in
-    let size : length front ≡ n * i = sym (ap length c.loop-x.invariant.1) ∙ length-take-le c.loop-x.end c.loop-x.room long ∙ c.loop-x.invariant.0 in
-    (l.invariant.0 ∙ next-end n i,
-    number-more n i l.place (c.loop-x.end + n) c.args.items.now l.room front _ c.loop-x-test.true refl l.invariant.0 c.loop-place-test.false refl size l.invariant.3)
+    let size : length front ≡ n * i = sym (ap length c.loop-x.invariant.1) ∙ length-take-le c.loop-x.end c.loop-x.room long ∙ c.loop-x.invariant.0 in (
+      l.invariant.0 ∙ next-end n i,
+      number-more n i l.place (c.loop-x.end + n) c.args.items.now l.room front _ c.loop-x-test.true refl l.invariant.0 c.loop-place-test.false refl size l.invariant.3,
+    )
