@@ -13,8 +13,12 @@ use std::alloc::Global;
 use std::hash::{BuildHasher, Hash};
 use std::marker::PhantomData;
 
-/// Of equal items the first, in the order of the items. A leaf keeps its own first ones alone, so that the workers share the work. What the
-/// leaves kept is put one behind the other, so that no combination hashes an item again; one pass at the end drops what repeats across leaves.
+/// So many items a set of a leaf holds before the leaf begins another. Its table stays in the caches.
+const WINDOW: usize = 1 << 17;
+
+/// Of equal items the first, in the order of the items. A leaf keeps the first ones of its windows alone, so that the workers share the work.
+/// What the leaves kept is put one behind the other, so that no combination hashes an item again; one pass at the end drops what repeats
+/// across windows.
 #[derive(Drop)]
 pub struct DistinctItems<T, S> {
     alloc: Global,
@@ -49,8 +53,11 @@ impl<T: Value + Hash + Drop, S: BuildHasher + Copy> DistinctItems<T, S> {
         ensures { IfOk result (λ v. map T.content v.items ≡ fold (insert_key T.same) [] (map T.content items.items)) }
     {
         let mut all = self.first_ones();
+        let mut left = items.len();
         for x in items {
+            all.make_room(left)?;
             all.keep(x)?;
+            left = left.saturating_sub(1);
         }
         all.into_items(self.alloc)
     }
@@ -89,6 +96,26 @@ impl<T: Value + Hash + Drop, S: BuildHasher + Copy> FirstOnes<T, S> {
         Ok(())
     }
 
+    /// Where the set is full, makes it eight times as large, as far as `left` items need. A set that grows by two puts its items into a larger
+    /// table thrice as often, and each that doesn't fit the caches is slow to fill.
+    fn make_room(&mut self, left: usize) -> Result<(), NoMemory>
+        ensures { self.new.kept.keys ≡ self.old.kept.keys }
+    {
+        let len = self.kept.len();
+        if len == self.kept.capacity() {
+            self.kept.reserve(left.min(len.saturating_mul(7)))?;
+        }
+        Ok(())
+    }
+
+    /// Drops all items, and keeps the room.
+    fn clear(&mut self)
+        ensures { self.new.kept.keys ≡ [] }
+    {
+        self.kept.clear();
+        self.next = 0;
+    }
+
     /// The items, as they came. They differ.
     fn into_items(self, alloc: Global) -> Result<Vec<T>, NoMemory>
         ensures items { IfOk result (λ v. v.items ≡ self.kept.keys) }
@@ -98,17 +125,30 @@ impl<T: Value + Hash + Drop, S: BuildHasher + Copy> FirstOnes<T, S> {
     }
 }
 
-/// What leaves kept, in the order of the items. The items of one leaf differ; those of two may not.
+/// What leaves kept, in the order of the items. The items of one window differ; those of two may not.
 #[derive(Drop)]
 pub struct KeptByLeaves<T: Eq + Hash, S: BuildHasher> {
-    // What all leaves but the last kept.
+    // What all windows but the last kept.
     earlier: Vec<T>,
+    // The last window of the last leaf.
     last: FirstOnes<T, S>,
 }
 
 impl<T: Value + Hash + Copy + Drop, S: BuildHasher + Copy> KeptByLeaves<T, S> {
-    /// Puts what the last leaf kept behind the rest.
-    fn close_leaf(&mut self) -> Result<(), NoMemory>
+    /// Begins another window where the last is full.
+    fn begin_window(&mut self) -> Result<(), NoMemory>
+        ensures { OnOk result (self.new.earlier.items ++ self.new.last.kept.keys ≡ self.old.earlier.items ++ self.old.last.kept.keys) }
+    {
+        if self.last.kept.len() < WINDOW {
+            return Ok(());
+        }
+        self.close_window()?;
+        self.last.clear();
+        Ok(())
+    }
+
+    /// Puts what the last window kept behind the rest.
+    fn close_window(&mut self) -> Result<(), NoMemory>
         ensures { OnOk result (self.new.earlier.items ≡ self.old.earlier.items ++ self.old.last.kept.keys) }
     {
         self.earlier.extend_from_slice(self.last.kept.as_slice())?;
@@ -119,7 +159,7 @@ impl<T: Value + Hash + Copy + Drop, S: BuildHasher + Copy> KeptByLeaves<T, S> {
     fn append(&mut self, mut later: KeptByLeaves<T, S>) -> Result<(), NoMemory>
         ensures { OnOk result ((self.new.earlier.items ≡ (self.old.earlier.items ++ self.old.last.kept.keys) ++ later.earlier.items) × (self.new.last ≡ later.last)) }
     {
-        self.close_leaf()?;
+        self.close_window()?;
         self.earlier.append(&mut later.earlier)?;
         self.last = later.last;
         Ok(())
@@ -155,6 +195,7 @@ impl<T: Value + Hash + Copy + Drop, S: BuildHasher + Copy> Collector for Distinc
     }
 
     fn accumulate(&self, acc: &mut KeptByLeaves<T, S>, x: &T) -> Result<(), NoMemory> {
+        acc.begin_window()?;
         acc.last.keep(*x)
     }
 
@@ -170,7 +211,7 @@ impl<T: Value + Hash + Copy + Drop, S: BuildHasher + Copy> Collector for Distinc
         if acc.earlier.is_empty() {
             return acc.last.into_items(self.alloc);
         }
-        acc.close_leaf()?;
+        acc.close_window()?;
         self.distinct_among(acc.earlier)
     }
 }

@@ -21,5 +21,6 @@ loop-x-preserved g c =
     let kept = fold (insert_key g.T.Value.same) in
     let taken : c.loop-x.x-iterator.rest.items ≡ c.in-Some.x ∷ c.next.new.self.rest.items = search rules in
     ap (λ ks. kept ks (contents c.next.new.self.rest.items)) c.in_ok-keep.ensures
+    ∙ ap (λ ks. kept (contents ks) (contents (c.in-Some.x ∷ c.next.new.self.rest.items))) c.make_room.ensures
     ∙ ap (λ xs. kept (contents c.loop-x.all.kept.keys) (contents xs)) (sym taken)
     ∙ c.loop-x.invariant

@@ -26,8 +26,8 @@ returns g c = λ l values made.
     let acc = c.args.acc in
     let contents = map g.T.Value.content in
     let kept = fold (insert_key g.T.Value.same) in
-    let all : kept [] (contents c.close_leaf.new.self.earlier.items) ≡ fold (insert_key g.T.Value.same) [] l =
-    ap (λ xs. kept [] (contents xs)) c.in_ok-close_leaf.ensures
+    let all : kept [] (contents c.close_window.new.self.earlier.items) ≡ fold (insert_key g.T.Value.same) [] l =
+    ap (λ xs. kept [] (contents xs)) c.in_ok-close_window.ensures
     ∙ fold-joined (insert_key g.T.Value.same) g.T.Value.content [] acc.earlier.items acc.last.kept.keys
     ∙ made in
     IfOk-weaker c.distinct_among.result _ _

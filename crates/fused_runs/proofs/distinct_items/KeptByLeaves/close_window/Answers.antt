@@ -1,5 +1,5 @@
 use Rattle.std.proofs.Common.{rules}
-use Rattle.fused_runs.proofs.distinct_items.KeptByLeaves.close_leaf.Goals as goal
+use Rattle.fused_runs.proofs.distinct_items.KeptByLeaves.close_window.Goals as goal
 
 -- bounded: a wrong body would search to its limit
 pub returns : goal.returns
