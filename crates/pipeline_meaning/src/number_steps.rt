@@ -1,9 +1,8 @@
 //! The stages over numbers that look at one item at a time, as one stage that runs each over a whole block.
 ghost use Rattle.std.specs.Prelude.{◌≡◌, ◌≤◌, ◌<◌, ℕ, ℤ, IsTrue, IfOk, OnOk, List, MatchBool, Option, flat_map, length, take};
 ghost use Rattle.std.specs.List.{HoldsAt, list_all};
-ghost use Rattle.std.proofs.Math.ListN.{replicate};
 ghost use Rattle.std.specs.Ordering.{int_cmp};
-ghost use Rattle.pipeline_meaning.specs.NumberSteps.{number_images, number_step_images, steps_images, is_map_step, is_none, only_maps, Follows, KeepsSound-number_steps};
+ghost use Rattle.pipeline_meaning.specs.NumberSteps.{number_images, number_step_images, steps_images, is_map_step, is_none, only_maps, Follows, WithCopies, KeepsSound-number_steps};
 ghost use Rattle.pipeline_meaning.specs.Rows.{row_of, size_of};
 ghost use Rattle.pipeline_meaning.specs.Stages.{number_stages, is_number_barrier, is_number_map};
 
@@ -114,7 +113,7 @@ impl NumberSteps {
     /// ```
     pub fn take_repeat(&mut self) -> u64
         ensures some { 1 ≤ result }
-        ensures copies { (l : List ℤ) → flat_map (replicate result) (flat_map (⟦<NumberSteps as Stage>⟧.expand self.new) l) ≡ flat_map (⟦<NumberSteps as Stage>⟧.expand self.old) l }
+        ensures copies { WithCopies result self.new self.old }
     {
         match self.repeats.last() {
             Some(number) if *number >= 1 => {
