@@ -1,6 +1,7 @@
-use Rattle.std.proofs.Common.{rules, ◌≡◌, ◌<◌, ◌≤◌, ◌+◌, ◌-◌, ℤ, List, All, drop, length, take, ap, sym, subst, arith, refl, ◌∙◌}
+use Rattle.std.proofs.Common.{rules, flat_map, ◌≡◌, ◌<◌, ◌≤◌, ◌+◌, ◌-◌, ℤ, List, All, drop, length, take, ap, sym, subst, arith, refl, ◌∙◌}
 use Rattle.std.proofs.lemmas.List.{length-drop, length-take, map-id}
 use Rattle.std.proofs.lemmas.List.Elements.{All-drop, All-take}
+use Rattle.stages.specs.Passing.{flat_map-one}
 use Rattle.pipeline_meaning.specs.NumberSteps.{number_images}
 use Rattle.pipeline_meaning.specs.Stages.{number_stage}
 use Rattle.pipeline_value.specs.Ranges.{NumberStageFits}
@@ -16,7 +17,7 @@ returns-then-taken-stages g t c =
     let means = behind-none number_stage (number_images settled.steps) (take settled.taken stages) _ _ _ c.in_ok-settled.ensures.means refl in
     let Q : List ℤ → Type 0 = λ l. Tells (number_told c.args.terminal.now l) c.number_end.result in
     copies-told Q c.args.stages.now stages c.repeated-repeats.result.1 _ _ c.args.items.items c.split_at.ensures.back c.repeated-repeats.ensures.value (c.new-source.ensures ∙ map-id _ ∙ c.as_slice.ensures.value)
-    (whole-told number_stage Q stages settled.taken _ _ all means (rw (c.then.ensures.upstream, c.of.ensures, c.then.ensures.stage) at c.number_end.ensures))
+    (whole-told number_stage Q stages settled.taken _ _ all means (subst Q (ap (flat_map (number_images settled.steps)) (flat_map-one _)) c.number_end.ensures))
 
 pub list_value-requires : goal.list_value-requires
 list_value-requires g t c =

@@ -13,15 +13,11 @@ returns-then-taken-stages g c =
     let stages = c.as_slice-stages.result.now in
     let front = g.A.Stage.expand c.args.front in
     let settled = c.in_ok-settled.settled in
-    let part = g.S.Spliterator.items settled.source in
-    let steps = number_images settled.steps in
     let whole = flat_map front (g.S.Spliterator.items c.args.source) in
     let all : settled.taken ≡ length stages = omega (arith, c.if-taken-stages.true) in
     rw (← c.as_slice-stages.ensures.value)
     (whole-told number_stage (λ l. Tells (number_told c.args.body.now.terminal l) c.number_end.result) stages settled.taken whole
-    (flat_map (λ x. flat_map steps (front x)) part) all
-    (in_one front steps part (number_stages (take settled.taken stages) whole) c.in_ok-settled.ensures.means)
-    (rw (c.then.ensures.upstream, c.of.ensures, c.then.ensures.stage, c.new-stage.ensures.first, c.new-stage.ensures.second) at c.number_end.ensures))
+    (flat_map (number_images settled.steps) (flat_map front (g.S.Spliterator.items settled.source))) all c.in_ok-settled.ensures.means c.number_end.ensures)
 
 pub list_value-requires-clause-fits : goal.list_value-requires-clause-fits
 list_value-requires-clause-fits g c = λ lifetimes outlive. rw c.as_slice-stages.ensures.value (All-take NumberStageFits _ _ (All-drop NumberStageFits _ _ c.requires.fits))

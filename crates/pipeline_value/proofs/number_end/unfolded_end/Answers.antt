@@ -1,5 +1,5 @@
 use Rattle.std.proofs.Common.{rules}
-use Rattle.pipeline_value.proofs.number_end.number_end.Goals as goal
+use Rattle.pipeline_value.proofs.number_end.unfolded_end.Goals as goal
 
 pub returns-in-FindFirst : goal.returns-in-FindFirst
 returns-in-FindFirst g c = rw c.in-FindFirst.is (c.ran_optional.ensures _ c.find_first.ensures.value)
@@ -15,7 +15,3 @@ returns-in-AnyMatch g c = rw c.in-AnyMatch.is (c.ran_told-in-AnyMatch.ensures _ 
 
 pub returns-in-NoneMatch : goal.returns-in-NoneMatch
 returns-in-NoneMatch g c = rw c.in-NoneMatch.is (c.ran_told-in-NoneMatch.ensures _ (rw c.of-check-in-NoneMatch.ensures at c.none_match.ensures.value))
-
--- bounded: a wrong body would search to its limit
-pub returns-in-Max : goal.returns-in-Max
-returns-in-Max g c = search rules fits 60 depth 3
