@@ -1,5 +1,6 @@
 -- The terminals that join all numbers into one, or count them.
-use Rattle.std.specs.Prelude.{◌≡◌, Option, Some, None, refl}
+use Rattle.std.specs.Prelude.{◌≡◌, Option, Some, None, is_some}
+use Rattle.std.proofs.Common.{ap, sym, true≢false}
 use Rattle.pipeline_language.specs.declared.pipeline.NumberTerminal.{NumberTerminal}
 use Rattle.pipeline_language.specs.declared.pipeline.NumberTerminal.TheVariants as terminals
 use Rattle.pipeline_value.specs.declared.folds.Fold.{Fold}
@@ -20,3 +21,25 @@ fold_of terminals.Max = Some folds.Max
 fold_of terminals.Min = Some folds.Min
 fold_of terminals.Count = Some folds.Count
 fold_of _ = None
+
+some_fold : Option Fold → Fold
+some_fold (Some fold) = fold
+some_fold None = folds.Sum
+
+pub fold-is : (t : NumberTerminal) (fold : Fold) → fold_of t ≡ Some fold → fold_terminal fold ≡ t
+unfolding some_fold
+fold-is terminals.Sum fold is = sym (ap (λ o. fold_terminal (some_fold o)) is)
+fold-is terminals.Product fold is = sym (ap (λ o. fold_terminal (some_fold o)) is)
+fold-is terminals.Max fold is = sym (ap (λ o. fold_terminal (some_fold o)) is)
+fold-is terminals.Min fold is = sym (ap (λ o. fold_terminal (some_fold o)) is)
+fold-is terminals.Count fold is = sym (ap (λ o. fold_terminal (some_fold o)) is)
+fold-is terminals.FindFirst fold is = absurd (true≢false (sym (ap is_some is)))
+fold-is terminals.ToList fold is = absurd (true≢false (sym (ap is_some is)))
+fold-is (terminals.AllMatch p) fold is = absurd (true≢false (sym (ap is_some is)))
+fold-is (terminals.AnyMatch p) fold is = absurd (true≢false (sym (ap is_some is)))
+fold-is (terminals.NoneMatch p) fold is = absurd (true≢false (sym (ap is_some is)))
+fold-is (terminals.GroupBy f summary) fold is = absurd (true≢false (sym (ap is_some is)))
+fold-is (terminals.Partition p summary) fold is = absurd (true≢false (sym (ap is_some is)))
+fold-is (terminals.ToMap key value merge) fold is = absurd (true≢false (sym (ap is_some is)))
+fold-is (terminals.ToMapStrict key value) fold is = absurd (true≢false (sym (ap is_some is)))
+fold-is (terminals.Teeing one other) fold is = absurd (true≢false (sym (ap is_some is)))

@@ -1,5 +1,5 @@
 -- The least and the greatest of numbers by one step, none of which is wrapped: their ends.
-use Rattle.std.specs.Prelude.{◌≡◌, ◌≤◌, ◌+◌, ◌*◌, ◌^◌, ℕ, zero, suc, ℤ, pos, negsuc, neg_ℤ, ◌+ℤ◌, ◌*ℤ◌, ◌≤ℤ◌, ◌<ℤ◌, FitsSigned, Bool, true, false, if◌then◌else◌, List, [], ◌∷◌, drop, fold, length, refl, Option, Some, None}
+use Rattle.std.specs.Prelude.{◌≡◌, ◌*◌, ℕ, zero, suc, ℤ, pos, negsuc, neg_ℤ, ◌+ℤ◌, ◌*ℤ◌, ◌≤ℤ◌, ◌<ℤ◌, FitsSigned, if◌then◌else◌, List, ◌∷◌, drop, fold, length, refl, Some}
 use Rattle.std.specs.Int.{int_wrap}
 use Rattle.std.specs.Ordering.{MatchOrdering, int_cmp, is_lt, is_gt}
 use Rattle.std.specs.Cmp.{int_ranks}

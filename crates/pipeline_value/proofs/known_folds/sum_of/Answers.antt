@@ -1,4 +1,4 @@
-use Rattle.std.proofs.Common.{rules, arith, ◌≡◌, ◌∷◌, ◌∙◌, ap, sym, length, fold, pos, to_z, of_z, w64}
+use Rattle.std.proofs.Common.{rules, arith, ◌≡◌, ◌∷◌, ◌∙◌, ap, sym, length, fold, to_z, of_z, w64}
 use Rattle.sources.specs.Progressions.{progression}
 use Rattle.sources.specs.ProgressionLaws.{length-progression}
 use Rattle.stages.specs.Wrapping.{wrapped_sum}

@@ -1,4 +1,3 @@
-use Rattle.std.proofs.Common.{rules}
 use Rattle.pipeline_value.proofs.number_end.unfolded_end.Goals as goal
 
 pub returns-in-FindFirst : goal.returns-in-FindFirst

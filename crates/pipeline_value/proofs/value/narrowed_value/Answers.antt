@@ -16,6 +16,16 @@ returns-in-Some g c =
     let items = integers whole.next whole.left in
     subst Q (c.narrowed-range.ensures.value ∙ c.drop_distincts.ensures.value items (range-told whole.next whole.left first whole.within_type) ∙ c.drop_repeats.ensures.value items) c.in-Some.ensures
 
+pub returns-in-Some-known_fold : goal.returns-in-Some-known_fold
+returns-in-Some-known_fold g c =
+    let body = c.args.body in
+    let whole = c.args.range in
+    let items = integers whole.next whole.left in
+    let first : FitsSigned w64 whole.next = search rules in
+    let Q : List ℤ → Type 0 = λ l. Tells (number_told body.terminal l) c.in-Some-known_fold.told in
+    subst Q (c.stepped-numbers.ensures.value ∙ c.narrowed-range.ensures.value ∙ c.drop_distincts.ensures.value items (range-told whole.next whole.left first whole.within_type) ∙ c.drop_repeats.ensures.value items)
+    c.in-Some-known_fold.ensures
+
 pub returns : goal.returns
 returns g c =
     let body = c.args.body in

@@ -3,7 +3,7 @@ use Rattle.std.proofs.Math.IntN.{*ℤ_comm}
 use Rattle.std.proofs.lemmas.Int.{to_z_pos}
 use Rattle.sources.specs.Progressions.{progression}
 use Rattle.sources.specs.ProgressionLaws.{length-progression}
-use Rattle.pipeline_value.specs.Spans.{IsSpan, last_of, steps-read}
+use Rattle.pipeline_value.specs.Spans.{IsSpan, steps-read}
 use Rattle.pipeline_value.proofs.known_folds.Span.of.Goals as goal
 
 pub returns : goal.returns
