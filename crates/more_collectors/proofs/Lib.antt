@@ -1,0 +1,2 @@
+pub mod KeptItems
+pub mod SetKeys

@@ -1,0 +1,3 @@
+pub mod FirstBest
+pub mod FlatMapping
+pub mod Sets

@@ -1,0 +1,5 @@
+//! The tests of `more_collectors`.
+#![tactic(auto)]
+
+#[cfg(test)]
+mod tests;

@@ -1,0 +1,7 @@
+//! Each collector at concrete types, over a list that is cut in two at each place.
+
+mod best;
+mod cuts;
+mod functions;
+mod nested;
+mod sets;
