@@ -16,7 +16,7 @@ const LIGHT_ENTRIES: usize = 64;
 
 /// The items without repeats, as clones. They stand in the order in which each came first, which Java's `Collectors.toSet` leaves open:
 ///
-///     let set = collect(&ToSet::new(rt.alloc()), &[5, 2, 5, 7, 2])?;    // {5, 2, 7}
+///     let set = collect(&ToSet::<i64>::new(rt.alloc()), &[5, 2, 5, 7, 2])?;    // {5, 2, 7}
 #[derive(Drop)]
 pub struct ToSet<T: Value + Clone, S = BuildHasherDefault<FoldHasher>> {
     alloc: Global,

@@ -1,4 +1,3 @@
-use Rattle.std.proofs.Common.{rules}
 use Rattle.spliterator.specs.Clones.{clones-tested}
 use Rattle.more_collectors.proofs.SetKeys.{set_add-put, set_add-there}
 use Rattle.more_collectors.proofs.to_set.ToSetCollector.accumulate.Goals as goal
@@ -13,4 +12,4 @@ returns-in_ok-insert g c =
 pub returns-else-not-contains : goal.returns-else-not-contains
 returns-else-not-contains g c =
     set_add-there g.T.Value.content g.T.PartialEq.eq g.T.Value.same g.met.T.Value.eq_is_same c.args.acc.now.keys c.args.x.now
-    c.contains.result c.contains.ensures (search rules)
+    c.contains.result c.contains.ensures c.if-not-contains.false
