@@ -33,7 +33,7 @@ impl Mapping<i64> for Copies {
 #[derive(Drop)]
 pub struct Keys;
 
-impl<K: Eq + Hash + Drop, V: Drop, S: BuildHasher> Finisher<IndexMap<K, V, S>> for Keys {
+impl<K: Eq + Hash + Drop, V: Drop, S: BuildHasher + Copy> Finisher<IndexMap<K, V, S>> for Keys {
     type Out = usize;
 
     ghost gives = { λ _ map number. number ≡ length map.entries };
