@@ -7,8 +7,11 @@ use parts::{Modulo, Times};
 use spliterator::NoMemory;
 
 /// Lists, and of each: twice its length, and how many remainders by 3 its numbers leave.
-static FINISHED: [(&[i64], i64, usize); 3] =
-    [(&[], 0, 0), (&[4, 4, 4], 6, 1), (&[5, 2, 7, 4, 6], 10, 3)];
+static FINISHED: [(&[i64], i64, usize); 3] = [
+    (&[], 0, 0),
+    (&[4, 4, 4], 6, 1),
+    (&[5, 2, 7, 4, 6], 10, 3),
+];
 
 #[test]
 fn a_finisher_takes_the_result(rt: HostRuntime) -> Result<(), NoMemory> {
