@@ -22,7 +22,7 @@ module _ {K : Type 0} (same : K → K → Bool) where
   set_merge ks js = group_merge same (λ _ _. tt) ks js
 
   nothing_laws : (is_value : K → Type 0) → CollectorLaws {X = K} {A = ⊤} is_value tt (λ _ _. tt) (λ _ _. tt)
-  nothing_laws is_value = record { identity = λ l v. refl; associativity = λ l r x v w u. refl; }
+  nothing_laws is_value = record { identity = λ l v. refl; associativity = λ l r x v w u. refl }
 
   module _ (decides : DecidesEquality same) where
     pub set_laws : (is_value : K → Type 0) → CollectorLaws is_value [] set_add set_merge
