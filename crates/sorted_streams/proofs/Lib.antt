@@ -1,0 +1,3 @@
+mod Beside
+mod Images
+mod Told
