@@ -1,0 +1,5 @@
+//! The tests of `sorted_streams`.
+#![tactic(auto)]
+
+#[cfg(test)]
+mod tests;

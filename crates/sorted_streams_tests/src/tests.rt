@@ -1,0 +1,100 @@
+//! Streams sorted with 1 and with 7 workers, at target 1 and at the default, and lists that are long enough for several threads.
+
+use parallel_streams::{Run, Stream, StreamError, of};
+use parts::{Itself, Modulo, OnFirst, Times};
+use sorted_streams::{Descending, sorted, sorted_by_key};
+use sources::{RangeSplit, SliceSplit};
+use std::alloc::Global;
+use std::process::Abort;
+use std::thread::Threads;
+use stealing_pool::NoGate;
+
+/// The workers and the target of each row.
+static SETTINGS: [(u32, u64); 4] = [(1, 1), (7, 1), (1, 0), (7, 0)];
+
+/// Numbers, and the same sorted.
+static NUMBERS: [(&[i64], &[i64]); 5] = [
+    (&[], &[]),
+    (&[5], &[5]),
+    (&[1, 2, 2, 3], &[1, 2, 2, 3]),
+    (&[3, -1, 3, 2, -1], &[-1, -1, 2, 3, 3]),
+    (
+        &[9223372036854775807, 0, -9223372036854775808],
+        &[-9223372036854775808, 0, 9223372036854775807],
+    ),
+];
+
+/// Pairs, and the same sorted by their first parts and by these from the greatest on.
+static PAIRS: [(&[(i64, i64)], &[(i64, i64)], &[(i64, i64)]); 3] = [
+    (&[], &[], &[]),
+    (&[(4, 1)], &[(4, 1)], &[(4, 1)]),
+    (
+        &[(2, 7), (1, 9), (2, 5), (-1, 0), (1, 8), (2, 7)],
+        &[(-1, 0), (1, 9), (1, 8), (2, 7), (2, 5), (2, 7)],
+        &[(2, 7), (2, 5), (2, 7), (1, 9), (1, 8), (-1, 0)],
+    ),
+];
+
+fn rows<R: Threads + Abort + Alloc<A = Global> + Sync>(
+    rt: &R,
+    run: &Run<'_, NoGate>,
+) -> Result<(), StreamError> {
+    for (numbers, wanted) in &NUMBERS {
+        let found = sorted(rt, rt.alloc(), run, &of(SliceSplit::new(numbers)))?;
+        assert!(rt; found.as_slice() == *wanted, "{found:?} in the place of {wanted:?}");
+    }
+    for (pairs, ascending, descending) in &PAIRS {
+        let stream = of(SliceSplit::new(pairs));
+        let found = sorted_by_key(rt, rt.alloc(), run, &stream, &OnFirst(Itself))?;
+        assert!(rt; found.as_slice() == *ascending, "{found:?} in the place of {ascending:?}");
+        let last = Descending(OnFirst(Itself));
+        let found = sorted_by_key(rt, rt.alloc(), run, &stream, &last)?;
+        assert!(rt; found.as_slice() == *descending, "{found:?} in the place of {descending:?}");
+    }
+    Ok(())
+}
+
+#[test]
+fn rows_at_each_setting(rt: HostRuntime) -> Result<(), StreamError> {
+    for &(workers, target) in &SETTINGS {
+        rows(
+            &rt,
+            &Run {
+                workers,
+                target,
+                gate: &NoGate,
+            },
+        )?;
+    }
+    Ok(())
+}
+
+// The multiples of 5,000, each less the multiples of the prime 10,007 in it, are the numbers below it in another order.
+#[test]
+fn a_long_list_ascends(rt: HostRuntime) -> Result<(), StreamError> {
+    let numbers = of(RangeSplit::range(0, 10_007).expect(&rt, "a range"));
+    let shuffled = numbers.map(Times(5_000)).map(Modulo::by(10_007));
+    let found = sorted(&rt, rt.alloc(), &Run::new(4), &shuffled)?;
+    let mut left = found.iter();
+    for wanted in 0..10_007i64 {
+        assert!(&rt; left.next().copied() == Some(wanted));
+    }
+    assert!(&rt; left.next().is_none());
+    Ok(())
+}
+
+// Numbers with one last digit stay in their order.
+#[test]
+fn a_long_list_is_sorted_stably(rt: HostRuntime) -> Result<(), StreamError> {
+    let numbers = of(RangeSplit::range(0, 10_000).expect(&rt, "a range"));
+    let found = sorted_by_key(&rt, rt.alloc(), &Run::new(4), &numbers, &Modulo::by(10))?;
+    let mut left = found.iter();
+    for digit in 0..10i64 {
+        for tens in 0..1_000i64 {
+            let wanted = tens.wrapping_mul(10).wrapping_add(digit);
+            assert!(&rt; left.next().copied() == Some(wanted));
+        }
+    }
+    assert!(&rt; left.next().is_none());
+    Ok(())
+}
