@@ -1,12 +1,11 @@
 -- There is at most one sorted list.
-use Rattle.std.specs.Prelude.{◌≡◌, ◌<◌, ℕ, zero, suc, Bool, true, false, cond, not, ◌&&◌, All, List, [], ◌∷◌, length, refl}
+use Rattle.std.specs.Prelude.{◌≡◌, zero, suc, Bool, true, false, cond, not, ◌&&◌, All, List, [], ◌∷◌, refl}
 use Rattle.std.proofs.Common.{ap, ap₂, sym, true≢false, ◌∙◌, arith}
-use Rattle.std.proofs.lemmas.Bool.{cases_Bool}
 use Rattle.std.proofs.lemmas.List.Elements.{All-cons, All-head, All-tail}
 use Rattle.std.proofs.lemmas.List.Sorted.{ranks_by, sorted_far}
 use Rattle.std.specs.Cmp.{IsTotalOrder, IsStrictWeakOrder}
 use Rattle.std.specs.List.{AllPairs, filter}
-use Rattle.std.specs.List.Sorted.{IsSortedBy, ties}
+use Rattle.std.specs.List.Sorted.{ties}
 use Rattle.std.specs.Ordering.{is_lt}
 use Rattle.std.specs.declared.cmp.Ordering.{Ordering}
 use Rattle.sorted_streams.specs.Sorted.{IsSortedList, by_key}
@@ -93,7 +92,7 @@ module _ {C : Type 0} (below : C → C → Bool) (weak : IsStrictWeakOrder below
       let above-b : All (λ e. below e b ≡ false) t = λ k d inside. up-t zero (suc k) d (omega arith) (omega arith) in
       let head : a ≡ b = least a b s t above-a above-b same _ _ refl refl in
       let tails : (c : C) → filter (ties below c) s ≡ filter (ties below c) t = λ c.
-          without-head (ties below c a) a _ _ (same c ∙ ap (λ d. filter (ties below c) (d ∷ t)) (sym head)) in
+      without-head (ties below c a) a _ _ (same c ∙ ap (λ d. filter (ties below c) (d ∷ t)) (sym head)) in
       ap₂ ◌∷◌ head
       (once s t (λ i j d low inside. up-s (suc i) (suc j) d (omega arith) (omega arith)) (λ i j d low inside. up-t (suc i) (suc j) d (omega arith) (omega arith)) tails)
 

@@ -1,5 +1,4 @@
 //! Keys in descending order.
-ghost use Rattle.spliterator.specs.Values.{DecidesEquality};
 ghost use Rattle.sorted_streams.specs.Reversed.{reversed, reversed-total, reversed-ties};
 
 use spliterator::{NoMemory, OrderedValue, Value};

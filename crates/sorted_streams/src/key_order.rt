@@ -23,12 +23,7 @@ use stealing_pool::Gate;
 ///
 /// Each item is asked for its key once, in the caller's thread. The rest is as of [`crate::sorted`].
 // java.util.stream.Stream, sorted (comparator), with java.util.Comparator, comparing
-pub fn sorted_by_key<
-    S: Stream + Sync,
-    R: Threads + Sync,
-    H: Gate + Sync,
-    M: Mapping<S::Item>,
->(
+pub fn sorted_by_key<S: Stream + Sync, R: Threads + Sync, H: Gate + Sync, M: Mapping<S::Item>>(
     rt: &R,
     alloc: Global,
     run: &Run<'_, H>,

@@ -41,15 +41,24 @@ fn rows<R: Threads + Abort + Alloc<A = Global> + Sync>(
 ) -> Result<(), StreamError> {
     for (numbers, wanted) in &NUMBERS {
         let found = sorted(rt, rt.alloc(), run, &of(SliceSplit::new(numbers)))?;
-        assert!(rt; found.as_slice() == *wanted, "{found:?} in the place of {wanted:?}");
+        assert!(rt;
+            found.as_slice() == *wanted,
+            "{found:?} in the place of {wanted:?}"
+        );
     }
     for (pairs, ascending, descending) in &PAIRS {
         let stream = of(SliceSplit::new(pairs));
         let found = sorted_by_key(rt, rt.alloc(), run, &stream, &OnFirst(Itself))?;
-        assert!(rt; found.as_slice() == *ascending, "{found:?} in the place of {ascending:?}");
+        assert!(rt;
+            found.as_slice() == *ascending,
+            "{found:?} in the place of {ascending:?}"
+        );
         let last = Descending(OnFirst(Itself));
         let found = sorted_by_key(rt, rt.alloc(), run, &stream, &last)?;
-        assert!(rt; found.as_slice() == *descending, "{found:?} in the place of {descending:?}");
+        assert!(rt;
+            found.as_slice() == *descending,
+            "{found:?} in the place of {descending:?}"
+        );
     }
     Ok(())
 }
