@@ -16,7 +16,7 @@ pub use collectors::{
 pub use fused_runs::{
     Engine, collect_distinct, collect_front, collect_limited, collect_rest, collect_skipped,
 };
-pub use more_collectors::{CollectingAndThen, Finisher, FlatMappingTo, MaxByKey, MinByKey, ToSet};
+pub use derived_collectors::{CollectingAndThen, Finisher, FlatMappingTo, MaxByKey, MinByKey, ToSet};
 pub use parallel_streams::{MapError, Run, Stream, StreamError, of};
 pub use parts::{
     Above, And, AtMostOne, Below, Cloned, Composed, Divisible, Equal, Even, Itself, Length, Modulo,

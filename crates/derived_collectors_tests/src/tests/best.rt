@@ -1,0 +1,31 @@
+//! The first of the best items by a key.
+use super::cuts::of_parts;
+use derived_collectors::{MaxByKey, MinByKey};
+use parts::Length;
+use spliterator::NoMemory;
+
+/// Words, and of each list the first shortest word and the first longest.
+static WORDS: [(&[&str], Option<&str>, Option<&str>); 4] = [
+    (&[], None, None),
+    (&["one"], Some("one"), Some("one")),
+    (
+        &["to", "be", "or", "not", "too", "a", "b"],
+        Some("a"),
+        Some("not"),
+    ),
+    (&["long", "wide", "far", "dim"], Some("far"), Some("long")),
+];
+
+#[test]
+fn the_first_of_the_best(rt: HostRuntime) -> Result<(), NoMemory> {
+    let shortest = MinByKey::<&str, _>::new(Length);
+    let longest = MaxByKey::<&str, _>::new(Length);
+    for &(words, least, greatest) in &WORDS {
+        for cut in 0..=words.len() {
+            let (left, right) = words.split_at(cut);
+            assert!(&rt; of_parts(&shortest, left, right)? == least);
+            assert!(&rt; of_parts(&longest, left, right)? == greatest);
+        }
+    }
+    Ok(())
+}

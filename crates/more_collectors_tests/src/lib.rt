@@ -1,5 +1,0 @@
-//! The tests of `more_collectors`.
-#![tactic(auto)]
-
-#[cfg(test)]
-mod tests;
