@@ -8,15 +8,19 @@
 //! ```
 #![tactic(auto)]
 
+pub mod sorting;
+
 pub use collectors::{
     Collector, CollectorDefinition, CollectorOf, Counting, DuplicateKey, FilteringTo, First,
     GroupingBy, Joining, MappingTo, Pairing, Partition, PartitioningBy, Reducing, SummingLong,
     Teeing, ToList, ToMap, ToMapStrict,
 };
+pub use derived_collectors::{
+    CollectingAndThen, Finisher, FlatMappingTo, MaxByKey, MinByKey, ToSet,
+};
 pub use fused_runs::{
     Engine, collect_distinct, collect_front, collect_limited, collect_rest, collect_skipped,
 };
-pub use derived_collectors::{CollectingAndThen, Finisher, FlatMappingTo, MaxByKey, MinByKey, ToSet};
 pub use parallel_streams::{MapError, Run, Stream, StreamError, of};
 pub use parts::{
     Above, And, AtMostOne, Below, Cloned, Composed, Divisible, Equal, Even, Itself, Length, Modulo,

@@ -1,0 +1,3 @@
+//! Streams as sorted lists.
+
+pub use sorted_streams::{Descending, sorted, sorted_by_key};
