@@ -3,8 +3,8 @@ ghost use Rattle.std.specs.Prelude.{◌≡◌, length, replicate, unsigned_abs};
 ghost use Rattle.std.proofs.lemmas.List.Elements.{All-replicate};
 ghost use Rattle.spliterator.specs.Values.{IsI64};
 
-use indexmap::IndexMap;
 use derived_collectors::Finisher;
+use indexmap::IndexMap;
 use spliterator::NoMemory;
 use stages::Mapping;
 use std::alloc::Global;
