@@ -1,15 +1,15 @@
 -- Blocks of numbers that are near, and their remainders by a small divisor.
 use Rattle.std.specs.Prelude.{◌≡◌, ℕ, ◌+◌, ◌-◌, ◌*◌, ◌/◌, ◌%◌, ◌^◌, ◌<◌, ◌≤◌, ◌↔◌, ℤ, pos, negsuc, ◌-ℤ◌, int_lt, true, false, List, length, take, bit_or, nat_lt, IsTrue, FitsSigned}
 use Rattle.std.specs.List.{All}
-use Rattle.std.specs.Int.{w32, w64}
-use Rattle.std.proofs.Common.{arith, rules, sym, ap, ◌∙◌, get_or, to_z, of_z, take_all, length-take-le}
+use Rattle.std.specs.Int.{cast_unsigned, w32, w64}
+use Rattle.std.proofs.Common.{arith, rules, sym, ap, subst, ◌∙◌, get_or, to_z, of_z, take_all, length-take-le}
 use Rattle.std.proofs.Math.Nat.{div-div-eq-div-mul, mul_comm}
 use Rattle.std.proofs.lemmas.Bool.Decides.{nat_tests}
 use Rattle.std.proofs.lemmas.Int.{ints}
 use Rattle.std.proofs.lemmas.Nat.{or_lt, le_or_l, le_or_r}
 use Rattle.std.proofs.lemmas.List.{take-take, get_or-take}
 use Rattle.std.proofs.lemmas.List.Elements.{All-more, All-take, All-same, All-get_or}
-use Rattle.parts.specs.Near.{distance}
+use Rattle.parts.specs.Near.{IsNearNatural, distance}
 use Rattle.parts.proofs.Quotients.{high_below, high_above, rest_exact, rest_corrected}
 
 -- the high half of a reciprocal is one of half the digits
@@ -56,22 +56,30 @@ distance_near : (x : ℤ) → FitsSigned w32 x → distance x < 2 ^ 31
 distance_near (pos n) h = omega (arith, ints)
 distance_near (negsuc n) h = omega (arith, ints)
 
+-- a size is small exactly where the number is near
+pub near_both : (x : ℤ) (size : ℕ) → size ≡ distance x → size < 2 ^ 31 ↔ FitsSigned w32 x
+near_both x size is = (λ few. near_distance x (omega (arith, is, few)), λ near. let h = distance_near x near in omega (arith, is, h))
+
+-- .. or its digits are few where it is near and not negative
+pub natural_both : (x : ℤ) (digits : ℕ) → FitsSigned w64 x → digits ≡ cast_unsigned w64 x → digits < 2 ^ 31 ↔ IsNearNatural x
+natural_both (pos n) digits fits is = (λ few. (omega (arith, ints), omega (arith, ints, is, few)), λ near. omega (arith, ints, is, near))
+natural_both (negsuc n) digits fits is = (λ few. absurd (omega (arith, ints, is, few, fits.sfits)), λ near. absurd (omega (arith, ints, near)))
+
 -- a number more
-pub near_more : (xs : List ℤ) (i digits size : ℕ) → i < length xs → size ≡ distance (get_or xs i (pos 0)) → (digits < 2 ^ 31 ↔ All (FitsSigned w32) (take i xs))
-    → bit_or digits size < 2 ^ 31 ↔ All (FitsSigned w32) (take (i + 1) xs)
-near_more xs i digits size within is so = (
+pub near_more : (P : ℤ → Type 0) (xs : List ℤ) (i digits size : ℕ) → i < length xs → (size < 2 ^ 31 ↔ P (get_or xs i (pos 0))) → (digits < 2 ^ 31 ↔ All P (take i xs))
+    → bit_or digits size < 2 ^ 31 ↔ All P (take (i + 1) xs)
+near_more P xs i digits size within both so = (
   λ few. let left = le_or_l digits size in
       let right = le_or_r digits size in
-      All-more (FitsSigned w32) xs i (pos 0) within (so.0 (omega arith)) (near_distance _ (omega (arith, is))),
-  λ all. let front : All (FitsSigned w32) (take i xs) = All-same (FitsSigned w32) _ _ (sym (take-take i (i + 1) xs (omega arith))) (All-take (FitsSigned w32) i _ all) in
+      All-more P xs i (pos 0) within (so.0 (omega arith)) (both.0 (omega arith)),
+  λ all. let front : All P (take i xs) = All-same P _ _ (sym (take-take i (i + 1) xs (omega arith))) (All-take P i _ all) in
       let long : length (take (i + 1) xs) ≡ i + 1 = length-take-le (i + 1) xs (omega arith) in
-      let last = distance_near _ (All-get_or (FitsSigned w32) (take (i + 1) xs) i (pos 0) (omega arith) all) in
-      let same = ap distance (get_or-take (i + 1) xs i (pos 0) (omega arith)) in
-      or_lt 31 digits size (so.1 front) (omega arith),
+      let last = All-get_or P (take (i + 1) xs) i (pos 0) (omega arith) all in
+      or_lt 31 digits size (so.1 front) (both.1 (subst P (get_or-take (i + 1) xs i (pos 0) (omega arith)) last)),
 )
 
-pub near_all : (xs : List ℤ) (i digits : ℕ) → length xs ≤ i → (digits < 2 ^ 31 ↔ All (FitsSigned w32) (take i xs)) → IsTrue (nat_lt digits (2 ^ 31)) ↔ All (FitsSigned w32) xs
-near_all xs i digits end so = (
-  λ few. All-same (FitsSigned w32) _ _ (sym (take_all i xs end)) (so.0 (search (rules, nat_tests, few))),
-  λ all. let few = so.1 (All-same (FitsSigned w32) _ _ (take_all i xs end) all) in search (rules, nat_tests, few),
+pub near_all : (P : ℤ → Type 0) (xs : List ℤ) (i digits : ℕ) → length xs ≤ i → (digits < 2 ^ 31 ↔ All P (take i xs)) → IsTrue (nat_lt digits (2 ^ 31)) ↔ All P xs
+near_all P xs i digits end so = (
+  λ few. All-same P _ _ (sym (take_all i xs end)) (so.0 (search (rules, nat_tests, few))),
+  λ all. let few = so.1 (All-same P _ _ (take_all i xs end) all) in search (rules, nat_tests, few),
 )

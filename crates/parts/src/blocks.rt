@@ -5,7 +5,7 @@ ghost use Rattle.std.specs.Prelude.{◌≡◌, ◌≤◌, ◌+◌, ◌*◌, OnOk
 ghost use Rattle.std.specs.Int.{int_rem_euclid};
 ghost use Rattle.std.proofs.Math.ListN.{replicate};
 
-use crate::small_divisor::{SmallDivisor, all_near};
+use crate::small_divisor::{SmallDivisor, all_near, all_near_natural};
 use crate::{Divisor, Modulo};
 use spliterator::NoMemory;
 use stages::{Mapping, Test};
@@ -42,6 +42,10 @@ pub fn remainders(divisor: Divisor, items: &mut Vec<i64>) -> Result<(), NoMemory
     ensures { OnOk result (items.new.items ≡ flat_map (λ x. int_rem_euclid x (pos divisor.number) ∷ []) items.old.items) }
 {
     match SmallDivisor::of(divisor) {
+        Some(small) if all_near_natural(items.as_slice()) => {
+            small.put_natural_remainders(items.as_mut_slice());
+            Ok(())
+        }
         Some(small) if all_near(items.as_slice()) => {
             small.put_remainders(items.as_mut_slice());
             Ok(())

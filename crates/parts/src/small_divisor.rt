@@ -1,7 +1,7 @@
 //! Remainders by a small divisor over a block of near numbers, in a loop that the compiler makes a vector's.
 ghost use Rattle.std.specs.Prelude.{◌≡◌, ◌≤◌, ◌<◌, ◌^◌, ◌-◌, ◌/◌, ◌%◌, ◌↔◌, All, FitsSigned, IfSome, IsSome, IsTrue, map, pos};
 ghost use Rattle.std.specs.Int.{int_rem_euclid, w32};
-ghost use Rattle.parts.specs.Near.{distance};
+ghost use Rattle.parts.specs.Near.{IsNearNatural, distance};
 
 use crate::Divisor;
 
@@ -41,6 +41,24 @@ impl SmallDivisor {
             let number = *x;
             *x = self.remainder(number);
         }
+    }
+
+    /// The same where no number is negative: no sign is turned.
+    pub(crate) fn put_natural_remainders(self, items: &mut [i64])
+        requires { All IsNearNatural items.old }
+        ensures { items.new ≡ map (λ x. int_rem_euclid x (pos self.number)) items.old }
+    {
+        for x in items.iter_mut() {
+            let number = *x;
+            *x = self.natural_remainder(number);
+        }
+    }
+
+    fn natural_remainder(self, x: i64) -> i64
+        requires { IsNearNatural x }
+        ensures { result ≡ int_rem_euclid x (pos self.number) }
+    {
+        self.rest(x as u64)
     }
 
     fn remainder(self, x: i64) -> i64
@@ -83,6 +101,24 @@ pub(crate) fn all_near(items: &[i64]) -> bool
     let mut digits = 0;
     for x in items {
         digits |= size(*x);
+    }
+    digits < 1 << 31
+}
+
+/// The digits of a number: a negative one has the highest.
+fn digits_of(x: i64) -> u64
+    ensures { result < 2 ^ 31 ↔ IsNearNatural x }
+{
+    x.cast_unsigned()
+}
+
+/// Whether all numbers are near and none is negative: from 0 to 2^31 - 1.
+pub(crate) fn all_near_natural(items: &[i64]) -> bool
+    ensures { IsTrue result ↔ All IsNearNatural items.now }
+{
+    let mut digits = 0;
+    for x in items {
+        digits |= digits_of(*x);
     }
     digits < 1 << 31
 }
