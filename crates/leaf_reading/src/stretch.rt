@@ -12,7 +12,7 @@ use std::alloc::Global;
 const STRETCH: u64 = 1024;
 
 /// The source items of a round, which are those between two questions how many items are left.
-const ROUND: u64 = 8;
+const ROUND: u64 = 16;
 
 /// Feeds one of the source's items to a sink. Says whether it did: nothing is left, or no item makes a difference any more.
 fn feed_one<S: Spliterator, G: Stage<In = S::Item>, K: Sink<G::Out>>(
