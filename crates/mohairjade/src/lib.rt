@@ -8,6 +8,7 @@
 //! ```
 #![tactic(auto)]
 
+pub mod concatenating;
 pub mod more_sources;
 pub mod sorting;
 

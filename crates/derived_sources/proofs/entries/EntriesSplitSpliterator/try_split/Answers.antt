@@ -1,4 +1,4 @@
-use Rattle.std.proofs.Common.{◌≡◌, length, min, ◌-◌, ◌/◌, ◌≤◌, ap, ap₂, refl, ◌∙◌, arith}
+use Rattle.std.proofs.Common.{◌≡◌, length, min, ◌-◌, ◌/◌, ap, ap₂, refl, ◌∙◌, arith}
 use Rattle.std.specs.List.{zip}
 use Rattle.std.proofs.lemmas.List.{length-take, length-drop}
 use Rattle.derived_sources.specs.Entries.{entry_contents, entries-halves, length-contents}
