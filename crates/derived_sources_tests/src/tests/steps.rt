@@ -1,14 +1,21 @@
 //! What steps make of values.
-ghost use Rattle.std.specs.Prelude.{◌+ℤ◌};
+ghost use Rattle.std.specs.Prelude.{◌≡◌, ◌+ℤ◌, negsuc};
 ghost use Rattle.stages.specs.Wrapping.{wrapped-value, wrapped_sum};
 
 use super::walks::check;
 use derived_sources::{Iterated, Step};
 use parts::{Composed, Modulo, Negated, Plus, Times};
-use spliterator::{NoMemory, Spliterator};
+use spliterator::{NoMemory, OrderedValue, Spliterator};
 use stages::Mapping;
 use std::alloc::Global;
 use std::process::Abort;
+
+/// A sum that wraps.
+fn sum(a: i64, b: i64) -> i64
+    ensures { result ≡ wrapped_sum a b }
+{
+    a.wrapping_add(b)
+}
 
 /// Two neighbours of a row in which each number is the sum of the two before it, one place further on.
 #[derive(Clone, Copy)]
@@ -22,7 +29,7 @@ impl Mapping<(i64, i64)> for Neighbours {
     ghost images_are_values = { λ _ p value. (value.1, wrapped-value (p.0 +ℤ p.1)) };
 
     fn image(&self, x: &(i64, i64)) -> Result<(i64, i64), NoMemory> {
-        Ok((x.1, x.0.wrapping_add(x.1)))
+        Ok((x.1, sum(x.0, x.1)))
     }
 }
 
@@ -45,7 +52,7 @@ impl Mapping<i64> for DownToZero {
         if *x == 0 {
             return Err(NoMemory);
         }
-        Ok(x.wrapping_add(-1))
+        Ok(sum(*x, -1))
     }
 }
 
@@ -61,7 +68,7 @@ fn check_step<T, M>(
     expected: &[T],
 ) -> Result<(), NoMemory>
 where
-    T: spliterator::OrderedValue + Copy,
+    T: OrderedValue + Copy,
     M: Step<T> + Mapping<T, Out = T> + Copy,
 {
     let split = Iterated::new(seed, step, expected.len() as u64);
