@@ -37,7 +37,8 @@ impl<'a, T: OrderedValue + Clone> CopiesSplit<'a, T> {
     // java.util.stream.Stream, generate, of a supplier that gives one value, and then limit
     pub fn new(value: &'a T, number: u64) -> CopiesSplit<'a, T>
         requires { ClonesAlike T.is_clone T.content }
-        ensures { ⟦<CopiesSplit<'a, T> as Spliterator>⟧.items result ≡ replicate number (T.content value.now) }
+        ensures { ⟦<CopiesSplit<'a, T> as Spliterator>⟧.items result
+            ≡ replicate number (T.content value.now) }
     {
         CopiesSplit {
             value,

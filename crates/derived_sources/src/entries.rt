@@ -42,7 +42,8 @@ impl<'a, K: OrderedValue + Hash, V: OrderedValue> EntriesSplit<'a, K, V> {
     pub fn new<S: BuildHasher, A: Allocator>(
         entries: &'a IndexMap<K, V, S, A>,
     ) -> EntriesSplit<'a, K, V>
-        ensures { ⟦<EntriesSplit<'a, K, V> as Spliterator>⟧.items result ≡ entry_contents K.content V.content entries.now.entries }
+        ensures { ⟦<EntriesSplit<'a, K, V> as Spliterator>⟧.items result
+            ≡ entry_contents K.content V.content entries.now.entries }
     {
         let keys = entries.keys().as_slice();
         let values = entries.values().as_slice();

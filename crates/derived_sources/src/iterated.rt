@@ -30,7 +30,8 @@ impl<T: OrderedValue + Copy, M: Step<T> + Mapping<T, Out = T> + Copy> Iterated<T
     /// Iterated::new(1, Times(2), 5)    // 1, 2, 4, 8, 16
     /// ```
     pub fn new(seed: T, step: M, number: u64) -> Iterated<T, M>
-        ensures { ⟦<Iterated<T, M> as Spliterator>⟧.items result ≡ iterates (M.image step) (T.content seed) number }
+        ensures { ⟦<Iterated<T, M> as Spliterator>⟧.items result
+            ≡ iterates (M.image step) (T.content seed) number }
     {
         Iterated {
             latest: seed,

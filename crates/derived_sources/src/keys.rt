@@ -39,7 +39,8 @@ impl<'a, K: OrderedValue + Hash> KeysSplit<'a, K> {
     pub fn of_map<V, S: BuildHasher, A: Allocator>(
         entries: &'a IndexMap<K, V, S, A>,
     ) -> KeysSplit<'a, K>
-        ensures { ⟦<KeysSplit<'a, K> as Spliterator>⟧.items result ≡ map K.content (keys entries.now) }
+        ensures { ⟦<KeysSplit<'a, K> as Spliterator>⟧.items result
+            ≡ map K.content (keys entries.now) }
     {
         KeysSplit {
             keys: entries.keys().as_slice(),
@@ -53,7 +54,8 @@ impl<'a, K: OrderedValue + Hash> KeysSplit<'a, K> {
     /// ```
     // java.util.LinkedHashSet, spliterator
     pub fn of_set<S: BuildHasher, A: Allocator>(items: &'a IndexSet<K, S, A>) -> KeysSplit<'a, K>
-        ensures { ⟦<KeysSplit<'a, K> as Spliterator>⟧.items result ≡ map K.content items.now.keys }
+        ensures { ⟦<KeysSplit<'a, K> as Spliterator>⟧.items result
+            ≡ map K.content items.now.keys }
     {
         // the number promises that they are few
         let _few = items.len();

@@ -14,8 +14,10 @@ use stealing_pool::Gate;
 /// The result on what one container stands for and another behind it.
 fn finished<C: Collector>(collector: &C, first: C::Acc, second: C::Acc) -> Result<C::Out, NoMemory>
     requires { C.ready collector.now }
-    ensures { let is_of = IsContainerOf C.Item.is_value (C.content collector.now) (C.empty collector.now) (C.add collector.now) in
-        (l r : List C.Item.Content) → is_of l first → is_of r second → IfOk result (C.gives collector.now (l ++ r)) }
+    ensures { let it = collector.now in
+        let is_of = IsContainerOf C.Item.is_value (C.content it) (C.empty it) (C.add it) in
+        (l r : List C.Item.Content) → is_of l first → is_of r second
+        → IfOk result (C.gives it (l ++ r)) }
 {
     let mut whole = first;
     collector.combine(&mut whole, second)?;
