@@ -8,6 +8,8 @@
 //! ```
 #![tactic(auto)]
 
+pub mod concatenating;
+pub mod more_sources;
 pub mod sorting;
 
 pub use collectors::{

@@ -1,0 +1,16 @@
+use Rattle.std.proofs.Common.{◌≡◌, ◌∷◌, length, suc, ap, arith}
+use Rattle.derived_sources.proofs.DifferingParts.{differ-tail}
+use Rattle.derived_sources.proofs.keys.KeysSplitSpliterator.try_advance.Goals as goal
+
+pub invariant_of-self : goal.invariant_of-self
+invariant_of-self g c =
+    let s = c.args.self.now in
+    let eq = g.K.PartialEq.eq in
+    let first = c.in-Some.first.now in
+    let rest = c.in-Some.rest.now in
+    let parts : s.keys.now ≡ first ∷ rest = c.in-Some.ensures.cases.0 in
+    let count : length s.keys.now ≡ suc (length rest) = ap length parts in
+    record {
+      few = omega (arith, s.few);
+      differ = differ-tail eq s.keys.now first rest parts s.differ;
+    }

@@ -1,0 +1,4 @@
+pub mod Iterations
+pub mod Unsplit
+pub mod Differing
+pub mod Entries

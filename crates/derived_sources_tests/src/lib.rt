@@ -1,0 +1,5 @@
+//! The tests of `derived_sources`.
+#![tactic(auto)]
+
+#[cfg(test)]
+mod tests;

@@ -1,0 +1,4 @@
+mod maps;
+mod steps;
+mod values;
+mod walks;

@@ -1,0 +1,5 @@
+//! The tests of `joined_streams`.
+#![tactic(auto)]
+
+#[cfg(test)]
+mod tests;

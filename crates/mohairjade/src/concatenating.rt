@@ -1,0 +1,3 @@
+//! Two streams, one behind another.
+
+pub use joined_streams::collect_concat;
