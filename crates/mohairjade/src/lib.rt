@@ -9,6 +9,7 @@
 #![tactic(auto)]
 
 pub mod sorting;
+pub mod terminals;
 
 pub use collectors::{
     Collector, CollectorDefinition, CollectorOf, Counting, DuplicateKey, FilteringTo, First,
