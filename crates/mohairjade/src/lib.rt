@@ -11,6 +11,7 @@
 pub mod concatenating;
 pub mod more_sources;
 pub mod sorting;
+pub mod terminals;
 
 pub use collectors::{
     Collector, CollectorDefinition, CollectorOf, Counting, DuplicateKey, FilteringTo, First,

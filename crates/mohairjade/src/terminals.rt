@@ -1,0 +1,3 @@
+//! Terminal operations as methods.
+
+pub use stream_terminals::{LongTerminals, Terminals};

@@ -1,0 +1,2 @@
+mod Best
+mod Totals

@@ -1,0 +1,16 @@
+use Rattle.std.proofs.Common.{◌++◌, ◌∙◌, ap, ap₂, append-nil}
+use Rattle.std.proofs.lemmas.Result.{IfOk-weaker}
+use Rattle.collectors.specs.Reductions.{delimited}
+use Rattle.stream_terminals.proofs.terminals.Terminals.joining.Goals as goal
+
+pub returns-clause-value : goal.returns-clause-value
+returns-clause-value g c =
+    let texts = g.Self.Stream.value c.args.self.now in
+    let by = c.new.result in
+    let made = c.new.ensures in
+    IfOk-weaker c.collect.result _ _
+    (λ text gives. gives
+    ∙ ap₂ (λ prefix suffix. prefix ++ delimited by.delimiter.now texts ++ suffix) made.prefix made.suffix
+    ∙ append-nil (delimited by.delimiter.now texts)
+    ∙ ap (λ between. delimited between texts) made.delimiter)
+    c.collect.ensures.value

@@ -1,0 +1,5 @@
+//! The tests of `stream_terminals`.
+#![tactic(auto)]
+
+#[cfg(test)]
+mod tests;
