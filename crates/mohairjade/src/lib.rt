@@ -8,6 +8,7 @@
 //! ```
 #![tactic(auto)]
 
+pub mod collecting;
 pub mod sorting;
 
 pub use collectors::{
