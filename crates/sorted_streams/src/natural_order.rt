@@ -47,7 +47,9 @@ where
     requires stream { S.ready stream.now }
     requires clones { ClonesAlike S.Item.is_clone S.Item.content }
     ensures settings { AnswersUnder run.now.workers run.now.target result }
-    ensures sorted { IfOk result (λ list. IsSortedList S.Item.order (S.value stream.now) (map S.Item.content list.items)) }
+    ensures sorted { let order = S.Item.order in
+        let items = S.value stream.now in
+        IfOk result (λ list. IsSortedList order items (map S.Item.content list.items)) }
 {
     let mut list = stream.collect(rt, alloc, run, &ToList::new(alloc))?;
     if tells_sorted(stream) {
