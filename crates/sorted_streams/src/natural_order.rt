@@ -1,21 +1,16 @@
 //! Streams sorted by the order of their items.
-ghost use Rattle.std.specs.Prelude.{◌≡◌, true, IfOk, List, map};
+ghost use Rattle.std.specs.Prelude.{◌≡◌, true, IfOk, map};
 ghost use Rattle.spliterator.specs.Clones.{ClonesAlike};
 ghost use Rattle.parallel_streams.specs.Runs.{AnswersUnder};
 ghost use Rattle.sorted_streams.specs.Sorted.{IsSortedList};
 
-use crate::ordering::sort_list;
+use crate::ordering::{promise_contents, sort_list};
 use collectors::ToList;
 use parallel_streams::{Run, Stream, StreamError};
 use spliterator::OrderedValue;
 use std::alloc::Global;
 use std::thread::Threads;
 use stealing_pool::Gate;
-
-// Promises that a sort of values is one of their contents.
-fn promise_contents<T: OrderedValue>(_sorted: &Vec<T>)
-    ensures { (list : List T) → IsSortedList T.cmp list _sorted.now.items → IsSortedList T.order (map T.content list) (map T.content _sorted.now.items) }
-{}
 
 // Whether the stream tells that its items ascend.
 fn tells_sorted<S: Stream>(stream: &S) -> bool

@@ -2,7 +2,7 @@ use Rattle.std.proofs.Common.{ap}
 use Rattle.std.proofs.lemmas.List.Sorted.{ranks_by}
 use Rattle.std.specs.Ordering.{is_lt}
 use Rattle.sorted_streams.proofs.Images.{sorted-contents}
-use Rattle.sorted_streams.proofs.natural_order.promise_contents.Goals as goal
+use Rattle.sorted_streams.proofs.ordering.promise_contents.Goals as goal
 
 pub returns : goal.returns
 returns g c list sorted =
