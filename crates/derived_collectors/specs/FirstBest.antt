@@ -12,14 +12,14 @@ use Rattle.stages.specs.Operators.{IsAssociative}
 use Rattle.stages.specs.Tests.{either}
 use Rattle.collectors.specs.Laws.{CollectorLaws}
 use Rattle.collectors.specs.NestedLaws.{add_image, mapping_laws, fold-image}
+use Rattle.derived_collectors.specs.declared.best.Best.{Best}
+use Rattle.derived_collectors.specs.declared.best.Best.TheVariants.{Least, Greatest}
 use Rattle.collectors.specs.Reductions.{reduced, reduce_add, reduce_merge, reduce_laws, fold-reduced}
 
--- whether of two keys the first is the lesser, or the greater
-abbrev pub lesser : {J : Type 0} → (J → J → Ordering) → J → J → Bool
-lesser order j k = is_lt (order j k)
-
-abbrev pub greater : {J : Type 0} → (J → J → Ordering) → J → J → Bool
-greater order j k = is_lt (order k j)
+-- whether of two keys the first is strictly the better one
+abbrev pub is_better : {J : Type 0} → Best → (J → J → Ordering) → J → J → Bool
+is_better Least order j k = is_lt (order j k)
+is_better Greatest order j k = is_lt (order k j)
 
 -- None of no items, else the item whose key none beats, and which beats each one before it.
 -- java.util.stream.Collectors, minBy and maxBy; java.util.function.BinaryOperator, minBy and maxBy; java.util.Comparator, comparing.
@@ -32,11 +32,9 @@ abbrev pub takes_place : {J : Type 0} → (J → J → Bool) → Option J → J 
 takes_place beats None j = true
 takes_place beats (Some k) j = beats j k
 
-pub lesser-ranks : {J : Type 0} (order : J → J → Ordering) → IsTotalOrder order → IsStrictWeakOrder (lesser order)
-lesser-ranks order total = ranks_by total (λ j. j)
-
-pub greater-ranks : {J : Type 0} (order : J → J → Ordering) → IsTotalOrder order → IsStrictWeakOrder (greater order)
-greater-ranks order total = IsStrictWeakOrder-flip (lesser order) (lesser-ranks order total)
+pub better-ranks : {J : Type 0} (best : Best) (order : J → J → Ordering) → IsTotalOrder order → IsStrictWeakOrder (is_better best order)
+better-ranks Least order total = ranks_by total (λ j. j)
+better-ranks Greatest order total = IsStrictWeakOrder-flip (is_better Least order) (ranks_by total (λ j. j))
 
 module _ {X J : Type 0} (beats : J → J → Bool) (key : X → J) where
   -- the second of two items beside their keys, where it beats the first

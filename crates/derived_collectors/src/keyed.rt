@@ -1,9 +1,9 @@
 //! An item beside its key, as the best so far.
 ghost use Rattle.std.specs.Prelude.{◌≡◌, option_map};
-ghost use Rattle.derived_collectors.specs.FirstBest.{lesser, greater, takes_place};
+ghost use Rattle.derived_collectors.specs.FirstBest.{is_better, takes_place};
 
+use crate::best::Best;
 use spliterator::OrderedValue;
-use std::cmp::Ordering;
 
 /// An item, and its key.
 #[derive(Drop)]
@@ -12,24 +12,13 @@ pub struct Keyed<T, J> {
     pub key: J,
 }
 
-/// Whether an item of this key is below the one that is kept, if one is.
-pub fn is_below<T, J: OrderedValue>(key: &J, kept: &Option<Keyed<T, J>>) -> bool
-    ensures { let least = option_map (λ k. J.content k.key) kept.now in
-        result ≡ takes_place (lesser J.order) least (J.content key.now) }
+/// Whether an item of this key takes the place of the one that is kept, if one is.
+pub fn takes_place<T, J: OrderedValue>(best: Best, key: &J, kept: &Option<Keyed<T, J>>) -> bool
+    ensures { let kept_key = option_map (λ k. J.content k.key) kept.now in
+        result ≡ takes_place (is_better best J.order) kept_key (J.content key.now) }
 {
     match kept {
-        Some(least) => key.cmp(&least.key) == Ordering::Less,
-        None => true,
-    }
-}
-
-/// Whether an item of this key is above the one that is kept, if one is.
-pub fn is_above<T, J: OrderedValue>(key: &J, kept: &Option<Keyed<T, J>>) -> bool
-    ensures { let greatest = option_map (λ k. J.content k.key) kept.now in
-        result ≡ takes_place (greater J.order) greatest (J.content key.now) }
-{
-    match kept {
-        Some(greatest) => greatest.key.cmp(key) == Ordering::Less,
+        Some(earlier) => best.is_better(key, &earlier.key),
         None => true,
     }
 }

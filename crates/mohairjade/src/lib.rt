@@ -8,6 +8,7 @@
 //! ```
 #![tactic(auto)]
 
+pub mod collecting;
 pub mod concatenating;
 pub mod more_sources;
 pub mod sorting;
@@ -18,9 +19,7 @@ pub use collectors::{
     GroupingBy, Joining, MappingTo, Pairing, Partition, PartitioningBy, Reducing, SummingLong,
     Teeing, ToList, ToMap, ToMapStrict,
 };
-pub use derived_collectors::{
-    CollectingAndThen, Finisher, FlatMappingTo, MaxByKey, MinByKey, ToSet,
-};
+pub use derived_collectors::{BestByKey, CollectingAndThen, Finisher, FlatMappingTo, ToSet};
 pub use fused_runs::{
     Engine, collect_distinct, collect_front, collect_limited, collect_rest, collect_skipped,
 };

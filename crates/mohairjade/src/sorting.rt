@@ -1,3 +1,6 @@
-//! Streams as sorted lists.
+//! Streams as sorted lists, and collectors of such lists.
 
-pub use sorted_streams::{Descending, sorted, sorted_by_key};
+pub use sorted_streams::{
+    Descending, FirstSorted, Sorting, SortingBy, sorted, sorted_by_key, to_sorted_list,
+    to_sorted_list_by_key,
+};

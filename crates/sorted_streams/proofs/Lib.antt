@@ -1,3 +1,4 @@
 mod Beside
 mod Images
+mod Inserted
 mod Told

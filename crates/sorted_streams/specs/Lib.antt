@@ -1,3 +1,5 @@
+pub mod FirstSorted
+pub mod Insertion
 pub mod Reversed
 pub mod Sorted
 pub mod SortedLaws

@@ -64,7 +64,7 @@ module _ {C : Type 0} (below : C → C → Bool) (weak : IsStrictWeakOrder below
   apart c d e low high true h = rw h refl
   apart c d e low high false h = absurd (true≢false (sym low ∙ weak.chain c e d h high))
 
-  no-tie : (c d : C) (l : List C) → below c d ≡ true → All (λ e. below e d ≡ false) l → filter (ties below c) (d ∷ l) ≡ []
+  pub no-tie : (c d : C) (l : List C) → below c d ≡ true → All (λ e. below e d ≡ false) l → filter (ties below c) (d ∷ l) ≡ []
   no-tie c d l low high =
       filter-none (ties below c) (d ∷ l)
       (All-cons (λ e. ties below c e ≡ false) d l

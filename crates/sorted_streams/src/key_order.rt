@@ -39,7 +39,9 @@ where
     requires key { M.ready key.now }
     requires clones { ClonesAlike S.Item.is_clone S.Item.content }
     ensures settings { AnswersUnder run.now.workers run.now.target result }
-    ensures sorted { IfOk result (λ list. IsSortedList (by_key (M.image key.now) M.Out.order) (S.value stream.now) (map S.Item.content list.items)) }
+    ensures sorted { let order = by_key (M.image key.now) M.Out.order in
+        let items = S.value stream.now in
+        IfOk result (λ list. IsSortedList order items (map S.Item.content list.items)) }
 {
     let items = stream.collect(rt, alloc, run, &ToList::new(alloc))?;
     let mut pairs = with_keys(alloc, key, items)?;

@@ -26,8 +26,11 @@ where
     Ok(pairs)
 }
 
-// The second part of each pair.
-fn second_parts<K: Drop, T: Drop>(alloc: Global, pairs: Vec<(K, T)>) -> Result<Vec<T>, AllocError>
+/// The second part of each pair.
+pub fn second_parts<K: Drop, T: Drop>(
+    alloc: Global,
+    pairs: Vec<(K, T)>,
+) -> Result<Vec<T>, AllocError>
     ensures { IfOk result (λ items. items.items ≡ map (λ p. p.1) pairs.items) }
 {
     let mut items = Vec::with_capacity(alloc, pairs.len())?;

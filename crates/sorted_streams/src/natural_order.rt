@@ -1,21 +1,16 @@
 //! Streams sorted by the order of their items.
-ghost use Rattle.std.specs.Prelude.{◌≡◌, true, IfOk, List, map};
+ghost use Rattle.std.specs.Prelude.{◌≡◌, true, IfOk, map};
 ghost use Rattle.spliterator.specs.Clones.{ClonesAlike};
 ghost use Rattle.parallel_streams.specs.Runs.{AnswersUnder};
 ghost use Rattle.sorted_streams.specs.Sorted.{IsSortedList};
 
-use crate::ordering::sort_list;
+use crate::ordering::{promise_contents, sort_list};
 use collectors::ToList;
 use parallel_streams::{Run, Stream, StreamError};
 use spliterator::OrderedValue;
 use std::alloc::Global;
 use std::thread::Threads;
 use stealing_pool::Gate;
-
-// Promises that a sort of values is one of their contents.
-fn promise_contents<T: OrderedValue>(_sorted: &Vec<T>)
-    ensures { (list : List T) → IsSortedList T.cmp list _sorted.now.items → IsSortedList T.order (map T.content list) (map T.content _sorted.now.items) }
-{}
 
 // Whether the stream tells that its items ascend.
 fn tells_sorted<S: Stream>(stream: &S) -> bool
@@ -47,7 +42,9 @@ where
     requires stream { S.ready stream.now }
     requires clones { ClonesAlike S.Item.is_clone S.Item.content }
     ensures settings { AnswersUnder run.now.workers run.now.target result }
-    ensures sorted { IfOk result (λ list. IsSortedList S.Item.order (S.value stream.now) (map S.Item.content list.items)) }
+    ensures sorted { let order = S.Item.order in
+        let items = S.value stream.now in
+        IfOk result (λ list. IsSortedList order items (map S.Item.content list.items)) }
 {
     let mut list = stream.collect(rt, alloc, run, &ToList::new(alloc))?;
     if tells_sorted(stream) {

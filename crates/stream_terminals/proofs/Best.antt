@@ -10,7 +10,8 @@ use Rattle.std.specs.declared.cmp.Ordering.{Ordering}
 use Rattle.std.specs.declared.cmp.Ordering.TheVariants.{Less, Equal, Greater}
 use Rattle.stages.specs.Choices.{larger, smaller}
 use Rattle.collectors.specs.Reductions.{reduced}
-use Rattle.derived_collectors.specs.FirstBest.{IsFirstBestBy, greater, greater-ranks, lesser, lesser-ranks}
+use Rattle.derived_collectors.specs.FirstBest.{IsFirstBestBy, is_better, better-ranks}
+use Rattle.derived_collectors.specs.declared.best.Best.TheVariants.{Least, Greatest}
 
 module _ {C : Type 0} (beats : C → C → Bool) (ranks : IsStrictWeakOrder beats) (join : C → C → C) (joins : (a x : C) → join a x ≡ cond (beats x a) x a) where
   fold-best : (a : C) (l : List C) → fold join a l ≡ best_of beats a l
@@ -33,10 +34,10 @@ above-reversed Equal = refl
 above-reversed Greater = refl
 
 module _ {C : Type 0} (order : C → C → Ordering) (total : IsTotalOrder order) where
-  pub least : (l : List C) (o : Option C) → o ≡ reduced (smaller order) l → IsFirstBestBy (lesser order) (λ x. x) l o
+  pub least : (l : List C) (o : Option C) → o ≡ reduced (smaller order) l → IsFirstBestBy (is_better Least order) (λ x. x) l o
   least =
-      best (lesser order) (lesser-ranks order total) (smaller order)
+      best (is_better Least order) (better-ranks Least order total) (smaller order)
       (λ a x. ap (λ b. cond b x a) (ap is_gt (total.antisymm a x) ∙ above-reversed (order x a)))
 
-  pub greatest : (l : List C) (o : Option C) → o ≡ reduced (larger order) l → IsFirstBestBy (greater order) (λ x. x) l o
-  greatest = best (greater order) (greater-ranks order total) (larger order) (λ a x. refl)
+  pub greatest : (l : List C) (o : Option C) → o ≡ reduced (larger order) l → IsFirstBestBy (is_better Greatest order) (λ x. x) l o
+  greatest = best (is_better Greatest order) (better-ranks Greatest order total) (larger order) (λ a x. refl)

@@ -1,2 +1,1 @@
 mod Best
-mod Totals

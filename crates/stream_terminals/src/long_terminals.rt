@@ -5,9 +5,9 @@ ghost use Rattle.collectors.specs.Sums.{int_sum};
 ghost use Rattle.parallel_streams.specs.Runs.{AnswersUnder};
 ghost use Rattle.summaries.specs.Summaries.{IsSummary};
 
+use collectors::SummingLong;
 use parallel_streams::{Run, Stream, StreamError};
 use parts::Itself;
-use stages::WrapAdd;
 use std::alloc::Global;
 use std::thread::Threads;
 use stealing_pool::Gate;
@@ -40,7 +40,7 @@ pub trait LongTerminals: Stream<Item = i64> {
         ensures settings { AnswersUnder run.now.workers run.now.target result }
         ensures value { IfOk result (λ sum. sum ≡ wrapped (int_sum (Self.value self.now))) }
     {
-        self.reduce(rt, alloc, run, 0, &WrapAdd::new())
+        self.collect(rt, alloc, run, &SummingLong::new(Itself))
     }
 
     /// Count, sum, least and greatest of the numbers.

@@ -3,11 +3,12 @@ ghost use Rattle.std.specs.Prelude.{◌≡◌, IfOk, OnOk, option_map, map, stri
 ghost use Rattle.spliterator.specs.Clones.{ClonesAlike};
 ghost use Rattle.stages.specs.Distinct.{distinct};
 ghost use Rattle.collectors.specs.Reductions.{delimited};
-ghost use Rattle.derived_collectors.specs.FirstBest.{IsFirstBestBy, lesser, greater};
+ghost use Rattle.derived_collectors.specs.FirstBest.{IsFirstBestBy, is_better};
+ghost use Rattle.derived_collectors.specs.declared.best.Best.TheVariants.{Least, Greatest};
 ghost use Rattle.parallel_streams.specs.Runs.{AnswersUnder};
 
 use collectors::{Joining, ToList};
-use derived_collectors::{MaxByKey, MinByKey, ToSet};
+use derived_collectors::{BestByKey, ToSet};
 use indexmap::IndexSet;
 use parallel_streams::{Run, Stream, StreamError};
 use spliterator::{OrderedValue, Text};
@@ -45,7 +46,7 @@ pub trait Terminals: Stream {
         requires stream { Self.ready self.now }
         requires clones { ClonesAlike Self.Item.is_clone Self.Item.content }
         ensures settings { AnswersUnder run.now.workers run.now.target result }
-        ensures value { let best = IsFirstBestBy (lesser Self.Item.order) (λ x. x) in
+        ensures value { let best = IsFirstBestBy (is_better Least Self.Item.order) (λ x. x) in
             IfOk result (λ least. best (Self.value self.now) (option_map Self.Item.content least)) }
     {
         self.reduce_optional(rt, alloc, run, &Min::new())
@@ -71,7 +72,7 @@ pub trait Terminals: Stream {
         requires stream { Self.ready self.now }
         requires clones { ClonesAlike Self.Item.is_clone Self.Item.content }
         ensures settings { AnswersUnder run.now.workers run.now.target result }
-        ensures value { let best = IsFirstBestBy (greater Self.Item.order) (λ x. x) in
+        ensures value { let best = IsFirstBestBy (is_better Greatest Self.Item.order) (λ x. x) in
             IfOk result (λ most. best (Self.value self.now) (option_map Self.Item.content most)) }
     {
         self.reduce_optional(rt, alloc, run, &Max::new())
@@ -100,10 +101,10 @@ pub trait Terminals: Stream {
         requires key { K.ready key.now }
         requires clones { ClonesAlike Self.Item.is_clone Self.Item.content }
         ensures settings { AnswersUnder run.now.workers run.now.target result }
-        ensures value { let best = IsFirstBestBy (lesser K.Out.order) (K.image key.now) in
+        ensures value { let best = IsFirstBestBy (is_better Least K.Out.order) (K.image key.now) in
             IfOk result (λ least. best (Self.value self.now) (option_map Self.Item.content least)) }
     {
-        self.collect(rt, alloc, run, &MinByKey::new(key))
+        self.collect(rt, alloc, run, &BestByKey::least(key))
     }
 
     /// The item of the greatest key, or none: the first where several have it.
@@ -129,10 +130,10 @@ pub trait Terminals: Stream {
         requires key { K.ready key.now }
         requires clones { ClonesAlike Self.Item.is_clone Self.Item.content }
         ensures settings { AnswersUnder run.now.workers run.now.target result }
-        ensures value { let best = IsFirstBestBy (greater K.Out.order) (K.image key.now) in
+        ensures value { let best = IsFirstBestBy (is_better Greatest K.Out.order) (K.image key.now) in
             IfOk result (λ most. best (Self.value self.now) (option_map Self.Item.content most)) }
     {
-        self.collect(rt, alloc, run, &MaxByKey::new(key))
+        self.collect(rt, alloc, run, &BestByKey::greatest(key))
     }
 
     /// The items in encounter order.

@@ -1,6 +1,6 @@
 //! The first of the best items by a key.
 use super::cuts::of_parts;
-use derived_collectors::{MaxByKey, MinByKey};
+use derived_collectors::BestByKey;
 use parts::Length;
 use spliterator::NoMemory;
 
@@ -18,8 +18,8 @@ static WORDS: [(&[&str], Option<&str>, Option<&str>); 4] = [
 
 #[test]
 fn the_first_of_the_best(rt: HostRuntime) -> Result<(), NoMemory> {
-    let shortest = MinByKey::<&str, _>::new(Length);
-    let longest = MaxByKey::<&str, _>::new(Length);
+    let shortest = BestByKey::<&str, _>::least(Length);
+    let longest = BestByKey::<&str, _>::greatest(Length);
     for &(words, least, greatest) in &WORDS {
         for cut in 0..=words.len() {
             let (left, right) = words.split_at(cut);

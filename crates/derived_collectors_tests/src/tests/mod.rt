@@ -3,5 +3,6 @@
 mod best;
 mod cuts;
 mod functions;
+mod lists;
 mod nested;
 mod sets;

@@ -2,11 +2,6 @@ use Rattle.std.proofs.lemmas.Result.{on_ok_weaker}
 use Rattle.sorted_streams.proofs.Images.{sorted-whole}
 use Rattle.sorted_streams.proofs.ordering.sort_list.Goals as goal
 
-pub returns-then-workers-eq1 : goal.returns-then-workers-eq1
-returns-then-workers-eq1 g c =
-    let sort = c.sort.ensures in
-    on_ok_weaker c.sort.result (λ up. record { permutation = sort.permutation; ascending = up; stable = sort.stable }) sort.sorted
-
 pub returns-else-workers-eq1 : goal.returns-else-workers-eq1
 returns-else-workers-eq1 g c =
     let lent = c.as_mut_slice.ensures in

@@ -6,13 +6,6 @@ use Rattle.sorted_streams.specs.Sorted.{by_key}
 use Rattle.sorted_streams.proofs.Images.{sorted-whole}
 use Rattle.sorted_streams.proofs.ordering.sort_pairs.Goals as goal
 
-pub returns-then-workers-eq1 : goal.returns-then-workers-eq1
-returns-then-workers-eq1 g c total =
-    let sort = c.sort_by.ensures in
-    let weak = ranks_by total (λ p. p.0) in
-    let compares = always_returns_same _ _ _ (λ a r f k. search (rules, of_calls)) in
-    on_ok_weaker c.sort_by.result (λ up. record { permutation = sort.permutation; ascending = up _ weak compares; stable = sort.stable _ weak compares }) sort.sorted
-
 pub returns-else-workers-eq1 : goal.returns-else-workers-eq1
 returns-else-workers-eq1 g c total =
     let lent = c.as_mut_slice.ensures in
