@@ -156,7 +156,8 @@ pub trait Terminals: Stream {
         requires stream { Self.ready self.now }
         requires clones { ClonesAlike Self.Item.is_clone Self.Item.content }
         ensures settings { AnswersUnder run.now.workers run.now.target result }
-        ensures value { IfOk result (λ list. map Self.Item.content list.items ≡ Self.value self.now) }
+        ensures value { let wanted = Self.value self.now in
+            IfOk result (λ list. map Self.Item.content list.items ≡ wanted) }
     {
         self.collect(rt, alloc, run, &ToList::new(alloc))
     }
