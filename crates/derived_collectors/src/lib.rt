@@ -1,4 +1,4 @@
-//! More of Java's collectors: what is done with a result, lists of images, the best item by a key, and sets.
+//! More of Java's collectors: what is done with a result, lists of images, the best item by a key, sets, groups of lists, and deques.
 #![tactic(auto)]
 
 mod best;

@@ -2,7 +2,9 @@
 
 use parallel_streams::{Run, Stream, StreamError, of};
 use parts::{Itself, Modulo, OnFirst, Times};
-use sorted_streams::{Descending, sorted, sorted_by_key};
+use sorted_streams::{
+    Descending, FirstSorted, sorted, sorted_by_key, to_sorted_list, to_sorted_list_by_key,
+};
 use sources::{RangeSplit, SliceSplit};
 use std::alloc::Global;
 use std::process::Abort;
@@ -60,6 +62,60 @@ fn rows<R: Threads + Abort + Alloc<A = Global> + Sync>(
             "{found:?} in the place of {descending:?}"
         );
     }
+    Ok(())
+}
+
+fn collected_rows<R: Threads + Abort + Alloc<A = Global> + Sync>(
+    rt: &R,
+    run: &Run<'_, NoGate>,
+) -> Result<(), StreamError> {
+    let alloc = rt.alloc();
+    for (numbers, wanted) in &NUMBERS {
+        let stream = of(SliceSplit::new(numbers));
+        let found = stream.collect(rt, alloc, run, &to_sorted_list::<i64>(alloc))?;
+        assert!(rt; found.as_slice() == *wanted);
+    }
+    for (pairs, ascending, _) in &PAIRS {
+        let stream = of(SliceSplit::new(pairs));
+        let all = to_sorted_list_by_key::<(i64, i64), _>(alloc, OnFirst(Itself));
+        let found = stream.collect(rt, alloc, run, &all)?;
+        assert!(rt; found.as_slice() == *ascending);
+        for number in [0usize, 2, 4, 9] {
+            let first = FirstSorted::<(i64, i64), _>::new(alloc, OnFirst(Itself), number);
+            let found = stream.collect(rt, alloc, run, &first)?;
+            let (wanted, _) = ascending.split_at(number.min(ascending.len()));
+            assert!(rt; found.as_slice() == wanted);
+        }
+    }
+    Ok(())
+}
+
+#[test]
+fn collected_rows_at_each_setting(rt: HostRuntime) -> Result<(), StreamError> {
+    for &(workers, target) in &SETTINGS {
+        collected_rows(
+            &rt,
+            &Run {
+                workers,
+                target,
+                gate: &NoGate,
+            },
+        )?;
+    }
+    Ok(())
+}
+
+/// The first numbers below 10,000 by their last three digits, in their order where these are the same.
+static FIRST: [i64; 12] = [
+    0, 1_000, 2_000, 3_000, 4_000, 5_000, 6_000, 7_000, 8_000, 9_000, 1, 1_001,
+];
+
+#[test]
+fn the_first_of_many_are_kept(rt: HostRuntime) -> Result<(), StreamError> {
+    let numbers = of(RangeSplit::range(0, 10_000).expect(&rt, "a range"));
+    let first = FirstSorted::<i64, _>::new(rt.alloc(), Modulo::by(1_000), FIRST.len());
+    let found = numbers.collect(&rt, rt.alloc(), &Run::new(4), &first)?;
+    assert!(&rt; found.as_slice() == FIRST.as_slice());
     Ok(())
 }
 
