@@ -1,1 +1,2 @@
+pub mod AscendingParts
 pub mod DifferingParts

@@ -1,4 +1,5 @@
 pub mod Iterations
 pub mod Unsplit
+pub mod Ascending
 pub mod Differing
 pub mod Entries

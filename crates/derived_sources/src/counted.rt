@@ -1,9 +1,12 @@
 //! What the sources here estimate and tell.
 ghost use Rattle.std.specs.Prelude.{◌≡◌};
 ghost use Rattle.sources.specs.Halves.{capped_count, told_by_count};
+ghost use Rattle.derived_sources.specs.Ascending.{told_ascending};
 
 use spliterator::MAX_ESTIMATE;
-use spliterator::characteristics::{DISTINCT, IMMUTABLE, NONNULL, ORDERED, SIZED, SUBSIZED};
+use spliterator::characteristics::{
+    DISTINCT, IMMUTABLE, NONNULL, ORDERED, SIZED, SORTED, SUBSIZED,
+};
 
 /// What a source tells whose items' number an estimate can say.
 pub const COUNTED: u32 = ORDERED | NONNULL | IMMUTABLE | SIZED | SUBSIZED;
@@ -26,5 +29,16 @@ pub(crate) fn told(count: u64) -> u32
         COUNTED
     } else {
         ORDERED | NONNULL | IMMUTABLE
+    }
+}
+
+/// The characteristics of a source of so many items that ascend.
+pub(crate) fn told_sorted(count: u64) -> u32
+    ensures { result ≡ told_ascending count }
+{
+    if count <= MAX_ESTIMATE {
+        COUNTED | SORTED
+    } else {
+        ORDERED | NONNULL | IMMUTABLE | SORTED
     }
 }

@@ -1,6 +1,7 @@
 //! More of the sources that streams of Java begin with.
 #![tactic(auto)]
 
+mod ascending;
 mod copies;
 mod counted;
 mod entries;
@@ -8,6 +9,7 @@ mod iterated;
 mod keys;
 mod step;
 
+pub use ascending::SortedSplit;
 pub use copies::CopiesSplit;
 pub use entries::EntriesSplit;
 pub use iterated::Iterated;

@@ -1,3 +1,4 @@
+mod ascending;
 mod maps;
 mod steps;
 mod values;
