@@ -14,7 +14,7 @@ use Rattle.pipeline_language.specs.declared.grammar.Merge.TheVariants as merges
 use Rattle.pipeline_language.specs.declared.grammar.NumberOnly.TheVariants as only
 use Rattle.pipeline_language.specs.declared.grammar.NumberTotal.TheVariants as totals
 use Rattle.pipeline_language.specs.declared.grammar.Summary.TheVariants as summaries
-use Rattle.pipeline_language.specs.Syntax.{Add, AllMatch, AnyMatch, Barrier, Count, Distinct, Divisible, DropWhile, Empty, Equals, Expansion, Filter, FindFirst, FlatMap, Function, Greater, GroupBy, Itself, Joining, Length, Less, Limit, Longer, Map, Merge, Mod, Mul, Negate, NoneMatch, OfNumbers, OfTexts, Own, Partition, Repeat, Skip, Starts, TakeWhile, Teeing, ToList, ToMap, ToMapStrict, Words, Condition, Base, Inner, Summary, Origin, Range, Closed, Numbers, Lines, BodyLine, function_slots, condition_slots, base_slots, inner_slots, summary_slots, merge_slots, expansion_slots, body_slots, origin_slots, has_new_names, summary_known, body_known}
+use Rattle.pipeline_language.specs.Syntax.{Add, AllMatch, AnyMatch, Barrier, Count, Distinct, Divisible, DropWhile, Empty, Equals, Expansion, Filter, FindFirst, FlatMap, Function, Greater, GroupBy, Itself, Length, Less, Limit, Longer, Map, Merge, Mod, Mul, Negate, NoneMatch, OfNumbers, OfTexts, Own, Partition, Repeat, Skip, Starts, TakeWhile, Teeing, ToList, ToMap, ToMapStrict, Words, Condition, Base, Inner, Summary, Origin, Range, Closed, Numbers, Lines, BodyLine, function_slots, condition_slots, base_slots, inner_slots, summary_slots, merge_slots, expansion_slots, body_slots, origin_slots, has_new_names, summary_known, body_known}
 use Rattle.file_words.specs.WordReading.{Left, next_number, next_natural}
 use Rattle.pipeline_language.specs.Reading.{ByName, nothing, both, made_of, by_name}
 use Rattle.pipeline_language.specs.SyntaxReading.{function_names, function_of, condition_names, condition_of, base_names, base_of, inner_names, inner_of, nesting_summary_names, nesting_summary_of, summary_of, merge_names, merge_of, expansion_names, expansion_of, body_names, new_terminal_names, terminal_names, body_of, origin_names, origin_words, asking_names, collecting_names, stage_names}
@@ -95,7 +95,7 @@ base_found = either_found base_slots (codes "count") (codes "counting") (λ _. b
     (name_found base_slots (codes "min") (λ _. (bases.Own (OfNumbers only.Min))) (λ _. refl) (λ _ _. refl) alone
     (name_found base_slots (codes "first") (λ _. bases.First) (λ _. refl) (λ _ _. refl) alone
     (name_found base_slots (codes "tolist") (λ _. bases.ToList) (λ _. refl) (λ _ _. refl) alone
-    (name_found base_slots (codes "joining") (λ t. bases.Own (OfTexts (Joining t))) (λ _. refl) (λ _ _. refl) word_phrase
+    (name_found base_slots (codes "joining") (λ t. bases.Own (OfTexts t)) (λ _. refl) (λ _ _. refl) word_phrase
     (unknown_found all_known base_slots)))))))
 
 base_knows : (x : Base) → Knows Anything (by_name base_names) (base_slots x) x
@@ -106,7 +106,7 @@ base_knows (bases.Own (OfNumbers only.Max)) = name_knows base_names (codes "max"
 base_knows (bases.Own (OfNumbers only.Min)) = name_knows base_names (codes "min") (λ _. (bases.Own (OfNumbers only.Min))) alone (λ left. refl) tt refl
 base_knows bases.First = name_knows base_names (codes "first") (λ _. bases.First) alone (λ left. refl) tt refl
 base_knows bases.ToList = name_knows base_names (codes "tolist") (λ _. bases.ToList) alone (λ left. refl) tt refl
-base_knows (bases.Own (OfTexts (Joining w))) = name_knows base_names (codes "joining") (λ t. bases.Own (OfTexts (Joining t))) word_phrase (λ left. refl) w refl
+base_knows (bases.Own (OfTexts w)) = name_knows base_names (codes "joining") (λ t. bases.Own (OfTexts t)) word_phrase (λ left. refl) w refl
 
 pub base_phrase : Phrase Anything all_known base_slots base_of
 unfolding base_of
@@ -124,7 +124,7 @@ module _ {X : Type 0} (names : ByName X) (make : Base → X) (count : Leads name
   made_of_base (bases.Own (OfNumbers only.Min)) = made_of_knows Anything base_names make names (Name (codes "min")) [] (bases.Own (OfNumbers only.Min)) (by_one names (made_of make base_names) (codes "min") min) (base_knows (bases.Own (OfNumbers only.Min)))
   made_of_base bases.First = made_of_knows Anything base_names make names (Name (codes "first")) [] bases.First (by_one names (made_of make base_names) (codes "first") first) (base_knows bases.First)
   made_of_base bases.ToList = made_of_knows Anything base_names make names (Name (codes "tolist")) [] bases.ToList (by_one names (made_of make base_names) (codes "tolist") tolist) (base_knows bases.ToList)
-  made_of_base (bases.Own (OfTexts (Joining w))) = made_of_knows Anything base_names make names (Name (codes "joining")) (AnyWord w ∷ []) (bases.Own (OfTexts (Joining w))) (by_one names (made_of make base_names) (codes "joining") joining) (base_knows (bases.Own (OfTexts (Joining w))))
+  made_of_base (bases.Own (OfTexts w)) = made_of_knows Anything base_names make names (Name (codes "joining")) (AnyWord w ∷ []) (bases.Own (OfTexts w)) (by_one names (made_of make base_names) (codes "joining") joining) (base_knows (bases.Own (OfTexts w)))
 
 -- INNER
 mapped_base : Phrase Anything all_known (λ (p : Function × Base). function_slots p.0 ++ base_slots p.1) (both function_of base_of)

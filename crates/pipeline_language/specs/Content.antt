@@ -29,7 +29,7 @@ use Rattle.pipeline_language.specs.LineContent.{as_read, text_content, joint_con
 use Rattle.pipeline_language.specs.Typed.{NumberStage, TextStage, NumberBase, NumberInner, NumberSummary, TextBase, TextInner, TextSummary, TextValue, NumberTerminal, TextTerminal}
 use Rattle.pipeline_language.specs.declared.pipeline.Mapped.{Mapped}
 use Rattle.pipeline_language.specs.declared.pipeline.Mapped.TheVariants as values
-use Rattle.pipeline_language.specs.Syntax.{Add, AllMatch, AnyMatch, Barrier, Count, Distinct, Divisible, DropWhile, Empty, Equals, Filter, FindFirst, FlatMap, Function, Greater, GroupBy, Itself, Joining, Length, Less, Limit, Longer, Map, Merge, Mod, Mul, Negate, NoneMatch, OfNumbers, OfTexts, Own, Partition, Plain, Repeat, Skip, Starts, TakeWhile, Teeing, ToList, ToMap, ToMapStrict, Within, Words, Condition, Base, Inner, Summary, Stage, Terminal, Origin, Range, Closed, Numbers, Lines, Program}
+use Rattle.pipeline_language.specs.Syntax.{Add, AllMatch, AnyMatch, Barrier, Count, Distinct, Divisible, DropWhile, Empty, Equals, Filter, FindFirst, FlatMap, Function, Greater, GroupBy, Itself, Length, Less, Limit, Longer, Map, Merge, Mod, Mul, Negate, NoneMatch, OfNumbers, OfTexts, Own, Partition, Plain, Repeat, Skip, Starts, TakeWhile, Teeing, ToList, ToMap, ToMapStrict, Within, Words, Condition, Base, Inner, Summary, Stage, Terminal, Origin, Range, Closed, Numbers, Lines, Program}
 
 abbrev pub number_origin : NumberSource → Origin
 number_origin (sources.Range a b) = Range a b
@@ -80,7 +80,7 @@ abbrev pub number_summary : NumberSummary → Summary
 number_summary summary = grammar.summary number_function (number_mapped number_inner) number_test number_base number_inner summary
 
 abbrev pub text_base : TextBase → Base
-text_base base = grammar.base (λ x. OfTexts (grammar.text_only text_content x)) base
+text_base base = grammar.base (λ x. OfTexts (text_content x)) base
 
 abbrev pub text_inner : TextInner → Inner
 text_inner inner = grammar.inner (text_mapped number_base text_base) text_test text_base inner

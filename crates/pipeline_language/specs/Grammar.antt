@@ -19,8 +19,6 @@ use Rattle.pipeline_language.specs.declared.grammar.Summary.{Summary}
 use Rattle.pipeline_language.specs.declared.grammar.Summary.TheVariants as summaries
 use Rattle.pipeline_language.specs.declared.grammar.Terminal.{Terminal}
 use Rattle.pipeline_language.specs.declared.grammar.Terminal.TheVariants.{Count, FindFirst, ToList, AllMatch, AnyMatch, NoneMatch, GroupBy, Partition, ToMap, ToMapStrict, Teeing, Own}
-use Rattle.pipeline_language.specs.declared.grammar.TextOnly.{TextOnly}
-use Rattle.pipeline_language.specs.declared.grammar.TextOnly.TheVariants.{Joining}
 
 abbrev pub of_kind : {N M T U : Type 0} → (N → M) → (T → U) → OfKind N T → OfKind M U
 of_kind number text (OfNumbers x) = OfNumbers (number x)
@@ -34,9 +32,6 @@ condition text (Divisible n) = Divisible n
 condition text Empty = Empty
 condition text (Starts front) = Starts (text front)
 condition text (Longer n) = Longer n
-
-abbrev pub text_only : {T U : Type 0} → (T → U) → TextOnly T → TextOnly U
-text_only text (Joining between) = Joining (text between)
 
 abbrev pub joint : {T U : Type 0} → (T → U) → Joint T → Joint U
 joint text (Plain between) = Plain (text between)

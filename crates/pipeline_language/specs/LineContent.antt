@@ -15,7 +15,6 @@ use Rattle.pipeline_language.specs.declared.grammar.OfKind.{OfKind}
 use Rattle.pipeline_language.specs.declared.grammar.Stage as stages
 use Rattle.pipeline_language.specs.declared.grammar.Summary as summaries
 use Rattle.pipeline_language.specs.declared.grammar.Terminal as terminals
-use Rattle.pipeline_language.specs.declared.grammar.TextOnly.{TextOnly}
 use Rattle.pipeline_language.specs.declared.grammar.Barrier as barriers
 use Rattle.pipeline_language.specs.Grammar as grammar
 use Rattle.pipeline_language.specs.Typed.{Text}
@@ -32,10 +31,10 @@ abbrev pub condition_content : conditions.Condition Text → Condition
 condition_content p = grammar.condition text_content p
 
 abbrev pub LentBase : Type 0
-LentBase = bases.Base (OfKind NumberOnly (TextOnly Text))
+LentBase = bases.Base (OfKind NumberOnly Text)
 
 abbrev pub base_content : LentBase → Base
-base_content b = grammar.base (grammar.of_kind as_read (grammar.text_only text_content)) b
+base_content b = grammar.base (grammar.of_kind as_read text_content) b
 
 abbrev pub LentInner : Type 0
 LentInner = inners.Inner (Function × LentBase) (conditions.Condition Text) LentBase

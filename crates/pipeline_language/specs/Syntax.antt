@@ -23,7 +23,6 @@ pub use Rattle.pipeline_language.specs.declared.grammar.OfKind.TheVariants.{OfNu
 pub use Rattle.pipeline_language.specs.declared.grammar.Stage.TheVariants.{Map, Filter, FlatMap, Barrier}
 use Rattle.pipeline_language.specs.declared.grammar.Summary.TheVariants as summaries
 pub use Rattle.pipeline_language.specs.declared.grammar.Terminal.TheVariants.{Count, FindFirst, ToList, AllMatch, AnyMatch, NoneMatch, GroupBy, Partition, ToMap, ToMapStrict, Teeing, Own}
-pub use Rattle.pipeline_language.specs.declared.grammar.TextOnly.TheVariants.{Joining}
 use Rattle.pipeline_language.specs.declared.grammar.Barrier as barrier_types
 use Rattle.pipeline_language.specs.declared.grammar.Base as base_types
 use Rattle.pipeline_language.specs.declared.grammar.Condition as condition_types
@@ -36,7 +35,6 @@ use Rattle.pipeline_language.specs.declared.grammar.OfKind.{OfKind}
 use Rattle.pipeline_language.specs.declared.grammar.Stage as stage_types
 use Rattle.pipeline_language.specs.declared.grammar.Summary as summary_types
 use Rattle.pipeline_language.specs.declared.grammar.Terminal as terminal_types
-use Rattle.pipeline_language.specs.declared.grammar.TextOnly.{TextOnly}
 
 -- The things of a line are those that are read, and a text in them stands by its bytes.
 abbrev pub Condition : Type 0
@@ -44,7 +42,7 @@ Condition = condition_types.Condition (List ℕ)
 
 -- what is made of items at once
 abbrev pub Base : Type 0
-Base = base_types.Base (OfKind NumberOnly (TextOnly (List ℕ)))
+Base = base_types.Base (OfKind NumberOnly (List ℕ))
 
 -- what is made of them inside another collector
 abbrev pub Inner : Type 0
@@ -99,7 +97,7 @@ base_slots (bases.Own (OfNumbers only.Max)) = Name (codes "max") ∷ []
 base_slots (bases.Own (OfNumbers only.Min)) = Name (codes "min") ∷ []
 base_slots bases.First = Name (codes "first") ∷ []
 base_slots bases.ToList = Name (codes "tolist") ∷ []
-base_slots (bases.Own (OfTexts (Joining between))) = Name (codes "joining") ∷ AnyWord between ∷ []
+base_slots (bases.Own (OfTexts between)) = Name (codes "joining") ∷ AnyWord between ∷ []
 
 -- INNER
 abbrev pub inner_slots : Inner → List Slot

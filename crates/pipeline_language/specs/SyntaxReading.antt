@@ -11,7 +11,7 @@ use Rattle.pipeline_language.specs.declared.grammar.Merge.TheVariants as merges
 use Rattle.pipeline_language.specs.declared.grammar.NumberOnly.TheVariants as only
 use Rattle.pipeline_language.specs.declared.grammar.NumberTotal.TheVariants as totals
 use Rattle.pipeline_language.specs.declared.grammar.Summary.TheVariants as summaries
-use Rattle.pipeline_language.specs.Syntax.{Add, AllMatch, AnyMatch, Barrier, Count, Distinct, Divisible, DropWhile, Empty, Equals, Expansion, Filter, FindFirst, FlatMap, Function, Greater, GroupBy, Itself, Joining, Length, Less, Limit, Longer, Map, Merge, Mod, Mul, Negate, NoneMatch, OfNumbers, OfTexts, Own, Partition, Plain, Repeat, Skip, Starts, TakeWhile, Teeing, ToList, ToMap, ToMapStrict, Within, Words, Condition, Base, Inner, Summary, Joint, Origin, Range, Closed, Numbers, Lines, BodyLine}
+use Rattle.pipeline_language.specs.Syntax.{Add, AllMatch, AnyMatch, Barrier, Count, Distinct, Divisible, DropWhile, Empty, Equals, Expansion, Filter, FindFirst, FlatMap, Function, Greater, GroupBy, Itself, Length, Less, Limit, Longer, Map, Merge, Mod, Mul, Negate, NoneMatch, OfNumbers, OfTexts, Own, Partition, Plain, Repeat, Skip, Starts, TakeWhile, Teeing, ToList, ToMap, ToMapStrict, Within, Words, Condition, Base, Inner, Summary, Joint, Origin, Range, Closed, Numbers, Lines, BodyLine}
 use Rattle.file_words.specs.WordReading.{◌>>=◌, Left, is_done, Reader, next_word, next_number, next_natural, all_numbers}
 use Rattle.pipeline_language.specs.Reading.{ByName, named, made_of, unknown, by_name, nothing, both}
 
@@ -60,7 +60,7 @@ base_names = named (codes "count") (λ _. bases.Count) nothing
     (named (codes "min") (λ _. (bases.Own (OfNumbers only.Min))) nothing
     (named (codes "first") (λ _. bases.First) nothing
     (named (codes "tolist") (λ _. bases.ToList) nothing
-    (named (codes "joining") (λ t. bases.Own (OfTexts (Joining t))) next_word
+    (named (codes "joining") (λ t. bases.Own (OfTexts t)) next_word
     unknown)))))))
 
 unfoldable pub base_of : Reader Base

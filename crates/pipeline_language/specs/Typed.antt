@@ -11,7 +11,6 @@ use Rattle.pipeline_language.specs.declared.grammar.NumberTotal.{NumberTotal}
 use Rattle.pipeline_language.specs.declared.grammar.Stage.{Stage}
 use Rattle.pipeline_language.specs.declared.grammar.Summary.{Summary}
 use Rattle.pipeline_language.specs.declared.grammar.Terminal.{Terminal}
-use Rattle.pipeline_language.specs.declared.grammar.TextOnly.{TextOnly}
 use Rattle.pipeline_language.specs.declared.pipeline.Mapped.{Mapped}
 use Rattle.pipeline_language.specs.declared.pipeline.NumberFunction.{NumberFunction}
 use Rattle.pipeline_language.specs.declared.pipeline.NumberTest.{NumberTest}
@@ -39,7 +38,7 @@ abbrev pub NumberSummary : Type 0
 NumberSummary = Summary NumberFunction (NumberFunction × NumberInner) NumberTest NumberBase NumberInner
 
 abbrev pub TextBase : Type 0
-TextBase = Base (TextOnly Text)
+TextBase = Base Text
 
 abbrev pub TextInner : Type 0
 TextInner = Inner (Mapped NumberBase TextBase) TextTest TextBase

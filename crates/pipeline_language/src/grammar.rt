@@ -68,7 +68,7 @@ pub enum Stage<F, P, E> {
     Barrier(Barrier<P>),
 }
 
-/// What is made of items at once. O is what is made of one kind alone.
+/// What is made of items at once. O is what is made of one kind alone: a `NumberOnly`, or the text that joins texts.
 #[derive(Clone, Copy, PartialEq)]
 pub enum Base<O> {
     /// `count`, or `counting`.
@@ -84,13 +84,6 @@ pub enum NumberOnly {
     Sum,
     Max,
     Min,
-}
-
-/// What is made of texts alone.
-#[derive(Clone, Copy, PartialEq)]
-pub enum TextOnly<T> {
-    /// The texts with this one between neighbours.
-    Joining(T),
 }
 
 /// What is made of items inside another collector. M is a function with what is made of its values, B what is made at once.

@@ -11,7 +11,7 @@ mod version;
 
 pub use grammar::{
     Barrier, Base, Condition, Expansion, Function, Inner, Joint, Line, Merge, NumberOnly,
-    NumberTotal, OfKind, Stage, Summary, Terminal, TextOnly,
+    NumberTotal, OfKind, Stage, Summary, Terminal,
 };
 pub use kinds::{MOST_STAGES, NumberLine, TextLine};
 pub use line::{Source, read_number_line, read_source, read_text_line, read_version};

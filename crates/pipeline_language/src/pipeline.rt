@@ -6,7 +6,6 @@ ghost use Rattle.pipeline_language.specs.Steps.{steps_up};
 
 use crate::grammar::{
     Base, Expansion, Inner, Joint, Merge, NumberOnly, NumberTotal, Stage, Summary, Terminal,
-    TextOnly,
 };
 
 /// A whole pipeline. Texts borrow from the file's bytes.
@@ -123,7 +122,7 @@ pub type NumberSummary = Summary<
 >;
 
 /// What is made of texts at once, inside another collector, and of some of them.
-pub type TextBase<'a> = Base<TextOnly<&'a str>>;
+pub type TextBase<'a> = Base<&'a str>;
 
 pub type TextInner<'a> = Inner<Mapped<NumberBase, TextBase<'a>>, TextTest<'a>, TextBase<'a>>;
 

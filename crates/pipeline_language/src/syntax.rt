@@ -9,14 +9,14 @@ ghost use Rattle.file_words.specs.Words.{words_of};
 
 use crate::grammar::{
     Barrier, Base, Condition, Expansion, Function, Inner, Joint, Line, Merge, NumberOnly,
-    NumberTotal, OfKind, Stage, Summary, Terminal, TextOnly,
+    NumberTotal, OfKind, Stage, Summary, Terminal,
 };
 use crate::version::Version;
 use file_words::{FileError, Words};
 
 pub(crate) type AnyCondition<'a> = Condition<&'a str>;
 
-pub(crate) type AnyBase<'a> = Base<OfKind<NumberOnly, TextOnly<&'a str>>>;
+pub(crate) type AnyBase<'a> = Base<OfKind<NumberOnly, &'a str>>;
 
 pub(crate) type AnyInner<'a> = Inner<(Function, AnyBase<'a>), AnyCondition<'a>, AnyBase<'a>>;
 
@@ -91,7 +91,7 @@ fn base_named<'a>(name: &str, words: &mut Words<'a>) -> Result<AnyBase<'a>, File
         "min" => Ok(Base::Own(OfKind::OfNumbers(NumberOnly::Min))),
         "first" => Ok(Base::First),
         "tolist" => Ok(Base::ToList),
-        "joining" => Ok(Base::Own(OfKind::OfTexts(TextOnly::Joining(words.any()?)))),
+        "joining" => Ok(Base::Own(OfKind::OfTexts(words.any()?))),
         _ => Err(FileError::UnknownWord),
     }
 }

@@ -8,7 +8,6 @@ use Rattle.collectors.specs.Reductions.{reduced, first, delimited}
 use Rattle.collectors.specs.Sums.{int_sum}
 use Rattle.pipeline_language.specs.Typed.{NumberBase, NumberInner, NumberSummary, TextBase, TextInner, TextSummary}
 use Rattle.pipeline_language.specs.declared.grammar.NumberOnly.TheVariants as only
-use Rattle.pipeline_language.specs.declared.grammar.TextOnly.TheVariants.{Joining}
 use Rattle.pipeline_language.specs.declared.pipeline.Mapped.TheVariants as values
 use Rattle.pipeline_language.specs.declared.grammar.Base.TheVariants as bases
 use Rattle.pipeline_language.specs.declared.grammar.Inner.TheVariants as inners
@@ -44,7 +43,7 @@ abbrev pub text_base_text : TextBase → List (List ℕ) → List ℕ
 text_base_text bases.Count l = signed_decimal (wrapped (pos (length l)))
 text_base_text bases.First l = optional_text itself (first l)
 text_base_text bases.ToList l = list_text itself l
-text_base_text (bases.Own (Joining delimiter)) l = delimited delimiter.now l
+text_base_text (bases.Own delimiter) l = delimited delimiter.now l
 
 abbrev pub text_inner_text : TextInner → List (List ℕ) → List ℕ
 text_inner_text (inners.Base base) l = text_base_text base l

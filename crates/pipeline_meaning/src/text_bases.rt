@@ -11,7 +11,7 @@ ghost use Rattle.value_text.specs.SummaryLaws.{optional_tells, either_tells, joi
 
 use collectors::{Collector, Counting, First};
 use either::{Either, Left, Right};
-use pipeline_language::{TextBase, TextOnly};
+use pipeline_language::TextBase;
 use spliterator::NoMemory;
 use std::alloc::Global;
 use value_text::{JoinedText, Summarizes, Written};
@@ -122,7 +122,7 @@ pub fn text_base<'a>(alloc: Global, base: TextBase<'a>) -> TextBaseCollector<'a>
         TextBase::Count => Left(Left(Counting::new())),
         TextBase::First => Left(Right(First::new())),
         TextBase::ToList => Right(JoinedText::list(alloc)),
-        TextBase::Own(TextOnly::Joining(delimiter)) => Right(JoinedText::new(alloc, delimiter)),
+        TextBase::Own(delimiter) => Right(JoinedText::new(alloc, delimiter)),
     };
     TextBaseCollector { chosen }
 }

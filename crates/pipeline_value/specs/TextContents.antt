@@ -5,7 +5,6 @@ use Rattle.std.proofs.Common.{ap, ap₂}
 use Rattle.barriers.specs.Whiles.{drop_while}
 use Rattle.parallel_streams.specs.Terminals.{all_meet, any_meets}
 use Rattle.pipeline_language.specs.Typed.{TextBase, TextInner, TextStage, TextSummary, TextTerminal, TextValue}
-use Rattle.pipeline_language.specs.declared.grammar.TextOnly.TheVariants.{Joining}
 use Rattle.pipeline_language.specs.declared.pipeline.Mapped.TheVariants as values
 use Rattle.pipeline_language.specs.declared.grammar.Barrier.TheVariants.{Distinct, Limit, Skip, TakeWhile, DropWhile}
 use Rattle.pipeline_language.specs.declared.grammar.Expansion.TheVariants.{Repeat, Words}
@@ -25,7 +24,6 @@ use Rattle.pipeline_language.specs.Content as content
 use Rattle.pipeline_language.specs.declared.grammar.Merge.TheVariants as merges
 use Rattle.pipeline_language.specs.declared.pipeline.Mapped.{Mapped}
 use Rattle.pipeline_language.specs.declared.grammar.OfKind.{OfKind}
-use Rattle.pipeline_language.specs.declared.grammar.TextOnly.{TextOnly}
 use Rattle.pipeline_language.specs.Grammar as grammar
 use Rattle.pipeline_language.specs.LineContent.{as_read}
 use Rattle.pipeline_language.specs.declared.grammar.Function.{Function}
@@ -54,9 +52,6 @@ text_test_of (Starts front) = text_tests.Starts (text_of front)
 text_test_of (Longer n) = text_tests.Longer n
 text_test_of _ = text_tests.Empty
 
-abbrev only_of : TextOnly (List ℕ) → TextOnly (Bor (List ℕ))
-only_of only = grammar.text_only text_of only
-
 -- what is made of numbers alone gives any that is made of texts
 abbrev own_of : {N T L : Type 0} → (T → L) → L → OfKind N T → L
 own_of of any (OfNumbers x) = any
@@ -67,7 +62,7 @@ mapped_of length itself (Length, x) = values.Length (length x)
 mapped_of length itself (_, x) = values.Itself (itself x)
 
 abbrev pub text_base_of : syntax.Base → TextBase
-text_base_of base = grammar.base (own_of only_of (Joining (text_of []))) base
+text_base_of base = grammar.base (own_of text_of (text_of [])) base
 
 abbrev pub text_inner_of : syntax.Inner → TextInner
 text_inner_of inner = grammar.inner (mapped_of number_base_of text_base_of) text_test_of text_base_of inner
@@ -103,7 +98,7 @@ pub text_base-same : (base : TextBase) → text_base_text (text_base_of (content
 text_base-same text_bases.Count = refl
 text_base-same text_bases.First = refl
 text_base-same text_bases.ToList = refl
-text_base-same (text_bases.Own (Joining between)) = refl
+text_base-same (text_bases.Own between) = refl
 
 -- what is made of the texts that pass
 abbrev pub of_passing : (List ℕ → Bool) → (List (List ℕ) → List ℕ) → List (List ℕ) → List ℕ

@@ -2,7 +2,7 @@
 use collectors::{Collector, GroupingBy, PartitioningBy, Teeing, ToMap, collect};
 use pipeline_language::{
     Mapped, Merge, NumberBase, NumberFunction, NumberInner, NumberOnly, NumberSummary, NumberTest,
-    TextBase, TextFunction, TextInner, TextOnly, TextSummary,
+    TextBase, TextFunction, TextInner, TextSummary,
 };
 use pipeline_meaning::{
     NumberCheck, NumberMapping, NumberMerging, Seed, SeededHashes, number_base, number_summary,
@@ -122,7 +122,7 @@ type TextRow<'a> = (TextSummary<'a>, &'a [&'a str], &'a str);
 
 static OF_TEXTS: [TextRow<'_>; 4] = [
     (
-        TextSummary::Base(TextBase::Own(TextOnly::Joining("+"))),
+        TextSummary::Base(TextBase::Own("+")),
         &["a", "", "bb"],
         "a++bb",
     ),

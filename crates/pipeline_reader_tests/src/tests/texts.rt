@@ -3,8 +3,8 @@
 use file_words::ReadError;
 use pipeline_language::{
     Barrier, Expansion, Joint, Merge, NumberFunction, NumberStage, NumberTerminal, NumberTotal,
-    Pipeline, TextBase, TextEnd, TextFunction, TextOnly, TextStage, TextSummary, TextTerminal,
-    TextTest, TextValue,
+    Pipeline, TextBase, TextEnd, TextFunction, TextStage, TextSummary, TextTerminal, TextTest,
+    TextValue,
 };
 use pipeline_reader::read_pipeline;
 use std::alloc::{AllocError, Global};
@@ -110,10 +110,7 @@ static TERMINALS: [(&[u8], TextTerminal<'static>); 9] = [
     ),
     (
         b"pipeline 1\nlines 0\ngroupby length joining +",
-        TextTerminal::GroupBy(
-            TextFunction::Length,
-            TextSummary::Base(TextBase::Own(TextOnly::Joining("+"))),
-        ),
+        TextTerminal::GroupBy(TextFunction::Length, TextSummary::Base(TextBase::Own("+"))),
     ),
     (
         b"pipeline 1\nlines 0\ntomap self length sum",

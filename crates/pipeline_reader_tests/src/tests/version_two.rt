@@ -5,7 +5,7 @@ use super::numbers::first_other;
 use super::texts::first_other_end;
 use pipeline_language::{
     Mapped, NumberBase, NumberFunction, NumberInner, NumberOnly, NumberSummary, NumberTerminal,
-    NumberTest, TextBase, TextFunction, TextInner, TextOnly, TextSummary, TextTerminal, TextTest,
+    NumberTest, TextBase, TextFunction, TextInner, TextSummary, TextTerminal, TextTest,
 };
 use std::test::Fail;
 
@@ -113,9 +113,7 @@ static NEW_TEXT_TERMINALS: [(&[u8], TextTerminal<'static>); 7] = [
         b"pipeline 2\nlines 0\npartition empty mapping self joining +",
         TextTerminal::Partition(
             TextTest::Empty,
-            TextSummary::Mapping(Mapped::Itself(TextInner::Base(TextBase::Own(TextOnly::Joining(
-                "+",
-            ))))),
+            TextSummary::Mapping(Mapped::Itself(TextInner::Base(TextBase::Own("+")))),
         ),
     ),
     (
