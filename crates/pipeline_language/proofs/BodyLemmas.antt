@@ -9,7 +9,8 @@ use Rattle.file_words.specs.declared.fault.FileError.TheVariants.{BadText, Missi
 use Rattle.file_words.specs.declared.fault.FileFault.{FileFault}
 use Rattle.pipeline_language.specs.Content.{Body}
 use Rattle.pipeline_language.specs.Form.{IsLineOf}
-use Rattle.pipeline_language.specs.Syntax.{Stage, Terminal, BodyLine, StageLine, TerminalLine, Coming, after_stage, bodies}
+use Rattle.pipeline_language.specs.declared.grammar.Line.TheVariants as body_lines
+use Rattle.pipeline_language.specs.Syntax.{Stage, Terminal, BodyLine, Coming, after_stage, bodies}
 use Rattle.pipeline_language.specs.Language.{AreStageLines, after_stages, BodyPlace, EndPlace, FaultAt, FaultOfNext}
 use Rattle.file_words.specs.WordReading.{◌>>=◌}
 use Rattle.pipeline_language.specs.Reading.{line_of}
@@ -24,7 +25,7 @@ pub record IsBodyOf (coming : Coming) (lines : List (List ℕ)) (body : Body) : 
   pub terminal_line : List ℕ
   pub whole : lines ≡ stage_lines ++ terminal_line ∷ []
   pub stages : AreStageLines coming stage_lines body.0
-  pub terminal : IsLineOf (bodies (after_stages coming body.0)) terminal_line (TerminalLine body.1)
+  pub terminal : IsLineOf (bodies (after_stages coming body.0)) terminal_line (body_lines.Terminal body.1)
 
 -- a fault among the lines of a body, of which the first has number n
 pub record IsFaultWithin (coming : Coming) (n : ℕ) (lines : List (List ℕ)) (fault : FileFault) : Type 0 where
@@ -62,7 +63,7 @@ end_fault_is line kind (inl fault) = cond-false (is_utf8 line) AfterTerminal Bad
 end_fault_is line kind (inr fault) = cond-true (is_utf8 line) AfterTerminal BadText (is_utf8-from_IsUtf8 line fault.0) ∙ sym fault.1
 
 -- a stage in front of what the rest answers
-stage_answer : (coming : Coming) (n : ℕ) (line : List ℕ) (lines : List (List ℕ)) (stage : Stage) → IsLineOf (bodies coming) line (StageLine stage) → (rest : Result Body FileFault) → AnswersBody (after_stage coming stage) (n + 1) lines rest → AnswersBody coming n (line ∷ lines) (with_stages (stage ∷ []) rest)
+stage_answer : (coming : Coming) (n : ℕ) (line : List ℕ) (lines : List (List ℕ)) (stage : Stage) → IsLineOf (bodies coming) line (body_lines.Stage stage) → (rest : Result Body FileFault) → AnswersBody (after_stage coming stage) (n + 1) lines rest → AnswersBody coming n (line ∷ lines) (with_stages (stage ∷ []) rest)
 stage_answer coming n line lines stage is (Ok body) h =
     record { stage_lines = line ∷ h.stage_lines; terminal_line = h.terminal_line; whole = ap (λ l. line ∷ l) h.whole; stages = (is, h.stages); terminal = h.terminal }
 stage_answer coming n line lines stage is (Err fault) (inl h) = inl (record {
@@ -84,7 +85,7 @@ stage_answer coming n line lines stage is (Err fault) (inr h) = inr (record {
   here = h.here;
 })
 
-terminal_answer : (coming : Coming) (n : ℕ) (line : List ℕ) (lines : List (List ℕ)) (terminal : Terminal) → IsLineOf (bodies coming) line (TerminalLine terminal) → AnswersBody coming n (line ∷ lines) (no_more (n + 1) lines >>= λ _. let body : Body = ([], terminal) in Ok body)
+terminal_answer : (coming : Coming) (n : ℕ) (line : List ℕ) (lines : List (List ℕ)) (terminal : Terminal) → IsLineOf (bodies coming) line (body_lines.Terminal terminal) → AnswersBody coming n (line ∷ lines) (no_more (n + 1) lines >>= λ _. let body : Body = ([], terminal) in Ok body)
 unfolding no_more
 terminal_answer coming n line [] terminal is = record { stage_lines = []; terminal_line = line; whole = refl; stages = tt; terminal = is }
 terminal_answer coming n line (next ∷ lines) terminal is = inr (record {
@@ -99,8 +100,8 @@ terminal_answer coming n line (next ∷ lines) terminal is = inr (record {
 
 first_answer : (coming : Coming) (n : ℕ) (line : List ℕ) (lines : List (List ℕ)) (r : Result BodyLine FileError) → AnswersLine (bodies coming) line r → (rest : Stage → Result Body FileFault) → ((stage : Stage) → AnswersBody (after_stage coming stage) (n + 1) lines (rest stage)) → AnswersBody coming n (line ∷ lines) (at_line n r >>= λ b. after_line b (no_more (n + 1) lines) rest)
 first_answer coming n line lines (Err kind) fault rest h = inl (record { front = []; left = line ∷ lines; steps = []; whole = refl; stages = tt; line = omega arith; here = fault })
-first_answer coming n line lines (Ok (StageLine stage)) is rest h = stage_answer coming n line lines stage is (rest stage) (h stage)
-first_answer coming n line lines (Ok (TerminalLine terminal)) is rest h = terminal_answer coming n line lines terminal is
+first_answer coming n line lines (Ok (body_lines.Stage stage)) is rest h = stage_answer coming n line lines stage is (rest stage) (h stage)
+first_answer coming n line lines (Ok (body_lines.Terminal terminal)) is rest h = terminal_answer coming n line lines terminal is
 
 -- The lines of a body have the answer that reading gives.
 pub body_answer : (lines : List (List ℕ)) (coming : Coming) (n : ℕ) → AnswersBody coming n lines (body_from coming n lines)
@@ -127,10 +128,10 @@ with_ending stages terminal (Ok x) = ap (λ ss. let b : Body = (ss, terminal) in
 with_ending stages terminal (Err fault) = refl
 
 -- one line of a body
-pub stage_is_read : (coming : Coming) (n : ℕ) (line : List ℕ) (lines : List (List ℕ)) (stage : Stage) → line_of (bodies coming) (body_of coming.version) line ≡ Ok (StageLine stage) → body_from coming n (line ∷ lines) ≡ with_stages (stage ∷ []) (body_from (after_stage coming stage) (n + 1) lines)
+pub stage_is_read : (coming : Coming) (n : ℕ) (line : List ℕ) (lines : List (List ℕ)) (stage : Stage) → line_of (bodies coming) (body_of coming.version) line ≡ Ok (body_lines.Stage stage) → body_from coming n (line ∷ lines) ≡ with_stages (stage ∷ []) (body_from (after_stage coming stage) (n + 1) lines)
 stage_is_read coming n line lines stage e = ap (λ r. at_line n r >>= λ b. after_line b (no_more (n + 1) lines) (λ stage. body_from (after_stage coming stage) (n + 1) lines)) e
 
-pub terminal_is_read : (coming : Coming) (n : ℕ) (line : List ℕ) (lines : List (List ℕ)) (terminal : Terminal) → line_of (bodies coming) (body_of coming.version) line ≡ Ok (TerminalLine terminal) → body_from coming n (line ∷ lines) ≡ (no_more (n + 1) lines >>= λ _. let body : Body = ([], terminal) in Ok body)
+pub terminal_is_read : (coming : Coming) (n : ℕ) (line : List ℕ) (lines : List (List ℕ)) (terminal : Terminal) → line_of (bodies coming) (body_of coming.version) line ≡ Ok (body_lines.Terminal terminal) → body_from coming n (line ∷ lines) ≡ (no_more (n + 1) lines >>= λ _. let body : Body = ([], terminal) in Ok body)
 terminal_is_read coming n line lines terminal e = ap (λ r. at_line n r >>= λ b. after_line b (no_more (n + 1) lines) (λ stage. body_from (after_stage coming stage) (n + 1) lines)) e
 
 pub fault_is_told : (coming : Coming) (n : ℕ) (line : List ℕ) (lines : List (List ℕ)) (kind : FileError) → line_of (bodies coming) (body_of coming.version) line ≡ Err kind → body_from coming n (line ∷ lines) ≡ Err (record { line = n; kind = kind })
@@ -143,7 +144,7 @@ stages_are_read [] (stage ∷ stages) coming n left are = absurd are
 stages_are_read (line ∷ front) [] coming n left are = absurd are
 stages_are_read (line ∷ front) (stage ∷ stages) coming n left are =
     let number : (n + 1) + length front ≡ n + length (line ∷ front) = omega arith in
-    stage_is_read coming n line (front ++ left) stage (line_is_read (bodies coming) (body_of coming.version) (body_phrase coming.version) line (StageLine stage) are.0)
+    stage_is_read coming n line (front ++ left) stage (line_is_read (bodies coming) (body_of coming.version) (body_phrase coming.version) line (body_lines.Stage stage) are.0)
     ∙ ap (with_stages (stage ∷ [])) (stages_are_read front stages (after_stage coming stage) (n + 1) left are.1)
     ∙ with_first stage stages (body_from (after_stages (after_stage coming stage) stages) ((n + 1) + length front) left)
     ∙ ap (λ m. with_stages (stage ∷ stages) (body_from (after_stages (after_stage coming stage) stages) m left)) number
@@ -157,7 +158,7 @@ body_is_read coming n front left body is =
     ap (λ lines. body_from coming n (lines ++ left)) is.whole
     ∙ ap (body_from coming n) (append_assoc is.stage_lines (is.terminal_line ∷ []) left)
     ∙ stages_are_read is.stage_lines stages coming n (is.terminal_line ∷ left) is.stages
-    ∙ ap (with_stages stages) (terminal_is_read (after_stages coming stages) m is.terminal_line left body.1 (line_is_read (bodies (after_stages coming stages)) (body_of (after_stages coming stages).version) (body_phrase (after_stages coming stages).version) is.terminal_line (TerminalLine body.1) is.terminal))
+    ∙ ap (with_stages stages) (terminal_is_read (after_stages coming stages) m is.terminal_line left body.1 (line_is_read (bodies (after_stages coming stages)) (body_of (after_stages coming stages).version) (body_phrase (after_stages coming stages).version) is.terminal_line (body_lines.Terminal body.1) is.terminal))
     ∙ with_ending stages body.1 (no_more (m + 1) left)
     ∙ ap (λ k. no_more k left >>= λ _. let b : Body = (body.0, body.1) in Ok b) number
 
@@ -167,15 +168,15 @@ err_first ending rest (Err other) fault e = ap Err (err_same other fault e)
   where
     err_same : (one other : FileFault) → (let r : Result BodyLine FileFault = Err one in r) ≡ Err other → one ≡ other
     err_same one other e = cc
-err_first ending rest (Ok (StageLine stage)) fault e = absurd (ok_is_not_err (StageLine stage) fault e)
+err_first ending rest (Ok (body_lines.Stage stage)) fault e = absurd (ok_is_not_err (body_lines.Stage stage) fault e)
   where
     ok_is_not_err : (b : BodyLine) (fault : FileFault) → Ok b ≡ Err fault → ⊥
     ok_is_not_err b fault e = cc
-err_first (Ok x) rest (Ok (TerminalLine terminal)) fault e = absurd (ok_is_not_err (TerminalLine terminal) fault e)
+err_first (Ok x) rest (Ok (body_lines.Terminal terminal)) fault e = absurd (ok_is_not_err (body_lines.Terminal terminal) fault e)
   where
     ok_is_not_err : (b : BodyLine) (fault : FileFault) → Ok b ≡ Err fault → ⊥
     ok_is_not_err b fault e = cc
-err_first (Err other) rest (Ok (TerminalLine terminal)) fault e = ap Err (err_same other fault e)
+err_first (Err other) rest (Ok (body_lines.Terminal terminal)) fault e = ap Err (err_same other fault e)
   where
     err_same : (one other : FileFault) → (let r : Result BodyLine FileFault = Err one in r) ≡ Err other → one ≡ other
     err_same one other e = cc
@@ -188,33 +189,33 @@ fault_first coming n [] fault e = ap Err (err_same (record { line = n; kind = Mi
     err_same one other e = cc
 fault_first coming n (line ∷ lines) fault e = err_first (no_more (n + 1) lines) (λ stage. body_from (after_stage coming stage) (n + 1) lines) (at_line n (line_of (bodies coming) (body_of coming.version) line)) fault e
 
-as_stage : (ending : Result (Unit {0}) FileFault) (rest : Stage → Result Body FileFault) (r : Result BodyLine FileFault) (stage : Stage) → (r >>= λ b. ending_with b ending) ≡ Ok (StageLine stage) → (r >>= λ b. after_line b ending rest) ≡ with_stages (stage ∷ []) (rest stage)
+as_stage : (ending : Result (Unit {0}) FileFault) (rest : Stage → Result Body FileFault) (r : Result BodyLine FileFault) (stage : Stage) → (r >>= λ b. ending_with b ending) ≡ Ok (body_lines.Stage stage) → (r >>= λ b. after_line b ending rest) ≡ with_stages (stage ∷ []) (rest stage)
 as_stage ending rest (Err fault) stage e = absurd cc
-as_stage ending rest (Ok (StageLine other)) stage e = ap (λ s. with_stages (s ∷ []) (rest s)) (same other stage e)
+as_stage ending rest (Ok (body_lines.Stage other)) stage e = ap (λ s. with_stages (s ∷ []) (rest s)) (same other stage e)
   where
-    same : (one other : Stage) → (let r : Result BodyLine FileFault = Ok (StageLine one) in r) ≡ Ok (StageLine other) → one ≡ other
+    same : (one other : Stage) → (let r : Result BodyLine FileFault = Ok (body_lines.Stage one) in r) ≡ Ok (body_lines.Stage other) → one ≡ other
     same one other e = cc
-as_stage (Ok x) rest (Ok (TerminalLine terminal)) stage e = absurd cc
-as_stage (Err fault) rest (Ok (TerminalLine terminal)) stage e = absurd cc
+as_stage (Ok x) rest (Ok (body_lines.Terminal terminal)) stage e = absurd cc
+as_stage (Err fault) rest (Ok (body_lines.Terminal terminal)) stage e = absurd cc
 
-as_terminal : (ending : Result (Unit {0}) FileFault) (rest : Stage → Result Body FileFault) (r : Result BodyLine FileFault) (terminal : Terminal) → (r >>= λ b. ending_with b ending) ≡ Ok (TerminalLine terminal) → (r >>= λ b. after_line b ending rest) ≡ Ok ([], terminal)
+as_terminal : (ending : Result (Unit {0}) FileFault) (rest : Stage → Result Body FileFault) (r : Result BodyLine FileFault) (terminal : Terminal) → (r >>= λ b. ending_with b ending) ≡ Ok (body_lines.Terminal terminal) → (r >>= λ b. after_line b ending rest) ≡ Ok ([], terminal)
 as_terminal ending rest (Err fault) terminal e = absurd cc
-as_terminal ending rest (Ok (StageLine stage)) terminal e = absurd cc
-as_terminal (Err fault) rest (Ok (TerminalLine other)) terminal e = absurd cc
-as_terminal (Ok x) rest (Ok (TerminalLine other)) terminal e = ap (λ t. let b : Body = ([], t) in let found : Result Body FileFault = Ok b in found) (same other terminal e)
+as_terminal ending rest (Ok (body_lines.Stage stage)) terminal e = absurd cc
+as_terminal (Err fault) rest (Ok (body_lines.Terminal other)) terminal e = absurd cc
+as_terminal (Ok x) rest (Ok (body_lines.Terminal other)) terminal e = ap (λ t. let b : Body = ([], t) in let found : Result Body FileFault = Ok b in found) (same other terminal e)
   where
-    same : (one other : Terminal) → (let r : Result BodyLine FileFault = Ok (TerminalLine one) in r) ≡ Ok (TerminalLine other) → one ≡ other
+    same : (one other : Terminal) → (let r : Result BodyLine FileFault = Ok (body_lines.Terminal one) in r) ≡ Ok (body_lines.Terminal other) → one ≡ other
     same one other e = cc
 
 nothing_first : (n : ℕ) (b : BodyLine) → (let r : Result BodyLine FileFault = Err (record { line = n; kind = MissingTerminal }) in r) ≡ Ok b → ⊥
 nothing_first n b e = cc
 
-pub stage_first : (coming : Coming) (n : ℕ) (lines : List (List ℕ)) (stage : Stage) → first_of coming n lines ≡ Ok (StageLine stage) → body_from coming n lines ≡ with_stages (stage ∷ []) (body_from (after_stage coming stage) (n + 1) (drop 1 lines))
+pub stage_first : (coming : Coming) (n : ℕ) (lines : List (List ℕ)) (stage : Stage) → first_of coming n lines ≡ Ok (body_lines.Stage stage) → body_from coming n lines ≡ with_stages (stage ∷ []) (body_from (after_stage coming stage) (n + 1) (drop 1 lines))
 unfolding first_of
-stage_first coming n [] stage e = absurd (nothing_first n (StageLine stage) e)
+stage_first coming n [] stage e = absurd (nothing_first n (body_lines.Stage stage) e)
 stage_first coming n (line ∷ lines) stage e = as_stage (no_more (n + 1) lines) (λ stage. body_from (after_stage coming stage) (n + 1) lines) (at_line n (line_of (bodies coming) (body_of coming.version) line)) stage e
 
-pub terminal_first : (coming : Coming) (n : ℕ) (lines : List (List ℕ)) (terminal : Terminal) → first_of coming n lines ≡ Ok (TerminalLine terminal) → body_from coming n lines ≡ Ok ([], terminal)
+pub terminal_first : (coming : Coming) (n : ℕ) (lines : List (List ℕ)) (terminal : Terminal) → first_of coming n lines ≡ Ok (body_lines.Terminal terminal) → body_from coming n lines ≡ Ok ([], terminal)
 unfolding first_of
-terminal_first coming n [] terminal e = absurd (nothing_first n (TerminalLine terminal) e)
+terminal_first coming n [] terminal e = absurd (nothing_first n (body_lines.Terminal terminal) e)
 terminal_first coming n (line ∷ lines) terminal e = as_terminal (no_more (n + 1) lines) (λ stage. body_from (after_stage coming stage) (n + 1) lines) (at_line n (line_of (bodies coming) (body_of coming.version) line)) terminal e

@@ -3,7 +3,7 @@ use Rattle.std.proofs.Common.{◌≡◌, ℕ, Bool, List, [], ◌∷◌, ◌++�
 use Rattle.std.proofs.lemmas.List.{append-nil}
 use Rattle.file_words.specs.declared.fault.FileError.{FileError}
 use Rattle.pipeline_language.specs.Form.{Slot, AnyWord, NamesFit, WordsFit, all_known}
-use Rattle.pipeline_language.specs.Syntax.{Joint, Plain, Within, joint_slots}
+use Rattle.pipeline_language.specs.Syntax.{Plain, Within, Joint, joint_slots}
 use Rattle.file_words.specs.WordReading.{Left, next_word}
 use Rattle.pipeline_language.specs.SyntaxReading.{joint_of}
 use Rattle.pipeline_language.proofs.PhraseLemmas.{Anything, AtEnd, Found, NotUnknown, Enough, Spelled, Phrase}

@@ -10,13 +10,13 @@ use Rattle.file_words.specs.declared.fault.LineError.{LineError}
 use Rattle.file_words.specs.declared.fault.LineError.TheVariants as line_errors
 use Rattle.pipeline_language.specs.declared.version.Version.{Version}
 use Rattle.pipeline_language.specs.declared.version.Version.TheVariants.{One, Two}
-use Rattle.pipeline_language.specs.declared.kinds.NumberLine.{NumberLine}
 use Rattle.pipeline_language.specs.declared.kinds.TextLine.{TextLine}
 use Rattle.pipeline_language.specs.declared.line.Source.{Source}
 use Rattle.pipeline_language.specs.Content.{Body}
-use Rattle.pipeline_language.specs.Kinds.{number_line_content, text_line_content, source_content}
+use Rattle.pipeline_language.specs.Kinds.{NumberLine, number_line_content, text_line_content, source_content}
 use Rattle.file_words.specs.Words.{lines_of}
-use Rattle.pipeline_language.specs.Syntax.{Origin, origins, text_count, Stage, BodyLine, StageLine, TerminalLine, NumberKind, TextKind, Coming, comes, after_stage, bodies, Program}
+use Rattle.pipeline_language.specs.declared.grammar.Line.TheVariants as body_lines
+use Rattle.pipeline_language.specs.Syntax.{Origin, origins, text_count, Stage, BodyLine, NumberKind, TextKind, Coming, comes, after_stage, bodies, Program}
 use Rattle.pipeline_language.specs.Language.{most_bytes, first_line, from_origin}
 use Rattle.file_words.specs.WordReading.{◌>>=◌, Left}
 use Rattle.pipeline_language.specs.Reading.{ReadAs, line_of}
@@ -44,8 +44,8 @@ with_stages stages (Ok body) = Ok (stages ++ body.0, body.1)
 with_stages stages (Err fault) = Err fault
 
 abbrev pub after_line : BodyLine → Result (Unit {0}) FileFault → (Stage → Result Body FileFault) → Result Body FileFault
-after_line (StageLine stage) ending rest = with_stages (stage ∷ []) (rest stage)
-after_line (TerminalLine terminal) ending rest = ending >>= λ _. let body : Body = ([], terminal) in Ok body
+after_line (body_lines.Stage stage) ending rest = with_stages (stage ∷ []) (rest stage)
+after_line (body_lines.Terminal terminal) ending rest = ending >>= λ _. let body : Body = ([], terminal) in Ok body
 
 -- The lines of a body, to which something comes, and of which the first has number n.
 abbrev pub body_from : Coming → ℕ → List (List ℕ) → Result Body FileFault
@@ -54,8 +54,8 @@ body_from coming n (line ∷ lines) = at_line n (line_of (bodies coming) (body_o
 
 -- the first of them alone, behind which nothing may stand where it is the terminal
 abbrev pub ending_with : BodyLine → Result (Unit {0}) FileFault → Result BodyLine FileFault
-ending_with (StageLine stage) ending = Ok (StageLine stage)
-ending_with (TerminalLine terminal) ending = ending >>= λ _. Ok (TerminalLine terminal)
+ending_with (body_lines.Stage stage) ending = Ok (body_lines.Stage stage)
+ending_with (body_lines.Terminal terminal) ending = ending >>= λ _. Ok (body_lines.Terminal terminal)
 
 unfoldable pub first_of : Coming → ℕ → List (List ℕ) → Result BodyLine FileFault
 first_of coming n [] = Err (record { line = n; kind = MissingTerminal })

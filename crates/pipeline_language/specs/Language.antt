@@ -7,7 +7,8 @@ use Rattle.pipeline_language.specs.declared.version.Version.{Version}
 use Rattle.pipeline_language.specs.declared.version.Version.TheVariants.{One, Two}
 use Rattle.file_words.specs.Words.{lines_of}
 use Rattle.pipeline_language.specs.Form.{IsLineOf, LineFault}
-use Rattle.pipeline_language.specs.Syntax.{Origin, origins, origin_kind, text_count, Stage, StageLine, TerminalLine, Coming, after_stage, bodies, Program}
+use Rattle.pipeline_language.specs.declared.grammar.Line.TheVariants as body_lines
+use Rattle.pipeline_language.specs.Syntax.{Origin, origins, origin_kind, text_count, Stage, Coming, after_stage, bodies, Program}
 
 -- the most bytes of a file
 abbrev pub most_bytes : ℕ
@@ -27,7 +28,7 @@ abbrev pub AreStageLines : Coming → List (List ℕ) → List Stage → Type 0
 AreStageLines coming [] [] = Unit {0}
 AreStageLines coming [] (stage ∷ stages) = ⊥
 AreStageLines coming (line ∷ lines) [] = ⊥
-AreStageLines coming (line ∷ lines) (stage ∷ stages) = IsLineOf (bodies coming) line (StageLine stage) × AreStageLines (after_stage coming stage) lines stages
+AreStageLines coming (line ∷ lines) (stage ∷ stages) = IsLineOf (bodies coming) line (body_lines.Stage stage) × AreStageLines (after_stage coming stage) lines stages
 
 -- what comes to the line behind stages
 abbrev pub after_stages : Coming → List Stage → Coming
@@ -50,7 +51,7 @@ pub record IsProgramOf (lines : List (List ℕ)) (program : Program) : Type 0 wh
   pub texts : AreTexts program.texts
   pub number : length program.texts ≡ text_count program.origin
   pub stages : AreStageLines (from_origin version program.origin) stage_lines program.stages
-  pub terminal : IsLineOf (bodies (after_stages (from_origin version program.origin) program.stages)) terminal_line (TerminalLine program.terminal)
+  pub terminal : IsLineOf (bodies (after_stages (from_origin version program.origin) program.stages)) terminal_line (body_lines.Terminal program.terminal)
 
 -- The lines of a file up to one of its texts.
 pub record IsBeginningOfTexts (lines : List (List ℕ)) : Type 0 where

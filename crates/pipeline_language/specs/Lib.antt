@@ -1,6 +1,7 @@
 pub mod Content
 pub mod FileReading
 pub mod Form
+pub mod Grammar
 pub mod Kinds
 pub mod Language
 pub mod LineContent
@@ -8,3 +9,4 @@ pub mod Reading
 pub mod Steps
 pub mod Syntax
 pub mod SyntaxReading
+pub mod Typed

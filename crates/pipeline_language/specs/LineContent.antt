@@ -1,114 +1,76 @@
 -- What a line says, by its content.
-use Rattle.pipeline_language.specs.declared.syntax.Function.{Function}
-use Rattle.pipeline_language.specs.declared.syntax.Function.TheVariants as functions
-use Rattle.pipeline_language.specs.declared.syntax.Condition.{Condition}
-use Rattle.pipeline_language.specs.declared.syntax.Condition.TheVariants as conditions
-use Rattle.pipeline_language.specs.declared.syntax.Base.{Base}
-use Rattle.pipeline_language.specs.declared.syntax.Base.TheVariants as bases
-use Rattle.pipeline_language.specs.declared.syntax.Inner.{Inner}
-use Rattle.pipeline_language.specs.declared.syntax.Inner.TheVariants as inners
-use Rattle.pipeline_language.specs.declared.syntax.Summary.{Summary}
-use Rattle.pipeline_language.specs.declared.syntax.Summary.TheVariants as summaries
-use Rattle.pipeline_language.specs.declared.syntax.Merge.{Merge}
-use Rattle.pipeline_language.specs.declared.syntax.Merge.TheVariants as merges
-use Rattle.pipeline_language.specs.declared.syntax.Expansion.{Expansion}
-use Rattle.pipeline_language.specs.declared.syntax.Expansion.TheVariants as expansions
-use Rattle.pipeline_language.specs.declared.syntax.Stage.{Stage}
-use Rattle.pipeline_language.specs.declared.syntax.Stage.TheVariants as stages
-use Rattle.pipeline_language.specs.declared.syntax.Joint.{Joint}
-use Rattle.pipeline_language.specs.declared.syntax.Joint.TheVariants as joints
-use Rattle.pipeline_language.specs.declared.syntax.Terminal.{Terminal}
-use Rattle.pipeline_language.specs.declared.syntax.Terminal.TheVariants as terminals
-use Rattle.pipeline_language.specs.declared.syntax.BodyLine.{BodyLine}
-use Rattle.pipeline_language.specs.declared.syntax.BodyLine.TheVariants as body_lines
-use Rattle.pipeline_language.specs.Syntax as syntax
+use Rattle.std.specs.Prelude.{ℕ, List}
+use Rattle.pipeline_language.specs.declared.grammar.Base as bases
+use Rattle.pipeline_language.specs.declared.grammar.Condition as conditions
+use Rattle.pipeline_language.specs.declared.grammar.Expansion.{Expansion}
+use Rattle.pipeline_language.specs.declared.grammar.Function.{Function}
+use Rattle.pipeline_language.specs.declared.grammar.Inner as inners
+use Rattle.pipeline_language.specs.declared.grammar.Joint as joints
+use Rattle.pipeline_language.specs.declared.grammar.Line as lines
+use Rattle.pipeline_language.specs.declared.grammar.Line.TheVariants as body_lines
+use Rattle.pipeline_language.specs.declared.grammar.Merge.{Merge}
+use Rattle.pipeline_language.specs.declared.grammar.NumberOnly.{NumberOnly}
+use Rattle.pipeline_language.specs.declared.grammar.NumberTotal.{NumberTotal}
+use Rattle.pipeline_language.specs.declared.grammar.OfKind.{OfKind}
+use Rattle.pipeline_language.specs.declared.grammar.Stage as stages
+use Rattle.pipeline_language.specs.declared.grammar.Summary as summaries
+use Rattle.pipeline_language.specs.declared.grammar.Terminal as terminals
+use Rattle.pipeline_language.specs.declared.grammar.Barrier as barriers
+use Rattle.pipeline_language.specs.Grammar as grammar
+use Rattle.pipeline_language.specs.Typed.{Text}
+use Rattle.pipeline_language.specs.Syntax.{Condition, Base, Inner, Summary, Barring, Stage, Joint, Terminal, BodyLine}
 
-abbrev pub function_content : Function → syntax.Function
-function_content (functions.Add n) = syntax.Add n
-function_content (functions.Mul n) = syntax.Mul n
-function_content functions.Negate = syntax.Negate
-function_content (functions.Mod n) = syntax.Mod n
-function_content functions.Length = syntax.Length
-function_content functions.Itself = syntax.Itself
+-- what has no text in it stands as it is
+abbrev pub as_read : {X : Type 0} → X → X
+as_read x = x
 
-abbrev pub condition_content : Condition → syntax.Condition
-condition_content (conditions.Less n) = syntax.Less n
-condition_content (conditions.Greater n) = syntax.Greater n
-condition_content (conditions.Equals n) = syntax.Equals n
-condition_content (conditions.Divisible n) = syntax.Divisible n
-condition_content conditions.Empty = syntax.Empty
-condition_content (conditions.Starts front) = syntax.Starts front.now
-condition_content (conditions.Longer n) = syntax.Longer n
+abbrev pub text_content : Text → List ℕ
+text_content text = text.now
 
-abbrev pub base_content : Base → syntax.Base
-base_content bases.Count = syntax.CountItems
-base_content bases.Sum = syntax.SumItems
-base_content bases.Max = syntax.Greatest
-base_content bases.Min = syntax.Least
-base_content bases.First = syntax.FirstItem
-base_content bases.ToList = syntax.ItemList
-base_content (bases.Joining between) = syntax.Joined between.now
+abbrev pub condition_content : conditions.Condition Text → Condition
+condition_content p = grammar.condition text_content p
 
-abbrev pub inner_content : Inner → syntax.Inner
-inner_content (inners.Base base) = syntax.InnerBase (base_content base)
-inner_content (inners.Mapping f base) = syntax.InnerMapped (function_content f) (base_content base)
-inner_content (inners.Filtering p base) = syntax.InnerFiltered (condition_content p) (base_content base)
+abbrev pub LentBase : Type 0
+LentBase = bases.Base (OfKind NumberOnly Text)
 
-abbrev pub summary_content : Summary → syntax.Summary
-summary_content (summaries.Base base) = syntax.OfBase (base_content base)
-summary_content (summaries.Mapping f inner) = syntax.Mapped (function_content f) (inner_content inner)
-summary_content (summaries.Filtering p inner) = syntax.Filtered (condition_content p) (inner_content inner)
-summary_content (summaries.GroupBy f inner) = syntax.Grouped (function_content f) (inner_content inner)
+abbrev pub base_content : LentBase → Base
+base_content b = grammar.base (grammar.of_kind as_read text_content) b
 
-abbrev pub merge_content : Merge → syntax.Merge
-merge_content merges.First = syntax.KeepFirst
-merge_content merges.Last = syntax.KeepLast
-merge_content merges.Sum = syntax.AddUp
-merge_content merges.Max = syntax.KeepGreatest
-merge_content merges.Min = syntax.KeepLeast
+abbrev pub LentInner : Type 0
+LentInner = inners.Inner (Function × LentBase) (conditions.Condition Text) LentBase
 
-abbrev pub expansion_content : Expansion → syntax.Expansion
-expansion_content (expansions.Repeat n) = syntax.Copies n
-expansion_content expansions.Words = syntax.Pieces
+abbrev pub inner_content : LentInner → Inner
+inner_content inner = grammar.inner (λ m. (m.0, base_content m.1)) condition_content base_content inner
 
-abbrev pub stage_content : Stage → syntax.Stage
-stage_content (stages.Map f) = syntax.MapBy (function_content f)
-stage_content (stages.Filter p) = syntax.FilterBy (condition_content p)
-stage_content (stages.FlatMap expansion) = syntax.ExpandBy (expansion_content expansion)
-stage_content stages.Distinct = syntax.Distinct
-stage_content (stages.Limit n) = syntax.Limit n
-stage_content (stages.Skip n) = syntax.Skip n
-stage_content (stages.TakeWhile p) = syntax.TakeWhile (condition_content p)
-stage_content (stages.DropWhile p) = syntax.DropWhile (condition_content p)
+abbrev pub LentSummary : Type 0
+LentSummary = summaries.Summary Function (Function × LentInner) (conditions.Condition Text) LentBase LentInner
 
-abbrev pub joint_content : Joint → syntax.Joint
-joint_content (joints.Plain between) = syntax.Plain between.now
-joint_content (joints.Within between front back) = syntax.Within between.now front.now back.now
+abbrev pub summary_content : LentSummary → Summary
+summary_content summary = grammar.summary as_read (λ m. (m.0, inner_content m.1)) condition_content base_content inner_content summary
 
-abbrev pub terminal_content : Terminal → syntax.Terminal
-terminal_content terminals.Sum = syntax.Sum
-terminal_content terminals.Product = syntax.Product
-terminal_content terminals.Max = syntax.Max
-terminal_content terminals.Min = syntax.Min
-terminal_content terminals.Count = syntax.Count
-terminal_content terminals.FindFirst = syntax.FindFirst
-terminal_content terminals.ToList = syntax.ToList
-terminal_content (terminals.AllMatch p) = syntax.AllMatch (condition_content p)
-terminal_content (terminals.AnyMatch p) = syntax.AnyMatch (condition_content p)
-terminal_content (terminals.NoneMatch p) = syntax.NoneMatch (condition_content p)
-terminal_content (terminals.Joining joint) = syntax.Joining (joint_content joint)
-terminal_content (terminals.GroupBy f c) = syntax.GroupBy (function_content f) (summary_content c)
-terminal_content (terminals.Partition p c) = syntax.Partition (condition_content p) (summary_content c)
-terminal_content (terminals.ToMap key value merge) = syntax.ToMap (function_content key) (function_content value) (merge_content merge)
-terminal_content (terminals.ToMapStrict key value) = syntax.ToMapStrict (function_content key) (function_content value)
-terminal_content (terminals.Teeing one other) = syntax.Teeing (summary_content one) (summary_content other)
+abbrev pub barrier_content : barriers.Barrier (conditions.Condition Text) → Barring
+barrier_content barrier = grammar.barrier condition_content barrier
 
-abbrev pub stage_line_content : Stage → syntax.BodyLine
-stage_line_content stage = syntax.StageLine (stage_content stage)
+abbrev pub LentStage : Type 0
+LentStage = stages.Stage Function (conditions.Condition Text) Expansion
 
-abbrev pub terminal_line_content : Terminal → syntax.BodyLine
-terminal_line_content terminal = syntax.TerminalLine (terminal_content terminal)
+abbrev pub stage_content : LentStage → Stage
+stage_content stage = grammar.stage as_read condition_content as_read stage
 
-abbrev pub body_line_content : BodyLine → syntax.BodyLine
-body_line_content (body_lines.Stage stage) = syntax.StageLine (stage_content stage)
-body_line_content (body_lines.Terminal terminal) = syntax.TerminalLine (terminal_content terminal)
+abbrev pub joint_content : joints.Joint Text → Joint
+joint_content joint = grammar.joint text_content joint
+
+abbrev pub LentTerminal : Type 0
+LentTerminal = terminals.Terminal Function (conditions.Condition Text) LentSummary (Function × Merge) (OfKind NumberTotal (joints.Joint Text))
+
+abbrev pub terminal_content : LentTerminal → Terminal
+terminal_content terminal = grammar.terminal as_read condition_content summary_content as_read (grammar.of_kind as_read joint_content) terminal
+
+abbrev pub body_line_content : lines.Line LentStage LentTerminal → BodyLine
+body_line_content line = grammar.line stage_content terminal_content line
+
+abbrev pub stage_line_content : LentStage → BodyLine
+stage_line_content stage = body_line_content (body_lines.Stage stage)
+
+abbrev pub terminal_line_content : LentTerminal → BodyLine
+terminal_line_content terminal = body_line_content (body_lines.Terminal terminal)

@@ -5,90 +5,64 @@ use Rattle.pipeline_language.specs.declared.version.Version.{Version}
 use Rattle.pipeline_language.specs.declared.version.Version.TheVariants.{One, Two}
 use Rattle.pipeline_language.specs.Steps.{steps_up}
 use Rattle.pipeline_language.specs.Form.{Slot, Name, EitherName, Number, AnyWord, number, natural, divisor, Forms, all_known}
+pub use Rattle.pipeline_language.specs.declared.grammar.Barrier.TheVariants.{Distinct, Limit, Skip, TakeWhile, DropWhile}
+use Rattle.pipeline_language.specs.declared.grammar.Base.TheVariants as bases
+pub use Rattle.pipeline_language.specs.declared.grammar.Condition.TheVariants.{Less, Greater, Equals, Divisible, Empty, Starts, Longer}
+pub use Rattle.pipeline_language.specs.declared.grammar.Expansion.{Expansion}
+pub use Rattle.pipeline_language.specs.declared.grammar.Expansion.TheVariants.{Repeat, Words}
+pub use Rattle.pipeline_language.specs.declared.grammar.Function.{Function}
+pub use Rattle.pipeline_language.specs.declared.grammar.Function.TheVariants.{Add, Mul, Negate, Mod, Length, Itself}
+use Rattle.pipeline_language.specs.declared.grammar.Inner.TheVariants as inners
+pub use Rattle.pipeline_language.specs.declared.grammar.Joint.TheVariants.{Plain, Within}
+use Rattle.pipeline_language.specs.declared.grammar.Line.TheVariants as body_lines
+pub use Rattle.pipeline_language.specs.declared.grammar.Merge.{Merge}
+use Rattle.pipeline_language.specs.declared.grammar.Merge.TheVariants as merges
+use Rattle.pipeline_language.specs.declared.grammar.NumberOnly.TheVariants as only
+use Rattle.pipeline_language.specs.declared.grammar.NumberTotal.TheVariants as totals
+pub use Rattle.pipeline_language.specs.declared.grammar.OfKind.TheVariants.{OfNumbers, OfTexts}
+pub use Rattle.pipeline_language.specs.declared.grammar.Stage.TheVariants.{Map, Filter, FlatMap, Barrier}
+use Rattle.pipeline_language.specs.declared.grammar.Summary.TheVariants as summaries
+pub use Rattle.pipeline_language.specs.declared.grammar.Terminal.TheVariants.{Count, FindFirst, ToList, AllMatch, AnyMatch, NoneMatch, GroupBy, Partition, ToMap, ToMapStrict, Teeing, Own}
+use Rattle.pipeline_language.specs.declared.grammar.Barrier as barrier_types
+use Rattle.pipeline_language.specs.declared.grammar.Base as base_types
+use Rattle.pipeline_language.specs.declared.grammar.Condition as condition_types
+use Rattle.pipeline_language.specs.declared.grammar.Inner as inner_types
+use Rattle.pipeline_language.specs.declared.grammar.Joint as joint_types
+use Rattle.pipeline_language.specs.declared.grammar.Line as line_types
+use Rattle.pipeline_language.specs.declared.grammar.NumberOnly.{NumberOnly}
+use Rattle.pipeline_language.specs.declared.grammar.NumberTotal.{NumberTotal}
+use Rattle.pipeline_language.specs.declared.grammar.OfKind.{OfKind}
+use Rattle.pipeline_language.specs.declared.grammar.Stage as stage_types
+use Rattle.pipeline_language.specs.declared.grammar.Summary as summary_types
+use Rattle.pipeline_language.specs.declared.grammar.Terminal as terminal_types
 
--- A number stands for itself, a text for its bytes.
-pub data Function : Type 0 where
-  Add : ℤ → Function
-  Mul : ℤ → Function
-  Negate : Function
-  Mod : ℤ → Function
-  Length : Function
-  Itself : Function
-
-pub data Condition : Type 0 where
-  Less : ℤ → Condition
-  Greater : ℤ → Condition
-  Equals : ℤ → Condition
-  Divisible : ℤ → Condition
-  Empty : Condition
-  Starts : List ℕ → Condition
-  Longer : ℕ → Condition
+-- The things of a line are those that are read, and a text in them stands by its bytes.
+abbrev pub Condition : Type 0
+Condition = condition_types.Condition (List ℕ)
 
 -- what is made of items at once
-pub data Base : Type 0 where
-  CountItems : Base
-  SumItems : Base
-  Greatest : Base
-  Least : Base
-  FirstItem : Base
-  ItemList : Base
-  Joined : List ℕ → Base
+abbrev pub Base : Type 0
+Base = base_types.Base (OfKind NumberOnly (List ℕ))
 
--- what is made of them inside another collector: at once, of their values, or of those that pass
-pub data Inner : Type 0 where
-  InnerBase : Base → Inner
-  InnerMapped : Function → Base → Inner
-  InnerFiltered : Condition → Base → Inner
+-- what is made of them inside another collector
+abbrev pub Inner : Type 0
+Inner = inner_types.Inner (Function × Base) Condition Base
 
--- what is made of them: at once, of their values, of those that pass, or of those of each key
-pub data Summary : Type 0 where
-  OfBase : Base → Summary
-  Mapped : Function → Inner → Summary
-  Filtered : Condition → Inner → Summary
-  Grouped : Function → Inner → Summary
+-- what is made of them
+abbrev pub Summary : Type 0
+Summary = summary_types.Summary Function (Function × Inner) Condition Base Inner
 
-pub data Merge : Type 0 where
-  KeepFirst : Merge
-  KeepLast : Merge
-  AddUp : Merge
-  KeepGreatest : Merge
-  KeepLeast : Merge
+abbrev pub Barring : Type 0
+Barring = barrier_types.Barrier Condition
 
-pub data Expansion : Type 0 where
-  Copies : ℕ → Expansion
-  Pieces : Expansion
+abbrev pub Stage : Type 0
+Stage = stage_types.Stage Function Condition Expansion
 
-pub data Stage : Type 0 where
-  MapBy : Function → Stage
-  FilterBy : Condition → Stage
-  ExpandBy : Expansion → Stage
-  Distinct : Stage
-  Limit : ℕ → Stage
-  Skip : ℕ → Stage
-  TakeWhile : Condition → Stage
-  DropWhile : Condition → Stage
+abbrev pub Joint : Type 0
+Joint = joint_types.Joint (List ℕ)
 
-pub data Joint : Type 0 where
-  Plain : List ℕ → Joint
-  Within : List ℕ → List ℕ → List ℕ → Joint
-
-pub data Terminal : Type 0 where
-  Sum : Terminal
-  Product : Terminal
-  Max : Terminal
-  Min : Terminal
-  Count : Terminal
-  FindFirst : Terminal
-  ToList : Terminal
-  AllMatch : Condition → Terminal
-  AnyMatch : Condition → Terminal
-  NoneMatch : Condition → Terminal
-  Joining : Joint → Terminal
-  GroupBy : Function → Summary → Terminal
-  Partition : Condition → Summary → Terminal
-  ToMap : Function → Function → Merge → Terminal
-  ToMapStrict : Function → Function → Terminal
-  Teeing : Summary → Summary → Terminal
+abbrev pub Terminal : Type 0
+Terminal = terminal_types.Terminal Function Condition Summary (Function × Merge) (OfKind NumberTotal Joint)
 
 pub data Origin : Type 0 where
   Range : ℤ → ℤ → Origin
@@ -117,49 +91,49 @@ condition_slots (Longer n) = Name (codes "longer") ∷ natural n ∷ []
 
 -- BASE
 abbrev pub base_slots : Base → List Slot
-base_slots CountItems = EitherName (codes "count") (codes "counting") ∷ []
-base_slots SumItems = Name (codes "sum") ∷ []
-base_slots Greatest = Name (codes "max") ∷ []
-base_slots Least = Name (codes "min") ∷ []
-base_slots FirstItem = Name (codes "first") ∷ []
-base_slots ItemList = Name (codes "tolist") ∷ []
-base_slots (Joined between) = Name (codes "joining") ∷ AnyWord between ∷ []
+base_slots bases.Count = EitherName (codes "count") (codes "counting") ∷ []
+base_slots (bases.Own (OfNumbers only.Sum)) = Name (codes "sum") ∷ []
+base_slots (bases.Own (OfNumbers only.Max)) = Name (codes "max") ∷ []
+base_slots (bases.Own (OfNumbers only.Min)) = Name (codes "min") ∷ []
+base_slots bases.First = Name (codes "first") ∷ []
+base_slots bases.ToList = Name (codes "tolist") ∷ []
+base_slots (bases.Own (OfTexts between)) = Name (codes "joining") ∷ AnyWord between ∷ []
 
 -- INNER
 abbrev pub inner_slots : Inner → List Slot
-inner_slots (InnerBase base) = base_slots base
-inner_slots (InnerMapped f base) = Name (codes "mapping") ∷ function_slots f ++ base_slots base
-inner_slots (InnerFiltered p base) = Name (codes "filtering") ∷ condition_slots p ++ base_slots base
+inner_slots (inners.Base base) = base_slots base
+inner_slots (inners.Mapping (f, base)) = Name (codes "mapping") ∷ function_slots f ++ base_slots base
+inner_slots (inners.Filtering p base) = Name (codes "filtering") ∷ condition_slots p ++ base_slots base
 
 -- COLL
 abbrev pub summary_slots : Summary → List Slot
-summary_slots (OfBase base) = base_slots base
-summary_slots (Mapped f inner) = Name (codes "mapping") ∷ function_slots f ++ inner_slots inner
-summary_slots (Filtered p inner) = Name (codes "filtering") ∷ condition_slots p ++ inner_slots inner
-summary_slots (Grouped f inner) = Name (codes "groupby") ∷ function_slots f ++ inner_slots inner
+summary_slots (summaries.Base base) = base_slots base
+summary_slots (summaries.Mapping (f, inner)) = Name (codes "mapping") ∷ function_slots f ++ inner_slots inner
+summary_slots (summaries.Filtering p inner) = Name (codes "filtering") ∷ condition_slots p ++ inner_slots inner
+summary_slots (summaries.GroupBy f inner) = Name (codes "groupby") ∷ function_slots f ++ inner_slots inner
 
 -- MERGE
 abbrev pub merge_slots : Merge → List Slot
-merge_slots KeepFirst = Name (codes "first") ∷ []
-merge_slots KeepLast = Name (codes "last") ∷ []
-merge_slots AddUp = Name (codes "sum") ∷ []
-merge_slots KeepGreatest = Name (codes "max") ∷ []
-merge_slots KeepLeast = Name (codes "min") ∷ []
+merge_slots merges.First = Name (codes "first") ∷ []
+merge_slots merges.Last = Name (codes "last") ∷ []
+merge_slots merges.Sum = Name (codes "sum") ∷ []
+merge_slots merges.Max = Name (codes "max") ∷ []
+merge_slots merges.Min = Name (codes "min") ∷ []
 
 -- what `flatmap` puts in an item's place
 abbrev pub expansion_slots : Expansion → List Slot
-expansion_slots (Copies n) = Name (codes "repeat") ∷ Number (pos 0) (pos 1000) (pos n) ∷ []
-expansion_slots Pieces = Name (codes "words") ∷ []
+expansion_slots (Repeat n) = Name (codes "repeat") ∷ Number (pos 0) (pos 1000) (pos n) ∷ []
+expansion_slots Words = Name (codes "words") ∷ []
 
 abbrev pub stage_slots : Stage → List Slot
-stage_slots (MapBy f) = Name (codes "map") ∷ function_slots f
-stage_slots (FilterBy p) = Name (codes "filter") ∷ condition_slots p
-stage_slots (ExpandBy expansion) = Name (codes "flatmap") ∷ expansion_slots expansion
-stage_slots Distinct = Name (codes "distinct") ∷ []
-stage_slots (Limit n) = Name (codes "limit") ∷ natural n ∷ []
-stage_slots (Skip n) = Name (codes "skip") ∷ natural n ∷ []
-stage_slots (TakeWhile p) = Name (codes "takewhile") ∷ condition_slots p
-stage_slots (DropWhile p) = Name (codes "dropwhile") ∷ condition_slots p
+stage_slots (Map f) = Name (codes "map") ∷ function_slots f
+stage_slots (Filter p) = Name (codes "filter") ∷ condition_slots p
+stage_slots (FlatMap expansion) = Name (codes "flatmap") ∷ expansion_slots expansion
+stage_slots (Barrier Distinct) = Name (codes "distinct") ∷ []
+stage_slots (Barrier (Limit n)) = Name (codes "limit") ∷ natural n ∷ []
+stage_slots (Barrier (Skip n)) = Name (codes "skip") ∷ natural n ∷ []
+stage_slots (Barrier (TakeWhile p)) = Name (codes "takewhile") ∷ condition_slots p
+stage_slots (Barrier (DropWhile p)) = Name (codes "dropwhile") ∷ condition_slots p
 
 -- what follows the name `joining` of a terminal: the text between, or also a front and a back
 abbrev pub joint_slots : Joint → List Slot
@@ -167,20 +141,20 @@ joint_slots (Plain between) = AnyWord between ∷ []
 joint_slots (Within between front back) = AnyWord between ∷ AnyWord front ∷ AnyWord back ∷ []
 
 abbrev pub terminal_slots : Terminal → List Slot
-terminal_slots Sum = Name (codes "sum") ∷ []
-terminal_slots Product = Name (codes "product") ∷ []
-terminal_slots Max = Name (codes "max") ∷ []
-terminal_slots Min = Name (codes "min") ∷ []
+terminal_slots (Own (OfNumbers totals.Sum)) = Name (codes "sum") ∷ []
+terminal_slots (Own (OfNumbers totals.Product)) = Name (codes "product") ∷ []
+terminal_slots (Own (OfNumbers totals.Max)) = Name (codes "max") ∷ []
+terminal_slots (Own (OfNumbers totals.Min)) = Name (codes "min") ∷ []
 terminal_slots Count = Name (codes "count") ∷ []
 terminal_slots FindFirst = Name (codes "findfirst") ∷ []
 terminal_slots ToList = Name (codes "tolist") ∷ []
 terminal_slots (AllMatch p) = Name (codes "allmatch") ∷ condition_slots p
 terminal_slots (AnyMatch p) = Name (codes "anymatch") ∷ condition_slots p
 terminal_slots (NoneMatch p) = Name (codes "nonematch") ∷ condition_slots p
-terminal_slots (Joining joint) = Name (codes "joining") ∷ joint_slots joint
+terminal_slots (Own (OfTexts joint)) = Name (codes "joining") ∷ joint_slots joint
 terminal_slots (GroupBy f summary) = Name (codes "groupby") ∷ function_slots f ++ summary_slots summary
 terminal_slots (Partition p summary) = Name (codes "partition") ∷ condition_slots p ++ summary_slots summary
-terminal_slots (ToMap key value merge) = Name (codes "tomap") ∷ function_slots key ++ (function_slots value ++ merge_slots merge)
+terminal_slots (ToMap key (value, merge)) = Name (codes "tomap") ∷ function_slots key ++ (function_slots value ++ merge_slots merge)
 terminal_slots (ToMapStrict key value) = Name (codes "tomapstrict") ∷ function_slots key ++ function_slots value
 terminal_slots (Teeing one other) = Name (codes "teeing") ∷ summary_slots one ++ summary_slots other
 
@@ -210,10 +184,10 @@ has_new_names One = false
 has_new_names Two = true
 
 abbrev pub summary_known : Version → Summary → Bool
-summary_known version (OfBase base) = true
-summary_known version (Mapped f inner) = has_new_names version
-summary_known version (Filtered p inner) = has_new_names version
-summary_known version (Grouped f inner) = has_new_names version
+summary_known version (summaries.Base base) = true
+summary_known version (summaries.Mapping (f, inner)) = has_new_names version
+summary_known version (summaries.Filtering p inner) = has_new_names version
+summary_known version (summaries.GroupBy f inner) = has_new_names version
 
 abbrev pub terminal_known : Version → Terminal → Bool
 terminal_known version (GroupBy f summary) = summary_known version summary
@@ -275,101 +249,89 @@ condition_takes kind Empty = is_text kind
 condition_takes kind (Starts front) = is_text kind
 condition_takes kind (Longer n) = is_text kind
 
+-- what stands for one kind alone
+abbrev pub own_takes : {N T : Type 0} → Kind → OfKind N T → Bool
+own_takes kind (OfNumbers x) = is_number kind
+own_takes kind (OfTexts x) = is_text kind
+
 abbrev pub base_takes : Kind → Base → Bool
-base_takes kind CountItems = true
-base_takes kind SumItems = is_number kind
-base_takes kind Greatest = is_number kind
-base_takes kind Least = is_number kind
-base_takes kind FirstItem = true
-base_takes kind ItemList = true
-base_takes kind (Joined between) = is_text kind
+base_takes kind (bases.Own own) = own_takes kind own
+base_takes kind base = true
 
 -- Behind a function come items of the kind of its values.
 abbrev pub inner_takes : Kind → Inner → Bool
-inner_takes kind (InnerBase base) = base_takes kind base
-inner_takes kind (InnerMapped f base) = function_takes kind f && base_takes (value_kind kind f) base
-inner_takes kind (InnerFiltered p base) = condition_takes kind p && base_takes kind base
+inner_takes kind (inners.Base base) = base_takes kind base
+inner_takes kind (inners.Mapping (f, base)) = function_takes kind f && base_takes (value_kind kind f) base
+inner_takes kind (inners.Filtering p base) = condition_takes kind p && base_takes kind base
 
 abbrev pub summary_takes : Kind → Summary → Bool
-summary_takes kind (OfBase base) = base_takes kind base
-summary_takes kind (Mapped f inner) = function_takes kind f && inner_takes (value_kind kind f) inner
-summary_takes kind (Filtered p inner) = condition_takes kind p && inner_takes kind inner
-summary_takes kind (Grouped f inner) = function_takes kind f && inner_takes kind inner
+summary_takes kind (summaries.Base base) = base_takes kind base
+summary_takes kind (summaries.Mapping (f, inner)) = function_takes kind f && inner_takes (value_kind kind f) inner
+summary_takes kind (summaries.Filtering p inner) = condition_takes kind p && inner_takes kind inner
+summary_takes kind (summaries.GroupBy f inner) = function_takes kind f && inner_takes kind inner
 
 abbrev pub merge_takes : Kind → Merge → Bool
-merge_takes kind KeepFirst = true
-merge_takes kind KeepLast = true
-merge_takes kind AddUp = is_number kind
-merge_takes kind KeepGreatest = is_number kind
-merge_takes kind KeepLeast = is_number kind
+merge_takes kind merges.First = true
+merge_takes kind merges.Last = true
+merge_takes kind merges.Sum = is_number kind
+merge_takes kind merges.Max = is_number kind
+merge_takes kind merges.Min = is_number kind
 
 abbrev pub expansion_takes : Kind → Expansion → Bool
-expansion_takes kind (Copies n) = true
-expansion_takes kind Pieces = is_text kind
+expansion_takes kind (Repeat n) = true
+expansion_takes kind Words = is_text kind
+
+abbrev pub barrier_takes : Kind → Barring → Bool
+barrier_takes kind (TakeWhile p) = condition_takes kind p
+barrier_takes kind (DropWhile p) = condition_takes kind p
+barrier_takes kind barrier = true
 
 abbrev pub stage_takes : Kind → Stage → Bool
-stage_takes kind (MapBy f) = function_takes kind f
-stage_takes kind (FilterBy p) = condition_takes kind p
-stage_takes kind (ExpandBy expansion) = expansion_takes kind expansion
-stage_takes kind Distinct = true
-stage_takes kind (Limit n) = true
-stage_takes kind (Skip n) = true
-stage_takes kind (TakeWhile p) = condition_takes kind p
-stage_takes kind (DropWhile p) = condition_takes kind p
+stage_takes kind (Map f) = function_takes kind f
+stage_takes kind (Filter p) = condition_takes kind p
+stage_takes kind (FlatMap expansion) = expansion_takes kind expansion
+stage_takes kind (Barrier barrier) = barrier_takes kind barrier
 
 -- the kind of the items after a stage
 abbrev pub kind_after : Kind → Stage → Kind
-kind_after kind (MapBy f) = value_kind kind f
-kind_after kind (FilterBy p) = kind
-kind_after kind (ExpandBy expansion) = kind
-kind_after kind Distinct = kind
-kind_after kind (Limit n) = kind
-kind_after kind (Skip n) = kind
-kind_after kind (TakeWhile p) = kind
-kind_after kind (DropWhile p) = kind
+kind_after kind (Map f) = value_kind kind f
+kind_after kind stage = kind
 
 abbrev pub terminal_takes : Kind → Terminal → Bool
-terminal_takes kind Sum = is_number kind
-terminal_takes kind Product = is_number kind
-terminal_takes kind Max = is_number kind
-terminal_takes kind Min = is_number kind
-terminal_takes kind Count = true
-terminal_takes kind FindFirst = true
-terminal_takes kind ToList = true
 terminal_takes kind (AllMatch p) = condition_takes kind p
 terminal_takes kind (AnyMatch p) = condition_takes kind p
 terminal_takes kind (NoneMatch p) = condition_takes kind p
-terminal_takes kind (Joining joint) = is_text kind
 terminal_takes kind (GroupBy f summary) = function_takes kind f && summary_takes kind summary
 terminal_takes kind (Partition p summary) = condition_takes kind p && summary_takes kind summary
-terminal_takes kind (ToMap key value merge) = function_takes kind key && (function_takes kind value && merge_takes (value_kind kind value) merge)
+terminal_takes kind (ToMap key (value, merge)) = function_takes kind key && (function_takes kind value && merge_takes (value_kind kind value) merge)
 terminal_takes kind (ToMapStrict key value) = function_takes kind key && function_takes kind value
 terminal_takes kind (Teeing one other) = summary_takes kind one && summary_takes kind other
+terminal_takes kind (Own own) = own_takes kind own
+terminal_takes kind terminal = true
 
 -- A line of the body is a stage or the terminal: the names of both stand at its first place.
-pub data BodyLine : Type 0 where
-  StageLine : Stage → BodyLine
-  TerminalLine : Terminal → BodyLine
+abbrev pub BodyLine : Type 0
+BodyLine = line_types.Line Stage Terminal
 
 abbrev pub body_slots : BodyLine → List Slot
-body_slots (StageLine stage) = stage_slots stage
-body_slots (TerminalLine terminal) = terminal_slots terminal
+body_slots (body_lines.Stage stage) = stage_slots stage
+body_slots (body_lines.Terminal terminal) = terminal_slots terminal
 
 abbrev pub body_known : Version → BodyLine → Bool
-body_known version (StageLine stage) = true
-body_known version (TerminalLine terminal) = terminal_known version terminal
+body_known version (body_lines.Stage stage) = true
+body_known version (body_lines.Terminal terminal) = terminal_known version terminal
 
 abbrev pub body_takes : Kind → BodyLine → Bool
-body_takes kind (StageLine stage) = stage_takes kind stage
-body_takes kind (TerminalLine terminal) = terminal_takes kind terminal
+body_takes kind (body_lines.Stage stage) = stage_takes kind stage
+body_takes kind (body_lines.Terminal terminal) = terminal_takes kind terminal
 
 abbrev pub most_stages : ℕ
 most_stages = 32
 
 -- a stage has its place among the first 32
 abbrev pub has_room : ℕ → BodyLine → Bool
-has_room before (StageLine stage) = nat_lt before most_stages
-has_room before (TerminalLine terminal) = true
+has_room before (body_lines.Stage stage) = nat_lt before most_stages
+has_room before (body_lines.Terminal terminal) = true
 
 -- What comes to a line of a file of a version: items of a kind, from so many stages.
 pub record Coming : Type 0 where

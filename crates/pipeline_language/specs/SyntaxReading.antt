@@ -4,7 +4,14 @@ use Rattle.file_words.specs.declared.fault.FileError.{FileError}
 use Rattle.pipeline_language.specs.declared.version.Version.{Version}
 use Rattle.pipeline_language.specs.declared.version.Version.TheVariants.{One, Two}
 use Rattle.file_words.specs.Words.{lowest, highest}
-use Rattle.pipeline_language.specs.Syntax.{Function, Add, Mul, Negate, Mod, Length, Itself, Condition, Less, Greater, Equals, Divisible, Empty, Starts, Longer, Base, CountItems, SumItems, Greatest, Least, FirstItem, ItemList, Joined, Inner, InnerBase, InnerMapped, InnerFiltered, Summary, OfBase, Mapped, Filtered, Grouped, Merge, KeepFirst, KeepLast, AddUp, KeepGreatest, KeepLeast, Expansion, Copies, Pieces, MapBy, FilterBy, ExpandBy, Distinct, Limit, Skip, TakeWhile, DropWhile, Joint, Plain, Within, Sum, Product, Max, Min, Count, FindFirst, ToList, AllMatch, AnyMatch, NoneMatch, Joining, GroupBy, Partition, ToMap, ToMapStrict, Teeing, Origin, Range, Closed, Numbers, Lines, BodyLine, StageLine, TerminalLine}
+use Rattle.pipeline_language.specs.declared.grammar.Base.TheVariants as bases
+use Rattle.pipeline_language.specs.declared.grammar.Inner.TheVariants as inners
+use Rattle.pipeline_language.specs.declared.grammar.Line.TheVariants as body_lines
+use Rattle.pipeline_language.specs.declared.grammar.Merge.TheVariants as merges
+use Rattle.pipeline_language.specs.declared.grammar.NumberOnly.TheVariants as only
+use Rattle.pipeline_language.specs.declared.grammar.NumberTotal.TheVariants as totals
+use Rattle.pipeline_language.specs.declared.grammar.Summary.TheVariants as summaries
+use Rattle.pipeline_language.specs.Syntax.{Add, AllMatch, AnyMatch, Barrier, Count, Distinct, Divisible, DropWhile, Empty, Equals, Expansion, Filter, FindFirst, FlatMap, Function, Greater, GroupBy, Itself, Length, Less, Limit, Longer, Map, Merge, Mod, Mul, Negate, NoneMatch, OfNumbers, OfTexts, Own, Partition, Plain, Repeat, Skip, Starts, TakeWhile, Teeing, ToList, ToMap, ToMapStrict, Within, Words, Condition, Base, Inner, Summary, Joint, Origin, Range, Closed, Numbers, Lines, BodyLine}
 use Rattle.file_words.specs.WordReading.{◌>>=◌, Left, is_done, Reader, next_word, next_number, next_natural, all_numbers}
 use Rattle.pipeline_language.specs.Reading.{ByName, named, made_of, unknown, by_name, nothing, both}
 
@@ -46,14 +53,14 @@ condition_of = by_name condition_names
 
 -- BASE
 unfoldable pub base_names : ByName Base
-base_names = named (codes "count") (λ _. CountItems) nothing
-    (named (codes "counting") (λ _. CountItems) nothing
-    (named (codes "sum") (λ _. SumItems) nothing
-    (named (codes "max") (λ _. Greatest) nothing
-    (named (codes "min") (λ _. Least) nothing
-    (named (codes "first") (λ _. FirstItem) nothing
-    (named (codes "tolist") (λ _. ItemList) nothing
-    (named (codes "joining") Joined next_word
+base_names = named (codes "count") (λ _. bases.Count) nothing
+    (named (codes "counting") (λ _. bases.Count) nothing
+    (named (codes "sum") (λ _. (bases.Own (OfNumbers only.Sum))) nothing
+    (named (codes "max") (λ _. (bases.Own (OfNumbers only.Max))) nothing
+    (named (codes "min") (λ _. (bases.Own (OfNumbers only.Min))) nothing
+    (named (codes "first") (λ _. bases.First) nothing
+    (named (codes "tolist") (λ _. bases.ToList) nothing
+    (named (codes "joining") (λ t. bases.Own (OfTexts t)) next_word
     unknown)))))))
 
 unfoldable pub base_of : Reader Base
@@ -61,34 +68,34 @@ base_of = by_name base_names
 
 -- INNER
 abbrev pub inner_names : ByName Inner
-inner_names = named (codes "mapping") (λ p. InnerMapped p.0 p.1) (both function_of base_of)
-    (named (codes "filtering") (λ p. InnerFiltered p.0 p.1) (both condition_of base_of)
-    (made_of InnerBase base_names))
+inner_names = named (codes "mapping") inners.Mapping (both function_of base_of)
+    (named (codes "filtering") (λ p. inners.Filtering p.0 p.1) (both condition_of base_of)
+    (made_of inners.Base base_names))
 
 unfoldable pub inner_of : Reader Inner
 inner_of = by_name inner_names
 
 -- COLL
 abbrev pub nesting_summary_names : ByName Summary
-nesting_summary_names = named (codes "mapping") (λ p. Mapped p.0 p.1) (both function_of inner_of)
-    (named (codes "filtering") (λ p. Filtered p.0 p.1) (both condition_of inner_of)
-    (named (codes "groupby") (λ p. Grouped p.0 p.1) (both function_of inner_of)
-    (made_of OfBase base_names)))
+nesting_summary_names = named (codes "mapping") summaries.Mapping (both function_of inner_of)
+    (named (codes "filtering") (λ p. summaries.Filtering p.0 p.1) (both condition_of inner_of)
+    (named (codes "groupby") (λ p. summaries.GroupBy p.0 p.1) (both function_of inner_of)
+    (made_of summaries.Base base_names)))
 
 unfoldable pub nesting_summary_of : Reader Summary
 nesting_summary_of = by_name nesting_summary_names
 
 abbrev pub summary_of : Version → Reader Summary
-summary_of One left = base_of left >>= λ base. Ok (OfBase base.0, base.1)
+summary_of One left = base_of left >>= λ base. Ok (summaries.Base base.0, base.1)
 summary_of Two left = nesting_summary_of left
 
 -- MERGE
 abbrev pub merge_names : ByName Merge
-merge_names = named (codes "first") (λ _. KeepFirst) nothing
-    (named (codes "last") (λ _. KeepLast) nothing
-    (named (codes "sum") (λ _. AddUp) nothing
-    (named (codes "max") (λ _. KeepGreatest) nothing
-    (named (codes "min") (λ _. KeepLeast) nothing
+merge_names = named (codes "first") (λ _. merges.First) nothing
+    (named (codes "last") (λ _. merges.Last) nothing
+    (named (codes "sum") (λ _. merges.Sum) nothing
+    (named (codes "max") (λ _. merges.Max) nothing
+    (named (codes "min") (λ _. merges.Min) nothing
     unknown))))
 
 unfoldable pub merge_of : Reader Merge
@@ -96,8 +103,8 @@ merge_of = by_name merge_names
 
 -- what `flatmap` puts in an item's place
 abbrev pub expansion_names : ByName Expansion
-expansion_names = named (codes "repeat") Copies (next_natural (pos 1000))
-    (named (codes "words") (λ _. Pieces) nothing
+expansion_names = named (codes "repeat") Repeat (next_natural (pos 1000))
+    (named (codes "words") (λ _. Words) nothing
     unknown)
 
 unfoldable pub expansion_of : Reader Expansion
@@ -115,42 +122,42 @@ joint_of left = next_word left >>= λ between. joint_after between.0 between.1
 -- with a test or texts between, and of those that stand alone. Before them all stand the names of stages.
 unfoldable pub new_terminal_names : Version → ByName BodyLine
 new_terminal_names One = unknown
-new_terminal_names Two = named (codes "tomapstrict") (λ p. TerminalLine (ToMapStrict p.0 p.1)) (both function_of function_of)
+new_terminal_names Two = named (codes "tomapstrict") (λ p. body_lines.Terminal (ToMapStrict p.0 p.1)) (both function_of function_of)
     unknown
 
 unfoldable pub collecting_names : Version → ByName BodyLine
-collecting_names version = named (codes "groupby") (λ p. TerminalLine (GroupBy p.0 p.1)) (both function_of (summary_of version))
-    (named (codes "partition") (λ p. TerminalLine (Partition p.0 p.1)) (both condition_of (summary_of version))
-    (named (codes "tomap") (λ p. TerminalLine (ToMap p.0 p.1.0 p.1.1)) (both function_of (both function_of merge_of))
-    (named (codes "teeing") (λ p. TerminalLine (Teeing p.0 p.1)) (both (summary_of version) (summary_of version))
+collecting_names version = named (codes "groupby") (λ p. body_lines.Terminal (GroupBy p.0 p.1)) (both function_of (summary_of version))
+    (named (codes "partition") (λ p. body_lines.Terminal (Partition p.0 p.1)) (both condition_of (summary_of version))
+    (named (codes "tomap") (λ p. body_lines.Terminal (ToMap p.0 p.1)) (both function_of (both function_of merge_of))
+    (named (codes "teeing") (λ p. body_lines.Terminal (Teeing p.0 p.1)) (both (summary_of version) (summary_of version))
     (new_terminal_names version))))
 
 unfoldable pub asking_names : Version → ByName BodyLine
-asking_names version = named (codes "allmatch") (λ p. TerminalLine (AllMatch p)) condition_of
-    (named (codes "anymatch") (λ p. TerminalLine (AnyMatch p)) condition_of
-    (named (codes "nonematch") (λ p. TerminalLine (NoneMatch p)) condition_of
-    (named (codes "joining") (λ j. TerminalLine (Joining j)) joint_of
+asking_names version = named (codes "allmatch") (λ p. body_lines.Terminal (AllMatch p)) condition_of
+    (named (codes "anymatch") (λ p. body_lines.Terminal (AnyMatch p)) condition_of
+    (named (codes "nonematch") (λ p. body_lines.Terminal (NoneMatch p)) condition_of
+    (named (codes "joining") (λ j. body_lines.Terminal (Own (OfTexts j))) joint_of
     (collecting_names version))))
 
 unfoldable pub terminal_names : Version → ByName BodyLine
-terminal_names version = named (codes "sum") (λ _. TerminalLine Sum) nothing
-    (named (codes "product") (λ _. TerminalLine Product) nothing
-    (named (codes "max") (λ _. TerminalLine Max) nothing
-    (named (codes "min") (λ _. TerminalLine Min) nothing
-    (named (codes "count") (λ _. TerminalLine Count) nothing
-    (named (codes "findfirst") (λ _. TerminalLine FindFirst) nothing
-    (named (codes "tolist") (λ _. TerminalLine ToList) nothing
+terminal_names version = named (codes "sum") (λ _. body_lines.Terminal (Own (OfNumbers totals.Sum))) nothing
+    (named (codes "product") (λ _. body_lines.Terminal (Own (OfNumbers totals.Product))) nothing
+    (named (codes "max") (λ _. body_lines.Terminal (Own (OfNumbers totals.Max))) nothing
+    (named (codes "min") (λ _. body_lines.Terminal (Own (OfNumbers totals.Min))) nothing
+    (named (codes "count") (λ _. body_lines.Terminal Count) nothing
+    (named (codes "findfirst") (λ _. body_lines.Terminal FindFirst) nothing
+    (named (codes "tolist") (λ _. body_lines.Terminal ToList) nothing
     (asking_names version)))))))
 
 unfoldable pub stage_names : ByName BodyLine → ByName BodyLine
-stage_names others = named (codes "map") (λ f. StageLine (MapBy f)) function_of
-    (named (codes "filter") (λ p. StageLine (FilterBy p)) condition_of
-    (named (codes "flatmap") (λ e. StageLine (ExpandBy e)) expansion_of
-    (named (codes "distinct") (λ _. StageLine Distinct) nothing
-    (named (codes "limit") (λ n. StageLine (Limit n)) any_natural
-    (named (codes "skip") (λ n. StageLine (Skip n)) any_natural
-    (named (codes "takewhile") (λ p. StageLine (TakeWhile p)) condition_of
-    (named (codes "dropwhile") (λ p. StageLine (DropWhile p)) condition_of
+stage_names others = named (codes "map") (λ f. body_lines.Stage (Map f)) function_of
+    (named (codes "filter") (λ p. body_lines.Stage (Filter p)) condition_of
+    (named (codes "flatmap") (λ e. body_lines.Stage (FlatMap e)) expansion_of
+    (named (codes "distinct") (λ _. body_lines.Stage (Barrier Distinct)) nothing
+    (named (codes "limit") (λ n. body_lines.Stage (Barrier (Limit n))) any_natural
+    (named (codes "skip") (λ n. body_lines.Stage (Barrier (Skip n))) any_natural
+    (named (codes "takewhile") (λ p. body_lines.Stage (Barrier (TakeWhile p))) condition_of
+    (named (codes "dropwhile") (λ p. body_lines.Stage (Barrier (DropWhile p))) condition_of
     others)))))))
 
 abbrev pub body_names : Version → ByName BodyLine

@@ -1,6 +1,7 @@
 //! The language of pipeline files: what a file means, and the reading of its lines.
 #![tactic(auto)]
 
+mod grammar;
 mod kinds;
 mod line;
 mod meaning;
@@ -8,11 +9,15 @@ mod pipeline;
 mod syntax;
 mod version;
 
+pub use grammar::{
+    Barrier, Base, Condition, Expansion, Function, Inner, Joint, Line, Merge, NumberOnly,
+    NumberTotal, OfKind, Stage, Summary, Terminal,
+};
 pub use kinds::{MOST_STAGES, NumberLine, TextLine};
 pub use line::{Source, read_number_line, read_source, read_text_line, read_version};
 pub use meaning::one_reading;
 pub use pipeline::{
-    NumberBase, NumberBody, NumberFunction, NumberInner, NumberMerge, NumberSource, NumberStage,
+    Mapped, NumberBase, NumberBody, NumberFunction, NumberInner, NumberSource, NumberStage,
     NumberSummary, NumberTerminal, NumberTest, Pipeline, TextBase, TextBody, TextEnd, TextFunction,
     TextInner, TextMerge, TextStage, TextSummary, TextTerminal, TextTest, TextValue,
 };

@@ -4,6 +4,10 @@
 ghost use Rattle.std.specs.Prelude.{◌≡◌, ◌<◌, ◌-ℤ◌};
 ghost use Rattle.pipeline_language.specs.Steps.{steps_up};
 
+use crate::grammar::{
+    Base, Expansion, Inner, Joint, Merge, NumberOnly, NumberTotal, Stage, Summary, Terminal,
+};
+
 /// A whole pipeline. Texts borrow from the file's bytes.
 #[derive(Drop)]
 pub enum Pipeline<'a> {
@@ -84,116 +88,11 @@ pub enum TextTest<'a> {
     Longer(u64),
 }
 
-/// A stage over numbers.
+/// A value of a text, and what follows by its kind: L behind the length, I behind the text itself.
 #[derive(Clone, Copy, PartialEq)]
-pub enum NumberStage {
-    Map(NumberFunction),
-    Filter(NumberTest),
-    /// So many copies of each item, at most 1,000.
-    Repeat(u64),
-    Distinct,
-    Limit(u64),
-    Skip(u64),
-    TakeWhile(NumberTest),
-    DropWhile(NumberTest),
-}
-
-/// A stage over texts that gives texts.
-#[derive(Clone, Copy, PartialEq)]
-pub enum TextStage<'a> {
-    /// `map self`.
-    MapItself,
-    Filter(TextTest<'a>),
-    /// So many copies of each item, at most 1,000.
-    Repeat(u64),
-    /// The pieces between the text's spaces.
-    Words,
-    Distinct,
-    Limit(u64),
-    Skip(u64),
-    TakeWhile(TextTest<'a>),
-    DropWhile(TextTest<'a>),
-}
-
-/// What is made of numbers at once.
-#[derive(Clone, Copy, PartialEq)]
-pub enum NumberBase {
-    /// `count`, or `counting`.
-    Count,
-    Sum,
-    Max,
-    Min,
-    First,
-    ToList,
-}
-
-/// What is made of numbers inside another collector.
-#[derive(Clone, Copy, PartialEq)]
-pub enum NumberInner {
-    Base(NumberBase),
-    /// Of the values of the numbers.
-    Mapping(NumberFunction, NumberBase),
-    /// Of the numbers that pass.
-    Filtering(NumberTest, NumberBase),
-}
-
-/// What is made of some of the numbers.
-#[derive(Clone, Copy, PartialEq)]
-pub enum NumberSummary {
-    Base(NumberBase),
-    /// Of the values of the numbers.
-    Mapping(NumberFunction, NumberInner),
-    /// Of the numbers that pass.
-    Filtering(NumberTest, NumberInner),
-    /// Of the numbers of each key.
-    GroupBy(NumberFunction, NumberInner),
-}
-
-/// What is made of texts at once.
-#[derive(Clone, Copy, PartialEq)]
-pub enum TextBase<'a> {
-    /// `count`, or `counting`.
-    Count,
-    First,
-    ToList,
-    /// The texts with this one between neighbours.
-    Joining(&'a str),
-}
-
-/// What is made of texts inside another collector.
-#[derive(Clone, Copy, PartialEq)]
-pub enum TextInner<'a> {
-    Base(TextBase<'a>),
-    /// `mapping length`: of the lengths of the texts.
-    MappingLength(NumberBase),
-    /// `mapping self`.
-    MappingItself(TextBase<'a>),
-    /// Of the texts that pass.
-    Filtering(TextTest<'a>, TextBase<'a>),
-}
-
-/// What is made of some of the texts.
-#[derive(Clone, Copy, PartialEq)]
-pub enum TextSummary<'a> {
-    Base(TextBase<'a>),
-    /// `mapping length`: of the lengths of the texts.
-    MappingLength(NumberInner),
-    /// `mapping self`.
-    MappingItself(TextInner<'a>),
-    /// Of the texts that pass.
-    Filtering(TextTest<'a>, TextInner<'a>),
-    /// Of the texts of each key.
-    GroupBy(TextFunction, TextInner<'a>),
-}
-
-/// What becomes of two numbers of one key.
-#[derive(Clone, Copy, PartialEq)]
-pub enum NumberMerge {
-    First,
-    Last,
-    Sum,
-    Max,
-    Min,
+pub enum Mapped<L, I> {
+    Length(L),
+    Itself(I),
 }
 
 /// What becomes of two texts of one key.
@@ -203,58 +102,58 @@ pub enum TextMerge {
     Last,
 }
 
+/// A stage over numbers. `flatmap` puts so many copies in a number's place.
+pub type NumberStage = Stage<NumberFunction, NumberTest, u64>;
+
+/// A stage over texts that gives texts: its map is `map self`.
+pub type TextStage<'a> = Stage<(), TextTest<'a>, Expansion>;
+
+/// What is made of numbers at once, inside another collector, and of some of them.
+pub type NumberBase = Base<NumberOnly>;
+
+pub type NumberInner = Inner<(NumberFunction, NumberBase), NumberTest, NumberBase>;
+
+pub type NumberSummary = Summary<
+    NumberFunction,
+    (NumberFunction, NumberInner),
+    NumberTest,
+    NumberBase,
+    NumberInner,
+>;
+
+/// What is made of texts at once, inside another collector, and of some of them.
+pub type TextBase<'a> = Base<&'a str>;
+
+pub type TextInner<'a> = Inner<Mapped<NumberBase, TextBase<'a>>, TextTest<'a>, TextBase<'a>>;
+
+pub type TextSummary<'a> = Summary<
+    TextFunction,
+    Mapped<NumberInner, TextInner<'a>>,
+    TextTest<'a>,
+    TextBase<'a>,
+    TextInner<'a>,
+>;
+
 /// The value that a text has in a map, and what becomes of two values of one key.
-#[derive(Clone, Copy, PartialEq)]
-pub enum TextValue {
-    Length(NumberMerge),
-    Itself(TextMerge),
-}
+pub type TextValue = Mapped<Merge, TextMerge>;
 
 /// What is made of all the numbers.
-#[derive(Clone, Copy, PartialEq)]
-pub enum NumberTerminal {
-    Sum,
-    Product,
-    Max,
-    Min,
-    Count,
-    FindFirst,
-    ToList,
-    AllMatch(NumberTest),
-    AnyMatch(NumberTest),
-    NoneMatch(NumberTest),
-    /// The groups of one key, each collected.
-    GroupBy(NumberFunction, NumberSummary),
-    Partition(NumberTest, NumberSummary),
-    /// The key, the value, and what becomes of two values of one key.
-    ToMap(NumberFunction, NumberFunction, NumberMerge),
-    /// The key and the value; no key may come twice.
-    ToMapStrict(NumberFunction, NumberFunction),
-    Teeing(NumberSummary, NumberSummary),
-}
+pub type NumberTerminal = Terminal<
+    NumberFunction,
+    NumberTest,
+    NumberSummary,
+    (NumberFunction, Merge),
+    NumberTotal,
+>;
 
 /// What is made of all the texts.
-#[derive(Clone, Copy, PartialEq)]
-pub enum TextTerminal<'a> {
-    Count,
-    FindFirst,
-    ToList,
-    AllMatch(TextTest<'a>),
-    AnyMatch(TextTest<'a>),
-    NoneMatch(TextTest<'a>),
-    /// The texts with this one between neighbours.
-    Joining(&'a str),
-    /// The same between a front and a back: `joining D P S`.
-    JoiningWithin(&'a str, &'a str, &'a str),
-    /// The groups of one key, each collected.
-    GroupBy(TextFunction, TextSummary<'a>),
-    Partition(TextTest<'a>, TextSummary<'a>),
-    /// The key, and the value with what becomes of two values of one key.
-    ToMap(TextFunction, TextValue),
-    /// The key and the value; no key may come twice.
-    ToMapStrict(TextFunction, TextFunction),
-    Teeing(TextSummary<'a>, TextSummary<'a>),
-}
+pub type TextTerminal<'a> = Terminal<
+    TextFunction,
+    TextTest<'a>,
+    TextSummary<'a>,
+    TextValue,
+    Joint<&'a str>,
+>;
 
 impl NumberSource {
     ghost use Rattle.pipeline_language.specs.Content.{number_origin};

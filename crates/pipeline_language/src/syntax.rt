@@ -1,135 +1,48 @@
 //! What a line says, name by name, before the kind of the items is asked for.
 
 ghost use Rattle.std.specs.Prelude.{Result};
-ghost use Rattle.pipeline_language.specs.LineContent.{base_content, body_line_content, condition_content, expansion_content, function_content, inner_content, joint_content, merge_content, stage_line_content, summary_content, terminal_line_content};
+ghost use Rattle.pipeline_language.specs.LineContent.{as_read, base_content, body_line_content, condition_content, inner_content, joint_content, stage_line_content, summary_content, terminal_line_content};
 ghost use Rattle.file_words.specs.WordReading.{GetsAs};
 ghost use Rattle.pipeline_language.specs.Reading.{GetsNamed, ReadAs, whole};
 ghost use Rattle.pipeline_language.specs.SyntaxReading.{asking_names, base_names, base_of, body_of, collecting_names, condition_of, expansion_of, function_of, inner_of, joint_of, merge_of, nesting_summary_of, new_terminal_names, stage_names, summary_of, terminal_names};
 ghost use Rattle.file_words.specs.Words.{words_of};
 
+use crate::grammar::{
+    Barrier, Base, Condition, Expansion, Function, Inner, Joint, Line, Merge, NumberOnly,
+    NumberTotal, OfKind, Stage, Summary, Terminal,
+};
 use crate::version::Version;
 use file_words::{FileError, Words};
 
-/// A function of either kind.
-#[derive(Clone, Copy)]
-pub(crate) enum Function {
-    Add(i64),
-    Mul(i64),
-    Negate,
-    Mod(i64),
-    Length,
-    Itself,
-}
+pub(crate) type AnyCondition<'a> = Condition<&'a str>;
 
-/// A test of either kind.
-#[derive(Clone, Copy)]
-pub(crate) enum Condition<'a> {
-    Less(i64),
-    Greater(i64),
-    Equals(i64),
-    Divisible(i64),
-    Empty,
-    Starts(&'a str),
-    Longer(u64),
-}
+pub(crate) type AnyBase<'a> = Base<OfKind<NumberOnly, &'a str>>;
 
-/// What is made at once of items of either kind.
-#[derive(Clone, Copy)]
-pub(crate) enum Base<'a> {
-    Count,
-    Sum,
-    Max,
-    Min,
-    First,
-    ToList,
-    Joining(&'a str),
-}
+pub(crate) type AnyInner<'a> = Inner<(Function, AnyBase<'a>), AnyCondition<'a>, AnyBase<'a>>;
 
-/// A collector of either kind that stands inside another.
-#[derive(Clone, Copy)]
-pub(crate) enum Inner<'a> {
-    Base(Base<'a>),
-    Mapping(Function, Base<'a>),
-    Filtering(Condition<'a>, Base<'a>),
-}
+pub(crate) type AnySummary<'a> = Summary<
+    Function,
+    (Function, AnyInner<'a>),
+    AnyCondition<'a>,
+    AnyBase<'a>,
+    AnyInner<'a>,
+>;
 
-/// A collector of either kind.
-#[derive(Clone, Copy)]
-pub(crate) enum Summary<'a> {
-    Base(Base<'a>),
-    Mapping(Function, Inner<'a>),
-    Filtering(Condition<'a>, Inner<'a>),
-    GroupBy(Function, Inner<'a>),
-}
+pub(crate) type AnyStage<'a> = Stage<Function, AnyCondition<'a>, Expansion>;
 
-/// A merge function of either kind.
-#[derive(Clone, Copy)]
-pub(crate) enum Merge {
-    First,
-    Last,
-    Sum,
-    Max,
-    Min,
-}
+pub(crate) type AnyTerminal<'a> = Terminal<
+    Function,
+    AnyCondition<'a>,
+    AnySummary<'a>,
+    (Function, Merge),
+    OfKind<NumberTotal, Joint<&'a str>>,
+>;
 
-/// What `flatmap` puts in an item's place.
-#[derive(Clone, Copy)]
-pub(crate) enum Expansion {
-    Repeat(u64),
-    Words,
-}
-
-/// A stage of either kind.
-#[derive(Clone, Copy)]
-pub(crate) enum Stage<'a> {
-    Map(Function),
-    Filter(Condition<'a>),
-    FlatMap(Expansion),
-    Distinct,
-    Limit(u64),
-    Skip(u64),
-    TakeWhile(Condition<'a>),
-    DropWhile(Condition<'a>),
-}
-
-/// What stands between texts, and also in front of them and behind them.
-#[derive(Clone, Copy)]
-pub(crate) enum Joint<'a> {
-    Plain(&'a str),
-    Within(&'a str, &'a str, &'a str),
-}
-
-/// A terminal of either kind.
-#[derive(Clone, Copy)]
-pub(crate) enum Terminal<'a> {
-    Sum,
-    Product,
-    Max,
-    Min,
-    Count,
-    FindFirst,
-    ToList,
-    AllMatch(Condition<'a>),
-    AnyMatch(Condition<'a>),
-    NoneMatch(Condition<'a>),
-    Joining(Joint<'a>),
-    GroupBy(Function, Summary<'a>),
-    Partition(Condition<'a>, Summary<'a>),
-    ToMap(Function, Function, Merge),
-    ToMapStrict(Function, Function),
-    Teeing(Summary<'a>, Summary<'a>),
-}
-
-/// A line after the source.
-#[derive(Clone, Copy)]
-pub(crate) enum BodyLine<'a> {
-    Stage(Stage<'a>),
-    Terminal(Terminal<'a>),
-}
+pub(crate) type BodyLine<'a> = Line<AnyStage<'a>, AnyTerminal<'a>>;
 
 #[tactic(auto, unfolding(crate::specs::SyntaxReading::function_of))]
 fn read_function(words: &mut Words<'_>) -> Result<Function, FileError>
-    ensures { GetsAs function_content (function_of words.old) result words.new }
+    ensures { GetsAs as_read (function_of words.old) result words.new }
 {
     match words.any()? {
         "add" => Ok(Function::Add(words.number(i64::MIN, i64::MAX)?)),
@@ -143,7 +56,7 @@ fn read_function(words: &mut Words<'_>) -> Result<Function, FileError>
 }
 
 #[tactic(auto, unfolding(crate::specs::SyntaxReading::condition_of))]
-fn read_condition<'a>(words: &mut Words<'a>) -> Result<Condition<'a>, FileError>
+fn read_condition<'a>(words: &mut Words<'a>) -> Result<AnyCondition<'a>, FileError>
     ensures { GetsAs condition_content (condition_of words.old) result words.new }
 {
     match words.any()? {
@@ -159,7 +72,7 @@ fn read_condition<'a>(words: &mut Words<'a>) -> Result<Condition<'a>, FileError>
 }
 
 #[tactic(auto, unfolding(crate::specs::SyntaxReading::base_of))]
-fn read_base<'a>(words: &mut Words<'a>) -> Result<Base<'a>, FileError>
+fn read_base<'a>(words: &mut Words<'a>) -> Result<AnyBase<'a>, FileError>
     ensures { GetsAs base_content (base_of words.old) result words.new }
 {
     let name = words.any()?;
@@ -168,33 +81,33 @@ fn read_base<'a>(words: &mut Words<'a>) -> Result<Base<'a>, FileError>
 
 /// What is made at once, behind its name.
 #[tactic(auto, unfolding(crate::specs::SyntaxReading::base_names))]
-fn base_named<'a>(name: &str, words: &mut Words<'a>) -> Result<Base<'a>, FileError>
+fn base_named<'a>(name: &str, words: &mut Words<'a>) -> Result<AnyBase<'a>, FileError>
     ensures { GetsAs base_content (base_names name.now words.old) result words.new }
 {
     match name {
         "count" | "counting" => Ok(Base::Count),
-        "sum" => Ok(Base::Sum),
-        "max" => Ok(Base::Max),
-        "min" => Ok(Base::Min),
+        "sum" => Ok(Base::Own(OfKind::OfNumbers(NumberOnly::Sum))),
+        "max" => Ok(Base::Own(OfKind::OfNumbers(NumberOnly::Max))),
+        "min" => Ok(Base::Own(OfKind::OfNumbers(NumberOnly::Min))),
         "first" => Ok(Base::First),
         "tolist" => Ok(Base::ToList),
-        "joining" => Ok(Base::Joining(words.any()?)),
+        "joining" => Ok(Base::Own(OfKind::OfTexts(words.any()?))),
         _ => Err(FileError::UnknownWord),
     }
 }
 
 #[tactic(auto, unfolding(crate::specs::SyntaxReading::inner_of))]
-fn read_inner<'a>(words: &mut Words<'a>) -> Result<Inner<'a>, FileError>
+fn read_inner<'a>(words: &mut Words<'a>) -> Result<AnyInner<'a>, FileError>
     ensures { GetsAs inner_content (inner_of words.old) result words.new }
 {
     match words.any()? {
-        "mapping" => Ok(Inner::Mapping(read_function(words)?, read_base(words)?)),
+        "mapping" => Ok(Inner::Mapping((read_function(words)?, read_base(words)?))),
         "filtering" => Ok(Inner::Filtering(read_condition(words)?, read_base(words)?)),
         name => Ok(Inner::Base(base_named(name, words)?)),
     }
 }
 
-fn read_summary<'a>(version: Version, words: &mut Words<'a>) -> Result<Summary<'a>, FileError>
+fn read_summary<'a>(version: Version, words: &mut Words<'a>) -> Result<AnySummary<'a>, FileError>
     ensures { GetsAs summary_content (summary_of version words.old) result words.new }
 {
     match version {
@@ -205,11 +118,11 @@ fn read_summary<'a>(version: Version, words: &mut Words<'a>) -> Result<Summary<'
 
 /// A collector that may stand around another.
 #[tactic(auto, unfolding(crate::specs::SyntaxReading::nesting_summary_of))]
-fn read_nesting_summary<'a>(words: &mut Words<'a>) -> Result<Summary<'a>, FileError>
+fn read_nesting_summary<'a>(words: &mut Words<'a>) -> Result<AnySummary<'a>, FileError>
     ensures { GetsAs summary_content (nesting_summary_of words.old) result words.new }
 {
     match words.any()? {
-        "mapping" => Ok(Summary::Mapping(read_function(words)?, read_inner(words)?)),
+        "mapping" => Ok(Summary::Mapping((read_function(words)?, read_inner(words)?))),
         "filtering" => Ok(Summary::Filtering(read_condition(words)?, read_inner(words)?)),
         "groupby" => Ok(Summary::GroupBy(read_function(words)?, read_inner(words)?)),
         name => Ok(Summary::Base(base_named(name, words)?)),
@@ -218,7 +131,7 @@ fn read_nesting_summary<'a>(words: &mut Words<'a>) -> Result<Summary<'a>, FileEr
 
 #[tactic(auto, unfolding(crate::specs::SyntaxReading::merge_of))]
 fn read_merge(words: &mut Words<'_>) -> Result<Merge, FileError>
-    ensures { GetsAs merge_content (merge_of words.old) result words.new }
+    ensures { GetsAs as_read (merge_of words.old) result words.new }
 {
     match words.any()? {
         "first" => Ok(Merge::First),
@@ -232,7 +145,7 @@ fn read_merge(words: &mut Words<'_>) -> Result<Merge, FileError>
 
 #[tactic(auto, unfolding(crate::specs::SyntaxReading::expansion_of))]
 fn read_expansion(words: &mut Words<'_>) -> Result<Expansion, FileError>
-    ensures { GetsAs expansion_content (expansion_of words.old) result words.new }
+    ensures { GetsAs as_read (expansion_of words.old) result words.new }
 {
     match words.any()? {
         "repeat" => Ok(Expansion::Repeat(words.natural(1000)?)),
@@ -261,9 +174,9 @@ fn read_body<'a>(version: Version, words: &mut Words<'a>) -> Result<BodyLine<'a>
 {
     let name = words.any()?;
     match read_stage(name, words) {
-        Ok(Some(stage)) => Ok(BodyLine::Stage(stage)),
+        Ok(Some(stage)) => Ok(Line::Stage(stage)),
         Ok(None) => match read_terminal(version, name, words) {
-            Ok(terminal) => Ok(BodyLine::Terminal(terminal)),
+            Ok(terminal) => Ok(Line::Terminal(terminal)),
             Err(e) => Err(e),
         },
         Err(e) => Err(e),
@@ -272,18 +185,18 @@ fn read_body<'a>(version: Version, words: &mut Words<'a>) -> Result<BodyLine<'a>
 
 /// A stage, behind its name, and none behind any other name.
 #[tactic(auto, unfolding(crate::specs::SyntaxReading::stage_names))]
-fn read_stage<'a>(name: &str, words: &mut Words<'a>) -> Result<Option<Stage<'a>>, FileError>
+fn read_stage<'a>(name: &str, words: &mut Words<'a>) -> Result<Option<AnyStage<'a>>, FileError>
     ensures { GetsNamed stage_line_content stage_names name.now words.old result words.new }
 {
     Ok(Some(match name {
         "map" => Stage::Map(read_function(words)?),
         "filter" => Stage::Filter(read_condition(words)?),
         "flatmap" => Stage::FlatMap(read_expansion(words)?),
-        "distinct" => Stage::Distinct,
-        "limit" => Stage::Limit(words.natural(i64::MAX)?),
-        "skip" => Stage::Skip(words.natural(i64::MAX)?),
-        "takewhile" => Stage::TakeWhile(read_condition(words)?),
-        "dropwhile" => Stage::DropWhile(read_condition(words)?),
+        "distinct" => Stage::Barrier(Barrier::Distinct),
+        "limit" => Stage::Barrier(Barrier::Limit(words.natural(i64::MAX)?)),
+        "skip" => Stage::Barrier(Barrier::Skip(words.natural(i64::MAX)?)),
+        "takewhile" => Stage::Barrier(Barrier::TakeWhile(read_condition(words)?)),
+        "dropwhile" => Stage::Barrier(Barrier::DropWhile(read_condition(words)?)),
         _ => return Ok(None),
     }))
 }
@@ -294,14 +207,14 @@ fn read_terminal<'a>(
     version: Version,
     name: &str,
     words: &mut Words<'a>,
-) -> Result<Terminal<'a>, FileError>
+) -> Result<AnyTerminal<'a>, FileError>
     ensures { GetsAs terminal_line_content (terminal_names version name.now words.old) result words.new }
 {
     match name {
-        "sum" => Ok(Terminal::Sum),
-        "product" => Ok(Terminal::Product),
-        "max" => Ok(Terminal::Max),
-        "min" => Ok(Terminal::Min),
+        "sum" => Ok(Terminal::Own(OfKind::OfNumbers(NumberTotal::Sum))),
+        "product" => Ok(Terminal::Own(OfKind::OfNumbers(NumberTotal::Product))),
+        "max" => Ok(Terminal::Own(OfKind::OfNumbers(NumberTotal::Max))),
+        "min" => Ok(Terminal::Own(OfKind::OfNumbers(NumberTotal::Min))),
         "count" => Ok(Terminal::Count),
         "findfirst" => Ok(Terminal::FindFirst),
         "tolist" => Ok(Terminal::ToList),
@@ -315,14 +228,14 @@ fn read_asking_terminal<'a>(
     version: Version,
     name: &str,
     words: &mut Words<'a>,
-) -> Result<Terminal<'a>, FileError>
+) -> Result<AnyTerminal<'a>, FileError>
     ensures { GetsAs terminal_line_content (asking_names version name.now words.old) result words.new }
 {
     match name {
         "allmatch" => Ok(Terminal::AllMatch(read_condition(words)?)),
         "anymatch" => Ok(Terminal::AnyMatch(read_condition(words)?)),
         "nonematch" => Ok(Terminal::NoneMatch(read_condition(words)?)),
-        "joining" => Ok(Terminal::Joining(read_joint(words)?)),
+        "joining" => Ok(Terminal::Own(OfKind::OfTexts(read_joint(words)?))),
         _ => read_collecting_terminal(version, name, words),
     }
 }
@@ -333,7 +246,7 @@ fn read_collecting_terminal<'a>(
     version: Version,
     name: &str,
     words: &mut Words<'a>,
-) -> Result<Terminal<'a>, FileError>
+) -> Result<AnyTerminal<'a>, FileError>
     ensures { GetsAs terminal_line_content (collecting_names version name.now words.old) result words.new }
 {
     match name {
@@ -344,8 +257,7 @@ fn read_collecting_terminal<'a>(
         )),
         "tomap" => Ok(Terminal::ToMap(
             read_function(words)?,
-            read_function(words)?,
-            read_merge(words)?,
+            (read_function(words)?, read_merge(words)?),
         )),
         "teeing" => Ok(Terminal::Teeing(
             read_summary(version, words)?,
@@ -361,7 +273,7 @@ fn read_new_terminal<'a>(
     version: Version,
     name: &str,
     words: &mut Words<'a>,
-) -> Result<Terminal<'a>, FileError>
+) -> Result<AnyTerminal<'a>, FileError>
     ensures { GetsAs terminal_line_content (new_terminal_names version name.now words.old) result words.new }
 {
     match (version, name) {
@@ -375,7 +287,7 @@ fn read_new_terminal<'a>(
 
 /// What follows the name `joining`: the text between, and a front and a back where anything is left.
 #[tactic(auto, unfolding(crate::specs::SyntaxReading::joint_of))]
-fn read_joint<'a>(words: &mut Words<'a>) -> Result<Joint<'a>, FileError>
+fn read_joint<'a>(words: &mut Words<'a>) -> Result<Joint<&'a str>, FileError>
     ensures { GetsAs joint_content (joint_of words.old) result words.new }
 {
     let between = words.any()?;

@@ -8,11 +8,11 @@ use Rattle.std.proofs.lemmas.List.Folds.{list_all-append}
 use Rattle.stages.specs.Passing.{flat_map-flat_map, flat_map-one}
 use Rattle.pipeline_language.specs.declared.pipeline.NumberFunction.{NumberFunction}
 use Rattle.pipeline_language.specs.declared.pipeline.NumberTest.{NumberTest}
-use Rattle.pipeline_language.specs.declared.pipeline.NumberStage.{NumberStage}
-use Rattle.pipeline_language.specs.declared.pipeline.NumberStage.TheVariants as stages
+use Rattle.pipeline_language.specs.Typed.{NumberStage}
+use Rattle.pipeline_language.specs.declared.grammar.Stage.TheVariants as stages
 use Rattle.pipeline_meaning.specs.Functions.{number_image, number_holds}
 use Rattle.pipeline_meaning.specs.Prepared.{mapping_image, check_holds}
-use Rattle.pipeline_meaning.specs.Stages.{number_stage, is_number_map}
+use Rattle.pipeline_meaning.specs.Stages.{number_stage, is_map_stage}
 use Rattle.pipeline_meaning.specs.NumberSteps.{number_step_images, steps_images, copies, images_of, number_images, is_map_step, is_none, are_maps, only_maps, Follows}
 use Rattle.parts.specs.Lists.{map-flat_map, filter-flat_map}
 use Rattle.pipeline_meaning.specs.WalkLaws.{IsFront, flat_map-same, all-one-more}
@@ -94,7 +94,7 @@ repeats-end steps (m ∷ repeats) n = refl
 -- The three stages that are no barriers.
 module _ (old new : NumberSteps) where
   step-follows : (step : NumberStep) (stage : NumberStage) → new.steps.items ≡ old.steps.items ++ step ∷ [] → new.repeats.items ≡ old.repeats.items
-      → ((l : List ℤ) → flat_map (number_step_images step) l ≡ number_stage stage l) → is_map_step step ≡ is_number_map stage → Follows stage old new
+      → ((l : List ℤ) → flat_map (number_step_images step) l ≡ number_stage stage l) → is_map_step step ≡ is_map_stage stage → Follows stage old new
   step-follows step stage steps repeats means map = (
     λ l.
         ap₂ (λ s r. flat_map (images_of s r) l) steps repeats ∙ step-behind old.steps.items old.repeats.items step l ∙ means (flat_map (number_images old) l),
@@ -116,7 +116,7 @@ module _ (old new : NumberSteps) where
       (λ l. ap (λ (h : ℤ → Bool). flat_map (λ x. cond (h x) (x ∷ []) []) l) holds ∙ sym (filter-flat_map (number_holds p) l)) refl
       )
 
-  pub repeat-follows : (n : ℕ) (stage : NumberStage) → stage ≡ stages.Repeat n
+  pub repeat-follows : (n : ℕ) (stage : NumberStage) → stage ≡ stages.FlatMap n
       → new.steps.items ≡ old.steps.items → new.repeats.items ≡ old.repeats.items ++ n ∷ [] → Follows stage old new
   repeat-follows n stage is steps repeats =
       let P : NumberStage → Type 0 = λ s. Follows s old new in
@@ -127,7 +127,7 @@ module _ (old new : NumberSteps) where
 
 -- steps that are so many stages
 abbrev pub AreFront : NumberSteps → List NumberStage → Type 0
-AreFront steps front = IsFront number_stage is_number_map (number_images steps) (only_maps steps) front
+AreFront steps front = IsFront number_stage is_map_stage (number_images steps) (only_maps steps) front
 
 pub no-stages : (steps : NumberSteps) → steps.steps.items ≡ [] → steps.repeats.items ≡ [] → AreFront steps []
 no-stages steps none no-repeats = (λ l. ap₂ (λ s r. flat_map (images_of s r) l) none no-repeats ∙ flat_map-one l, ap₂ are_maps none no-repeats)

@@ -8,10 +8,10 @@ use Rattle.std.proofs.lemmas.List.Sums.{fails_before_first}
 use Rattle.std.proofs.lemmas.Str.Pattern.{split_once_first, split_parts, IsSplitOnceResult}
 use Rattle.file_words.specs.Words.{words_of}
 use Rattle.pipeline_language.specs.declared.pipeline.TextTest.{TextTest}
-use Rattle.pipeline_language.specs.declared.pipeline.TextStage.{TextStage}
-use Rattle.pipeline_language.specs.declared.pipeline.TextStage.TheVariants as stages
+use Rattle.pipeline_language.specs.Typed.{TextStage}
+use Rattle.pipeline_language.specs.declared.grammar.Stage.TheVariants as stages
 use Rattle.pipeline_meaning.specs.Functions.{text_holds}
-use Rattle.pipeline_meaning.specs.Stages.{text_stage, is_text_map}
+use Rattle.pipeline_meaning.specs.Stages.{text_stage, is_map_stage}
 use Rattle.pipeline_meaning.specs.TextSteps.{text_images, text_step_images, is_map_step, only_maps, Follows}
 use Rattle.stages.specs.Passing.{flat_map-one}
 use Rattle.parts.specs.Lists.{filter-flat_map}
@@ -40,23 +40,23 @@ later-shorter bs (Some x) h =
     omega (arith, ap length parts.0, length-append x.0.now (32 ∷ x.1.now))
 
 -- a prepared map or filter is its stage
-pub itself-step : (stage : TextStage) → stage ≡ stages.MapItself → IsStep text_step_images text_stage is_map_step is_text_map Itself stage
+pub itself-step : (stage : TextStage) → stage ≡ stages.Map tt → IsStep text_step_images text_stage is_map_step is_map_stage Itself stage
 itself-step stage is =
-    let P : TextStage → Type 0 = λ s. IsStep text_step_images text_stage is_map_step is_text_map Itself s in
+    let P : TextStage → Type 0 = λ s. IsStep text_step_images text_stage is_map_step is_map_stage Itself s in
     subst P (sym is) (flat_map-one, refl)
 
 pub filter-step : (stage : TextStage) (p : TextTest) (k : TextCheck) → stage ≡ stages.Filter p → k.test ≡ p
-    → IsStep text_step_images text_stage is_map_step is_text_map (Filter k) stage
+    → IsStep text_step_images text_stage is_map_step is_map_stage (Filter k) stage
 filter-step stage p k is e =
-    let P : TextStage → Type 0 = λ s. IsStep text_step_images text_stage is_map_step is_text_map (Filter k) s in
+    let P : TextStage → Type 0 = λ s. IsStep text_step_images text_stage is_map_step is_map_stage (Filter k) s in
     subst P (sym is) ((λ l. sym (filter-flat_map (text_holds k.test) l) ∙ ap (λ (q : TextTest). filter (text_holds q) l) e), refl)
 
-pub no-stages : (steps : List TextStep) → steps ≡ [] → IsFront text_stage is_text_map (text_images steps) (only_maps steps) []
+pub no-stages : (steps : List TextStep) → steps ≡ [] → IsFront text_stage is_map_stage (text_images steps) (only_maps steps) []
 no-stages steps none = (λ l. ap (λ s. flat_map (text_images s) l) none ∙ flat_map-one l, ap only_maps none)
 
 -- a step behind the others is a stage behind them
 pub step-follows : (old new : TextSteps) (step : TextStep) (stage : TextStage) → new.steps.items ≡ old.steps.items ++ step ∷ []
-    → IsStep text_step_images text_stage is_map_step is_text_map step stage → Follows stage old new
+    → IsStep text_step_images text_stage is_map_step is_map_stage step stage → Follows stage old new
 step-follows old new step stage more is = (
   λ l. ap (λ s. flat_map (text_images s) l) more ∙ all-one-more text_step_images old.steps.items step l ∙ is.0 (flat_map (text_images old.steps.items) l),
   ap only_maps more ∙ list_all-append is_map_step old.steps.items (step ∷ []) ∙ ap (λ b. only_maps old.steps.items && b) (and-true (is_map_step step) ∙ is.1),

@@ -12,8 +12,8 @@ use Rattle.pipeline_language.specs.declared.pipeline.NumberTest.{NumberTest}
 use Rattle.pipeline_language.specs.declared.pipeline.NumberTest.TheVariants.{Less, Greater, Equals, Divisible}
 use Rattle.pipeline_language.specs.declared.pipeline.TextTest.{TextTest}
 use Rattle.pipeline_language.specs.declared.pipeline.TextTest.TheVariants.{Empty, Starts, Longer}
-use Rattle.pipeline_language.specs.declared.pipeline.NumberMerge.{NumberMerge}
-use Rattle.pipeline_language.specs.declared.pipeline.NumberMerge.TheVariants as numbers
+use Rattle.pipeline_language.specs.declared.grammar.Merge.{Merge}
+use Rattle.pipeline_language.specs.declared.grammar.Merge.TheVariants as numbers
 use Rattle.pipeline_language.specs.declared.pipeline.TextMerge.{TextMerge}
 use Rattle.pipeline_language.specs.declared.pipeline.TextMerge.TheVariants as texts
 
@@ -49,7 +49,7 @@ text_holds (Starts front) text = starts_with ◌==◌ text front.now
 text_holds (Longer n) text = nat_lt n (length text)
 
 -- of two values of one key, the earlier before the later
-abbrev pub number_join : NumberMerge → ℤ → ℤ → ℤ
+abbrev pub number_join : Merge → ℤ → ℤ → ℤ
 number_join numbers.First = first_of
 number_join numbers.Last = last_of
 number_join numbers.Sum = wrapped_sum

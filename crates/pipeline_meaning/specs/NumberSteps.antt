@@ -7,10 +7,10 @@ use Rattle.std.specs.declared.cmp.Ordering.{Ordering}
 use Rattle.std.proofs.lemmas.List.Sums.{AllPass-from_list_all}
 use Rattle.stages.specs.Flags.{KeepsSound}
 use Rattle.stages.specs.Passing.{flat_map-one}
-use Rattle.pipeline_language.specs.declared.pipeline.NumberStage.{NumberStage}
+use Rattle.pipeline_language.specs.Typed.{NumberStage}
 use Rattle.pipeline_meaning.specs.Prepared.{mapping_image, check_holds}
 use Rattle.pipeline_meaning.specs.Rows.{row_of, size_of}
-use Rattle.pipeline_meaning.specs.Stages.{number_stage, is_number_map}
+use Rattle.pipeline_meaning.specs.Stages.{number_stage, is_map_stage}
 use Rattle.pipeline_meaning.specs.Walks.{images_after, one_after_other}
 use Rattle.pipeline_meaning.specs.WalkLaws.{KeepsSound-images, one-image}
 use Rattle.pipeline_meaning.specs.declared.number_steps.NumberStep.{NumberStep}
@@ -53,7 +53,7 @@ only_maps s = are_maps s.steps.items s.repeats.items
 -- the steps with a stage behind them
 abbrev pub Follows : NumberStage → NumberSteps → NumberSteps → Type 0
 Follows stage old new =
-    ((l : List ℤ) → flat_map (number_images new) l ≡ number_stage stage (flat_map (number_images old) l)) × (only_maps new ≡ (only_maps old && is_number_map stage))
+    ((l : List ℤ) → flat_map (number_images new) l ≡ number_stage stage (flat_map (number_images old) l)) × (only_maps new ≡ (only_maps old && is_map_stage stage))
 
 -- so many copies of what steps make of each number are what the whole makes of it
 abbrev pub WithCopies : ℕ → NumberSteps → NumberSteps → Type 0

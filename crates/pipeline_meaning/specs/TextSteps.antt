@@ -6,10 +6,10 @@ use Rattle.std.specs.List.{list_all}
 use Rattle.std.specs.declared.cmp.Ordering.{Ordering}
 use Rattle.stages.specs.Flags.{KeepsSound}
 use Rattle.file_words.specs.Words.{words_of}
-use Rattle.pipeline_language.specs.declared.pipeline.TextStage.{TextStage}
+use Rattle.pipeline_language.specs.Typed.{TextStage}
 use Rattle.pipeline_meaning.specs.Functions.{text_holds}
 use Rattle.pipeline_meaning.specs.Rows.{row_of, size_of}
-use Rattle.pipeline_meaning.specs.Stages.{text_stage, is_text_map}
+use Rattle.pipeline_meaning.specs.Stages.{text_stage, is_map_stage}
 use Rattle.pipeline_meaning.specs.Walks.{images_after}
 use Rattle.pipeline_meaning.specs.WalkLaws.{KeepsSound-walk}
 use Rattle.pipeline_meaning.specs.declared.text_steps.TextStep.{TextStep}
@@ -67,7 +67,7 @@ only_maps steps = list_all is_map_step steps
 abbrev pub Follows : TextStage → TextSteps → TextSteps → Type 0
 Follows stage old new =
     ((l : List (List ℕ)) → flat_map (text_images new.steps.items) l ≡ text_stage stage (flat_map (text_images old.steps.items) l))
-    × (only_maps new.steps.items ≡ (only_maps old.steps.items && is_text_map stage))
+    × (only_maps new.steps.items ≡ (only_maps old.steps.items && is_map_stage stage))
 
 map-one : (step : TextStep) → is_map_step step ≡ true → (text : List ℕ) → text_step_images step text ≡ text ∷ []
 map-one Itself h text = refl

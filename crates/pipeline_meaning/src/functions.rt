@@ -7,7 +7,7 @@ ghost use Rattle.pipeline_meaning.specs.Prepared.{change_image, mapping_image, c
 ghost use Rattle.pipeline_meaning.specs.PreparedLaws.{mapping_image-value, merging_join-value, text_join-value};
 
 use parts::{Above, Below, Divisible, Divisor, Equal};
-use pipeline_language::{NumberFunction, NumberMerge, NumberTest, TextMerge, TextTest};
+use pipeline_language::{Merge, NumberFunction, NumberTest, TextMerge, TextTest};
 use spliterator::{NoMemory, Text, Value};
 use stages::{Mapping, Operator, Test};
 
@@ -201,16 +201,16 @@ pub enum NumberMerging {
 }
 
 impl NumberMerging {
-    pub fn of(merge: NumberMerge) -> NumberMerging
+    pub fn of(merge: Merge) -> NumberMerging
         ensures join { ⟦<NumberMerging as Operator<i64>>⟧.join result ≡ number_join merge }
         ensures associative { IsAssociative IsI64 (⟦<NumberMerging as Operator<i64>>⟧.join result) }
     {
         match merge {
-            NumberMerge::First => NumberMerging::First,
-            NumberMerge::Last => NumberMerging::Last,
-            NumberMerge::Sum => NumberMerging::Joined(NumberJoining::Sum),
-            NumberMerge::Max => NumberMerging::Joined(NumberJoining::Max),
-            NumberMerge::Min => NumberMerging::Joined(NumberJoining::Min),
+            Merge::First => NumberMerging::First,
+            Merge::Last => NumberMerging::Last,
+            Merge::Sum => NumberMerging::Joined(NumberJoining::Sum),
+            Merge::Max => NumberMerging::Joined(NumberJoining::Max),
+            Merge::Min => NumberMerging::Joined(NumberJoining::Min),
         }
     }
 }

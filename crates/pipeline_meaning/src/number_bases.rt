@@ -17,7 +17,7 @@ use crate::NumberMerging;
 use collectors::{Collector, Counting, Reducing, SummingLong};
 use either::{Either, Left, Right};
 use parts::Itself;
-use pipeline_language::{NumberBase, NumberMerge};
+use pipeline_language::{Merge, NumberBase, NumberOnly};
 use spliterator::NoMemory;
 use std::alloc::Global;
 use value_text::{ListText, Summarizes, Written};
@@ -122,10 +122,14 @@ pub fn number_base(alloc: Global, base: NumberBase) -> NumberBaseCollector
 {
     let chosen = match base {
         NumberBase::Count => Left(Left(Counting::new())),
-        NumberBase::Sum => Left(Right(SummingLong::new(Itself))),
-        NumberBase::Max => Right(Left(Reducing::new(NumberMerging::of(NumberMerge::Max)))),
-        NumberBase::Min => Right(Left(Reducing::new(NumberMerging::of(NumberMerge::Min)))),
-        NumberBase::First => Right(Left(Reducing::new(NumberMerging::of(NumberMerge::First)))),
+        NumberBase::Own(NumberOnly::Sum) => Left(Right(SummingLong::new(Itself))),
+        NumberBase::Own(NumberOnly::Max) => Right(Left(Reducing::new(NumberMerging::of(
+            Merge::Max,
+        )))),
+        NumberBase::Own(NumberOnly::Min) => Right(Left(Reducing::new(NumberMerging::of(
+            Merge::Min,
+        )))),
+        NumberBase::First => Right(Left(Reducing::new(NumberMerging::of(Merge::First)))),
         NumberBase::ToList => Right(Right(ListText::new(alloc))),
     };
     NumberBaseCollector { chosen }

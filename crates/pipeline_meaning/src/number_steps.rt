@@ -4,7 +4,7 @@ ghost use Rattle.std.specs.List.{HoldsAt, list_all};
 ghost use Rattle.std.specs.Ordering.{int_cmp};
 ghost use Rattle.pipeline_meaning.specs.NumberSteps.{number_images, number_step_images, steps_images, is_map_step, is_none, only_maps, Follows, WithCopies, KeepsSound-number_steps};
 ghost use Rattle.pipeline_meaning.specs.Rows.{row_of, size_of};
-ghost use Rattle.pipeline_meaning.specs.Stages.{number_stages, is_number_barrier, is_number_map};
+ghost use Rattle.pipeline_meaning.specs.Stages.{number_stages, is_barrier_stage, is_map_stage};
 
 use crate::block_functions::{filter_block, map_block};
 use crate::number_copies::feed_repeated;
@@ -67,8 +67,8 @@ impl NumberSteps {
     pub fn front_of(alloc: Global, stages: &[NumberStage]) -> Result<(NumberSteps, usize), NoMemory>
         ensures within { IfOk result (λ r. r.1 ≤ length stages.now) }
         ensures means { IfOk result (λ r. (l : List ℤ) → flat_map (⟦<NumberSteps as Stage>⟧.expand r.0) l ≡ number_stages (take r.1 stages.now) l) }
-        ensures barrier { IfOk result (λ r. r.1 < length stages.now → HoldsAt (λ stage. IsTrue (is_number_barrier stage)) stages.now r.1) }
-        ensures size { IfOk result (λ r. IsTrue (list_all is_number_map (take r.1 stages.now)) → (size : Option ℕ) → ⟦<NumberSteps as Stage>⟧.size_after r.0 size ≡ size) }
+        ensures barrier { IfOk result (λ r. r.1 < length stages.now → HoldsAt (λ stage. IsTrue (is_barrier_stage stage)) stages.now r.1) }
+        ensures size { IfOk result (λ r. IsTrue (list_all is_map_stage (take r.1 stages.now)) → (size : Option ℕ) → ⟦<NumberSteps as Stage>⟧.size_after r.0 size ≡ size) }
     {
         let mut front = NumberSteps {
             alloc,
@@ -85,7 +85,7 @@ impl NumberSteps {
 
     /// Puts a stage behind the others. Says whether it did: it doesn't put a stage that looks at more than one item.
     pub fn put(&mut self, stage: &NumberStage) -> Result<bool, NoMemory>
-        ensures { IfOk result (λ is_put. MatchBool is_put (Follows stage.now self.old self.new) (IsTrue (is_number_barrier stage.now) × (self.new ≡ self.old))) }
+        ensures { IfOk result (λ is_put. MatchBool is_put (Follows stage.now self.old self.new) (IsTrue (is_barrier_stage stage.now) × (self.new ≡ self.old))) }
     {
         match *stage {
             NumberStage::Map(function) => {
@@ -96,12 +96,8 @@ impl NumberSteps {
                 let check = NumberCheck::of(test);
                 self.steps.push(NumberStep::Filter(check))?;
             }
-            NumberStage::Repeat(number) => self.repeats.push(number)?,
-            NumberStage::Distinct
-            | NumberStage::Limit(_)
-            | NumberStage::Skip(_)
-            | NumberStage::TakeWhile(_)
-            | NumberStage::DropWhile(_) => return Ok(false),
+            NumberStage::FlatMap(number) => self.repeats.push(number)?,
+            NumberStage::Barrier(_) => return Ok(false),
         }
         Ok(true)
     }

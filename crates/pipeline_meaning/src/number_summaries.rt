@@ -129,7 +129,7 @@ pub fn number_inner(alloc: Global, inner: NumberInner) -> NumberInnerCollector
 {
     let (step, base) = match inner {
         NumberInner::Base(base) => (Adapting::Nothing, base),
-        NumberInner::Mapping(function, base) => {
+        NumberInner::Mapping((function, base)) => {
             (Adapting::Mapping(NumberMapping::of(function)), base)
         }
         NumberInner::Filtering(test, base) => (Adapting::Filtering(NumberCheck::of(test)), base),
@@ -148,7 +148,7 @@ pub fn number_summary(
 {
     let (step, inner) = match summary {
         NumberSummary::Base(base) => (Adapting::Nothing, NumberInner::Base(base)),
-        NumberSummary::Mapping(function, inner) => {
+        NumberSummary::Mapping((function, inner)) => {
             (Adapting::Mapping(NumberMapping::of(function)), inner)
         }
         NumberSummary::Filtering(test, inner) => {

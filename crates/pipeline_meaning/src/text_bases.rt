@@ -122,7 +122,7 @@ pub fn text_base<'a>(alloc: Global, base: TextBase<'a>) -> TextBaseCollector<'a>
         TextBase::Count => Left(Left(Counting::new())),
         TextBase::First => Left(Right(First::new())),
         TextBase::ToList => Right(JoinedText::list(alloc)),
-        TextBase::Joining(delimiter) => Right(JoinedText::new(alloc, delimiter)),
+        TextBase::Own(delimiter) => Right(JoinedText::new(alloc, delimiter)),
     };
     TextBaseCollector { chosen }
 }

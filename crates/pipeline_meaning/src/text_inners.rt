@@ -21,7 +21,7 @@ use crate::{Adapted, Adapting, TextCheck};
 use collectors::{Collector, MappingTo};
 use either::{Either, Left, Right};
 use parts::{Itself, Length};
-use pipeline_language::{NumberInner, TextInner};
+use pipeline_language::{Mapped, NumberInner, TextInner};
 use spliterator::NoMemory;
 use std::alloc::Global;
 use value_text::{Summarizes, Written};
@@ -129,8 +129,14 @@ pub fn text_inner<'a>(alloc: Global, inner: TextInner<'a>) -> TextInnerCollector
     ensures summary { (l : List (List ℕ)) → ⟦<TextInnerCollector<'a> as Summarizes>⟧.summary result l ≡ text_inner_text inner.entry l }
 {
     let (step, base) = match inner {
-        TextInner::Base(base) | TextInner::MappingItself(base) => (Adapting::Nothing, base),
-        TextInner::MappingLength(base) => return text_lengths(alloc, NumberInner::Base(base)),
+        TextInner::Base(base) | TextInner::Mapping(Mapped::Itself(base)) => (
+            Adapting::Nothing,
+            base,
+        ),
+        TextInner::Mapping(Mapped::Length(base)) => return text_lengths(
+            alloc,
+            NumberInner::Base(base),
+        ),
         TextInner::Filtering(test, base) => (Adapting::Filtering(TextCheck::of(test)), base),
     };
     let chosen = Left(Adapted::new(step, text_base(alloc, base)));

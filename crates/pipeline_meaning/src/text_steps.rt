@@ -7,11 +7,11 @@ ghost use Rattle.std.proofs.Math.ListN.{replicate};
 ghost use Rattle.file_words.specs.Words.{words_of};
 ghost use Rattle.pipeline_meaning.specs.Rows.{row_of, size_of};
 ghost use Rattle.pipeline_meaning.specs.TextSteps.{text_images, text_step_images, walked_images, Follows, IsFewer, words_left, letters_left, is_map_step, is_single_step, only_maps, KeepsSound-text_steps};
-ghost use Rattle.pipeline_meaning.specs.Stages.{text_stage, text_stages, is_text_barrier, is_text_map};
+ghost use Rattle.pipeline_meaning.specs.Stages.{text_stage, text_stages, is_barrier_stage, is_map_stage};
 ghost use Rattle.pipeline_meaning.specs.WalkLaws.{IsStep};
 
 use crate::TextCheck;
-use pipeline_language::TextStage;
+use pipeline_language::{Expansion, TextStage};
 use spliterator::{NoMemory, Text};
 use stages::{Operation, Sink, Stage, Test};
 use std::alloc::Global;
@@ -28,18 +28,14 @@ enum TextStep<'a> {
 impl<'a> TextStep<'a> {
     // `None` for a stage that looks at more than one item.
     fn of(stage: &TextStage<'a>) -> Option<TextStep<'a>>
-        ensures { MatchOption result (IsTrue (is_text_barrier stage.now)) (λ step. IsStep text_step_images text_stage is_map_step is_text_map step stage.now) }
+        ensures { MatchOption result (IsTrue (is_barrier_stage stage.now)) (λ step. IsStep text_step_images text_stage is_map_step is_map_stage step stage.now) }
     {
         match stage {
-            TextStage::MapItself => Some(TextStep::Itself),
+            TextStage::Map(()) => Some(TextStep::Itself),
             TextStage::Filter(test) => Some(TextStep::Filter(TextCheck::of(*test))),
-            TextStage::Repeat(n) => Some(TextStep::Repeat(*n)),
-            TextStage::Words => Some(TextStep::Words),
-            TextStage::Distinct
-            | TextStage::Limit(_)
-            | TextStage::Skip(_)
-            | TextStage::TakeWhile(_)
-            | TextStage::DropWhile(_) => None,
+            TextStage::FlatMap(Expansion::Repeat(n)) => Some(TextStep::Repeat(*n)),
+            TextStage::FlatMap(Expansion::Words) => Some(TextStep::Words),
+            TextStage::Barrier(_) => None,
         }
     }
 
@@ -71,8 +67,8 @@ impl<'a> TextSteps<'a> {
     ) -> Result<(TextSteps<'a>, usize), NoMemory>
         ensures within { IfOk result (λ r. r.1 ≤ length stages.now) }
         ensures means { IfOk result (λ r. (l : List (List ℕ)) → flat_map (⟦<TextSteps<'static> as Stage>⟧.expand r.0) l ≡ text_stages (take r.1 stages.now) l) }
-        ensures barrier { IfOk result (λ r. r.1 < length stages.now → HoldsAt (λ stage. IsTrue (is_text_barrier stage)) stages.now r.1) }
-        ensures size { IfOk result (λ r. IsTrue (list_all is_text_map (take r.1 stages.now)) → (size : Option ℕ) → ⟦<TextSteps<'static> as Stage>⟧.size_after r.0 size ≡ size) }
+        ensures barrier { IfOk result (λ r. r.1 < length stages.now → HoldsAt (λ stage. IsTrue (is_barrier_stage stage)) stages.now r.1) }
+        ensures size { IfOk result (λ r. IsTrue (list_all is_map_stage (take r.1 stages.now)) → (size : Option ℕ) → ⟦<TextSteps<'static> as Stage>⟧.size_after r.0 size ≡ size) }
     {
         let mut front = TextSteps {
             steps: Vec::new(alloc),
@@ -87,7 +83,7 @@ impl<'a> TextSteps<'a> {
 
     /// Puts a stage behind the others. Says whether it did: it doesn't put a stage that looks at more than one item.
     pub fn put(&mut self, stage: &TextStage<'a>) -> Result<bool, NoMemory>
-        ensures { IfOk result (λ is_put. MatchBool is_put (Follows stage.now self.old self.new) (IsTrue (is_text_barrier stage.now) × (self.new ≡ self.old))) }
+        ensures { IfOk result (λ is_put. MatchBool is_put (Follows stage.now self.old self.new) (IsTrue (is_barrier_stage stage.now) × (self.new ≡ self.old))) }
     {
         match TextStep::of(stage) {
             Some(step) => {

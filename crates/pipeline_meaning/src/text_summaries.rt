@@ -19,7 +19,7 @@ use crate::{Adapted, Adapting, TextCheck};
 use collectors::{Collector, GroupingBy};
 use either::{Either, Left, Right};
 use parts::{Itself, Length};
-use pipeline_language::{TextFunction, TextInner, TextSummary};
+use pipeline_language::{Mapped, TextFunction, TextInner, TextSummary};
 use spliterator::NoMemory;
 use std::alloc::Global;
 use value_text::{Summarizes, Written, grouped};
@@ -157,8 +157,14 @@ pub fn text_summary<'a>(
 {
     let (step, inner) = match summary {
         TextSummary::Base(base) => (Adapting::Nothing, text_inner(alloc, TextInner::Base(base))),
-        TextSummary::MappingItself(inner) => (Adapting::Nothing, text_inner(alloc, inner)),
-        TextSummary::MappingLength(inner) => (Adapting::Nothing, text_lengths(alloc, inner)),
+        TextSummary::Mapping(Mapped::Itself(inner)) => (
+            Adapting::Nothing,
+            text_inner(alloc, inner),
+        ),
+        TextSummary::Mapping(Mapped::Length(inner)) => (
+            Adapting::Nothing,
+            text_lengths(alloc, inner),
+        ),
         TextSummary::Filtering(test, inner) => {
             let step = Adapting::Filtering(TextCheck::of(test));
             (step, text_inner(alloc, inner))

@@ -11,12 +11,13 @@ use Rattle.pipeline_language.specs.declared.version.Version.{Version}
 use Rattle.pipeline_language.specs.declared.pipeline.NumberBody.{NumberBody}
 use Rattle.pipeline_language.specs.declared.pipeline.NumberFunction.{NumberFunction}
 use Rattle.pipeline_language.specs.declared.pipeline.NumberFunction.TheVariants as functions
-use Rattle.pipeline_language.specs.declared.pipeline.NumberStage.{NumberStage}
-use Rattle.pipeline_language.specs.declared.pipeline.NumberStage.TheVariants as number_stages
-use Rattle.pipeline_language.specs.declared.pipeline.TextStage.{TextStage}
-use Rattle.pipeline_language.specs.declared.pipeline.TextStage.TheVariants as text_stages
+use Rattle.pipeline_language.specs.Typed.{NumberStage, TextStage}
+use Rattle.pipeline_language.specs.declared.grammar.Stage.TheVariants as stage_variants
 use Rattle.pipeline_language.specs.Content.{Body, number_body, number_function, number_stage, text_stage}
-use Rattle.pipeline_language.specs.Syntax.{Stage, MapBy, Length, Terminal, BodyLine, StageLine, TerminalLine, Kind, NumberKind, TextKind, Coming, comes, kind_after, value_kind, after_stage}
+use Rattle.pipeline_language.specs.declared.grammar.Line.TheVariants as body_lines
+use Rattle.pipeline_language.specs.declared.grammar.Function.TheVariants.{Length}
+use Rattle.pipeline_language.specs.declared.grammar.Stage.TheVariants.{Map}
+use Rattle.pipeline_language.specs.Syntax.{Stage, Terminal, BodyLine, Kind, NumberKind, TextKind, Coming, comes, kind_after, value_kind, after_stage}
 use Rattle.pipeline_language.specs.FileReading.{Reads, Texts, with_texts, texts_from, first_text, with_stages, body_from, first_of}
 use Rattle.pipeline_language.proofs.BodyLemmas.{fault_first, stage_first, terminal_first, with_last}
 
@@ -33,12 +34,12 @@ pub told_behind : {L X : Type 0} (line_content : L → BodyLine) (content : X �
 told_behind line_content content stages coming n lines whole NoMemory is first = tt
 told_behind line_content content stages coming n lines whole (Fault fault) is first = is ∙ ap (with_stages stages) (fault_first coming n lines fault first)
 
-pub ends_behind : (stages : List Stage) (coming : Coming) (n : ℕ) (lines : List (List ℕ)) (whole : Result Body FileFault) (terminal : Terminal) → whole ≡ with_stages stages (body_from coming n lines) → first_of coming n lines ≡ Ok (TerminalLine terminal) → whole ≡ Ok (stages, terminal)
+pub ends_behind : (stages : List Stage) (coming : Coming) (n : ℕ) (lines : List (List ℕ)) (whole : Result Body FileFault) (terminal : Terminal) → whole ≡ with_stages stages (body_from coming n lines) → first_of coming n lines ≡ Ok (body_lines.Terminal terminal) → whole ≡ Ok (stages, terminal)
 ends_behind stages coming n lines whole terminal is first =
     is ∙ ap (with_stages stages) (terminal_first coming n lines terminal first)
     ∙ ap (λ ss. let b : Body = (ss, terminal) in let found : Result Body FileFault = Ok b in found) (append-nil stages)
 
-goes_behind : (stages : List Stage) (coming : Coming) (n : ℕ) (lines : List (List ℕ)) (whole : Result Body FileFault) (stage : Stage) → whole ≡ with_stages stages (body_from coming n lines) → first_of coming n lines ≡ Ok (StageLine stage) → whole ≡ with_stages (stages ++ stage ∷ []) (body_from (after_stage coming stage) (n + 1) (drop 1 lines))
+goes_behind : (stages : List Stage) (coming : Coming) (n : ℕ) (lines : List (List ℕ)) (whole : Result Body FileFault) (stage : Stage) → whole ≡ with_stages stages (body_from coming n lines) → first_of coming n lines ≡ Ok (body_lines.Stage stage) → whole ≡ with_stages (stages ++ stage ∷ []) (body_from (after_stage coming stage) (n + 1) (drop 1 lines))
 goes_behind stages coming n lines whole stage is first =
     is ∙ ap (with_stages stages) (stage_first coming n lines stage first) ∙ with_last stages stage (body_from (after_stage coming stage) (n + 1) (drop 1 lines))
 
@@ -51,25 +52,16 @@ function_keeps functions.Itself = refl
 
 -- stages over numbers give numbers, and those over texts give texts
 number_keeps : (stage : NumberStage) → kind_after NumberKind (number_stage stage) ≡ NumberKind
-number_keeps (number_stages.Map f) = function_keeps f
-number_keeps (number_stages.Filter p) = refl
-number_keeps (number_stages.Repeat n) = refl
-number_keeps number_stages.Distinct = refl
-number_keeps (number_stages.Limit n) = refl
-number_keeps (number_stages.Skip n) = refl
-number_keeps (number_stages.TakeWhile p) = refl
-number_keeps (number_stages.DropWhile p) = refl
+number_keeps (stage_variants.Map f) = function_keeps f
+number_keeps (stage_variants.Filter p) = refl
+number_keeps (stage_variants.FlatMap n) = refl
+number_keeps (stage_variants.Barrier b) = refl
 
 text_keeps : (stage : TextStage) → kind_after TextKind (text_stage stage) ≡ TextKind
-text_keeps text_stages.MapItself = refl
-text_keeps (text_stages.Filter p) = refl
-text_keeps (text_stages.Repeat n) = refl
-text_keeps text_stages.Words = refl
-text_keeps text_stages.Distinct = refl
-text_keeps (text_stages.Limit n) = refl
-text_keeps (text_stages.Skip n) = refl
-text_keeps (text_stages.TakeWhile p) = refl
-text_keeps (text_stages.DropWhile p) = refl
+text_keeps (stage_variants.Map x) = refl
+text_keeps (stage_variants.Filter p) = refl
+text_keeps (stage_variants.FlatMap e) = refl
+text_keeps (stage_variants.Barrier b) = refl
 
 next_comes : (version : Version) (kind next : Kind) (before : ℕ) (stage : Stage) → kind_after kind stage ≡ next → after_stage (comes version kind before) stage ≡ comes version next (before + 1)
 next_comes version kind next before stage keeps = ap (λ k. comes version k (before + 1)) keeps
@@ -77,7 +69,7 @@ next_comes version kind next before stage keeps = ap (λ k. comes version k (bef
 -- one stage more, and the lines behind it
 stage_more : {S : Type 0} (version : Version) (content : S → Stage) (kind : Kind) (keeps : (s : S) → kind_after kind (content s) ≡ kind) (items pushed : List S) (stage : S) (before n next_before next_n : ℕ) (lines left : List (List ℕ)) (whole : Result Body FileFault)
     → next_before ≡ before + 1 → next_n ≡ n + 1 → pushed ≡ items ++ stage ∷ [] → left ≡ drop 1 lines
-    → whole ≡ with_stages (map content items) (body_from (comes version kind before) n lines) → first_of (comes version kind before) n lines ≡ Ok (StageLine (content stage))
+    → whole ≡ with_stages (map content items) (body_from (comes version kind before) n lines) → first_of (comes version kind before) n lines ≡ Ok (body_lines.Stage (content stage))
     → whole ≡ with_stages (map content pushed) (body_from (comes version kind next_before) next_n left)
 stage_more version content kind keeps items pushed stage before n next_before next_n lines left whole places number pushes rest is found =
     goes_behind (map content items) (comes version kind before) n lines whole (content stage) is found
@@ -88,32 +80,32 @@ stage_more version content kind keeps items pushed stage before n next_before ne
 
 pub number_more : (version : Version) (items pushed : List NumberStage) (stage : NumberStage) (before n next_before next_n : ℕ) (lines left : List (List ℕ)) (whole : Result Body FileFault)
     → next_before ≡ before + 1 → next_n ≡ n + 1 → pushed ≡ items ++ stage ∷ [] → left ≡ drop 1 lines
-    → whole ≡ with_stages (map number_stage items) (body_from (comes version NumberKind before) n lines) → first_of (comes version NumberKind before) n lines ≡ Ok (StageLine (number_stage stage))
+    → whole ≡ with_stages (map number_stage items) (body_from (comes version NumberKind before) n lines) → first_of (comes version NumberKind before) n lines ≡ Ok (body_lines.Stage (number_stage stage))
     → whole ≡ with_stages (map number_stage pushed) (body_from (comes version NumberKind next_before) next_n left)
 number_more version = stage_more version number_stage NumberKind number_keeps
 
 pub text_more : (version : Version) (items pushed : List TextStage) (stage : TextStage) (before n next_before next_n : ℕ) (lines left : List (List ℕ)) (whole : Result Body FileFault)
     → next_before ≡ before + 1 → next_n ≡ n + 1 → pushed ≡ items ++ stage ∷ [] → left ≡ drop 1 lines
-    → whole ≡ with_stages (map text_stage items) (body_from (comes version TextKind before) n lines) → first_of (comes version TextKind before) n lines ≡ Ok (StageLine (text_stage stage))
+    → whole ≡ with_stages (map text_stage items) (body_from (comes version TextKind before) n lines) → first_of (comes version TextKind before) n lines ≡ Ok (body_lines.Stage (text_stage stage))
     → whole ≡ with_stages (map text_stage pushed) (body_from (comes version TextKind next_before) next_n left)
 text_more version = stage_more version text_stage TextKind text_keeps
 
 -- where `map length` leads to numbers
-lengths_more : (version : Version) (stages : List Stage) (before n : ℕ) (lines left : List (List ℕ)) (whole : Result Body FileFault) → left ≡ drop 1 lines → whole ≡ with_stages stages (body_from (comes version TextKind before) n lines) → first_of (comes version TextKind before) n lines ≡ Ok (StageLine (MapBy Length)) → whole ≡ with_stages (stages ++ MapBy Length ∷ []) (body_from (comes version NumberKind (before + 1)) (n + 1) left)
+lengths_more : (version : Version) (stages : List Stage) (before n : ℕ) (lines left : List (List ℕ)) (whole : Result Body FileFault) → left ≡ drop 1 lines → whole ≡ with_stages stages (body_from (comes version TextKind before) n lines) → first_of (comes version TextKind before) n lines ≡ Ok (body_lines.Stage (Map Length)) → whole ≡ with_stages (stages ++ Map Length ∷ []) (body_from (comes version NumberKind (before + 1)) (n + 1) left)
 lengths_more version stages before n lines left whole rest is found =
-    goes_behind stages (comes version TextKind before) n lines whole (MapBy Length) is found
-    ∙ ap (λ c. with_stages (stages ++ MapBy Length ∷ []) (body_from c (n + 1) (drop 1 lines))) (next_comes version TextKind NumberKind before (MapBy Length) refl)
-    ∙ ap (λ ls. with_stages (stages ++ MapBy Length ∷ []) (body_from (comes version NumberKind (before + 1)) (n + 1) ls)) (sym rest)
+    goes_behind stages (comes version TextKind before) n lines whole (Map Length) is found
+    ∙ ap (λ c. with_stages (stages ++ Map Length ∷ []) (body_from c (n + 1) (drop 1 lines))) (next_comes version TextKind NumberKind before (Map Length) refl)
+    ∙ ap (λ ls. with_stages (stages ++ Map Length ∷ []) (body_from (comes version NumberKind (before + 1)) (n + 1) ls)) (sym rest)
 
-pub lengths_read : (version : Version) (stages : List Stage) (before n : ℕ) (lines left : List (List ℕ)) (whole : Result Body FileFault) (body : NumberBody) → left ≡ drop 1 lines → whole ≡ with_stages stages (body_from (comes version TextKind before) n lines) → first_of (comes version TextKind before) n lines ≡ Ok (StageLine (MapBy Length)) → body_from (comes version NumberKind (before + 1)) (n + 1) left ≡ Ok (number_body body) → whole ≡ Ok (stages ++ (MapBy Length ∷ (number_body body).0), (number_body body).1)
+pub lengths_read : (version : Version) (stages : List Stage) (before n : ℕ) (lines left : List (List ℕ)) (whole : Result Body FileFault) (body : NumberBody) → left ≡ drop 1 lines → whole ≡ with_stages stages (body_from (comes version TextKind before) n lines) → first_of (comes version TextKind before) n lines ≡ Ok (body_lines.Stage (Map Length)) → body_from (comes version NumberKind (before + 1)) (n + 1) left ≡ Ok (number_body body) → whole ≡ Ok (stages ++ (Map Length ∷ (number_body body).0), (number_body body).1)
 lengths_read version stages before n lines left whole body rest is found read =
-    lengths_more version stages before n lines left whole rest is found ∙ ap (with_stages (stages ++ MapBy Length ∷ [])) read
-    ∙ ap (λ ss. let b : Body = (ss, (number_body body).1) in let r : Result Body FileFault = Ok b in r) (append_assoc stages (MapBy Length ∷ []) (number_body body).0)
+    lengths_more version stages before n lines left whole rest is found ∙ ap (with_stages (stages ++ Map Length ∷ [])) read
+    ∙ ap (λ ss. let b : Body = (ss, (number_body body).1) in let r : Result Body FileFault = Ok b in r) (append_assoc stages (Map Length ∷ []) (number_body body).0)
 
-pub lengths_told : {X : Type 0} (version : Version) (content : X → Body) (stages : List Stage) (before n : ℕ) (lines left : List (List ℕ)) (whole : Result Body FileFault) (e : ReadError) → left ≡ drop 1 lines → whole ≡ with_stages stages (body_from (comes version TextKind before) n lines) → first_of (comes version TextKind before) n lines ≡ Ok (StageLine (MapBy Length)) → Reads number_body (Err e) (body_from (comes version NumberKind (before + 1)) (n + 1) left) → Reads content (Err e) whole
+pub lengths_told : {X : Type 0} (version : Version) (content : X → Body) (stages : List Stage) (before n : ℕ) (lines left : List (List ℕ)) (whole : Result Body FileFault) (e : ReadError) → left ≡ drop 1 lines → whole ≡ with_stages stages (body_from (comes version TextKind before) n lines) → first_of (comes version TextKind before) n lines ≡ Ok (body_lines.Stage (Map Length)) → Reads number_body (Err e) (body_from (comes version NumberKind (before + 1)) (n + 1) left) → Reads content (Err e) whole
 lengths_told version content stages before n lines left whole NoMemory rest is found told = tt
 lengths_told version content stages before n lines left whole (Fault fault) rest is found told =
-    lengths_more version stages before n lines left whole rest is found ∙ ap (with_stages (stages ++ MapBy Length ∷ [])) told
+    lengths_more version stages before n lines left whole rest is found ∙ ap (with_stages (stages ++ Map Length ∷ [])) told
 
 -- texts in front of others
 texts_joined : (texts : List (List ℕ)) (text : List ℕ) (r : Result Texts FileFault) → with_texts texts (with_texts (text ∷ []) r) ≡ with_texts (texts ++ text ∷ []) r
@@ -182,7 +174,7 @@ texts_end texts count index n lines whole same is =
     is ∙ ap (λ m. with_texts texts (texts_from m n lines)) number ∙ ap (λ ts. let t : Texts = (ts, lines) in let found : Result Texts FileFault = Ok t in found) (append-nil texts)
 
 -- the same with nothing behind the stages
-pub text_ends : (stages : List Stage) (coming : Coming) (n : ℕ) (lines : List (List ℕ)) (whole : Result Body FileFault) (terminal : Terminal) → whole ≡ with_stages stages (body_from coming n lines) → first_of coming n lines ≡ Ok (TerminalLine terminal) → whole ≡ Ok (stages ++ [], terminal)
+pub text_ends : (stages : List Stage) (coming : Coming) (n : ℕ) (lines : List (List ℕ)) (whole : Result Body FileFault) (terminal : Terminal) → whole ≡ with_stages stages (body_from coming n lines) → first_of coming n lines ≡ Ok (body_lines.Terminal terminal) → whole ≡ Ok (stages ++ [], terminal)
 text_ends stages coming n lines whole terminal is first =
     ends_behind stages coming n lines whole terminal is first ∙ ap (λ ss. let b : Body = (ss, terminal) in let found : Result Body FileFault = Ok b in found) (sym (append-nil stages))
 

@@ -58,7 +58,7 @@ fn small_source(pipeline: &Pipeline) -> Option<u64>
 /// The number of the stages, where none makes several items of one.
 fn number_stages(body: &NumberBody) -> Option<u64> {
     for stage in &body.stages {
-        if let NumberStage::Repeat(_) = stage {
+        if let NumberStage::FlatMap(_) = stage {
             return None;
         }
     }
@@ -68,7 +68,7 @@ fn number_stages(body: &NumberBody) -> Option<u64> {
 /// The same of texts, and of the numbers behind them.
 fn text_stages(body: &TextBody) -> Option<u64> {
     for stage in &body.stages {
-        if let TextStage::Repeat(_) | TextStage::Words = stage {
+        if let TextStage::FlatMap(_) = stage {
             return None;
         }
     }

@@ -14,9 +14,9 @@ use Rattle.barriers.specs.Whiles.{drop_while}
 use Rattle.stages.specs.Distinct.{distinct_after}
 use Rattle.parallel_streams.specs.Meeting.{KeepsEnough-any, all-by-any}
 use Rattle.parallel_streams.specs.Terminals.{any_meets, all_meet}
-use Rattle.pipeline_language.specs.declared.pipeline.NumberStage.{NumberStage}
-use Rattle.pipeline_language.specs.declared.pipeline.NumberStage.TheVariants.{Map, Filter, Repeat, Distinct, Limit, Skip, TakeWhile, DropWhile}
-use Rattle.pipeline_language.specs.declared.pipeline.NumberTerminal.{NumberTerminal}
+use Rattle.pipeline_language.specs.Typed.{NumberStage, NumberTerminal}
+use Rattle.pipeline_language.specs.declared.grammar.Barrier.TheVariants.{Distinct, Limit, Skip, TakeWhile, DropWhile}
+use Rattle.pipeline_language.specs.declared.grammar.Stage.TheVariants.{Map, Filter, FlatMap, Barrier}
 use Rattle.pipeline_meaning.specs.Functions.{number_image, number_holds}
 use Rattle.pipeline_meaning.specs.Stages.{number_stage, number_stages}
 use Rattle.pipeline_value.specs.Fronts.{IsFrontOf}
@@ -84,12 +84,12 @@ distinct-front {X} same earlier (x ∷ front) rest = choice (list_any (same x) e
 stage-front : (s : NumberStage) (front rest : List ℤ) → IsFrontOf (number_stage s front) (number_stage s (front ++ rest))
 stage-front (Map f) front rest = map-front (number_image f) front rest
 stage-front (Filter p) front rest = (filter (number_holds p) rest, filter-append (number_holds p) front rest)
-stage-front (Repeat n) front rest = (flat_map (replicate n) rest, flat_map-append (replicate n) front rest)
-stage-front Distinct front rest = distinct-front int_eq [] front rest
-stage-front (Limit n) front rest = limit-front n front rest
-stage-front (Skip n) front rest = skip-front n front rest
-stage-front (TakeWhile p) front rest = take_while-front (number_holds p) front rest
-stage-front (DropWhile p) front rest = drop_while-front (number_holds p) front rest
+stage-front (FlatMap n) front rest = (flat_map (replicate n) rest, flat_map-append (replicate n) front rest)
+stage-front (Barrier Distinct) front rest = distinct-front int_eq [] front rest
+stage-front (Barrier (Limit n)) front rest = limit-front n front rest
+stage-front (Barrier (Skip n)) front rest = skip-front n front rest
+stage-front (Barrier (TakeWhile p)) front rest = take_while-front (number_holds p) front rest
+stage-front (Barrier (DropWhile p)) front rest = drop_while-front (number_holds p) front rest
 
 pub stages-front : (stages : List NumberStage) (front whole : List ℤ) → IsFrontOf front whole → IsFrontOf (number_stages stages front) (number_stages stages whole)
 stages-front [] front whole is = is

@@ -4,8 +4,7 @@ use Rattle.std.proofs.lemmas.List.Concat.{flat_map_single}
 use Rattle.std.specs.List.{slice_index_or}
 use Rattle.std.specs.Prelude.{Result}
 use Rattle.pipeline_language.specs.declared.pipeline.NumberBody.{NumberBody}
-use Rattle.pipeline_language.specs.declared.pipeline.NumberStage.{NumberStage}
-use Rattle.pipeline_language.specs.declared.pipeline.NumberTerminal.{NumberTerminal}
+use Rattle.pipeline_language.specs.Typed.{NumberStage, NumberTerminal}
 use Rattle.pipeline_meaning.specs.Functions.{text_length}
 use Rattle.pipeline_meaning.specs.Stages.{number_stages}
 use Rattle.pipeline_meaning.specs.Walks.{one_after_other}

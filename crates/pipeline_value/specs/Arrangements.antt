@@ -2,25 +2,17 @@
 use Rattle.std.specs.Prelude.{ℕ, pos, Bool, true, false, List, length}
 use Rattle.std.specs.Fmt.{signed_decimal}
 use Rattle.stages.specs.Wrapping.{wrapped}
-use Rattle.pipeline_language.specs.declared.pipeline.NumberTerminal.{NumberTerminal}
-use Rattle.pipeline_language.specs.declared.pipeline.NumberTerminal.TheVariants as of_numbers
-use Rattle.pipeline_language.specs.declared.pipeline.TextTerminal.{TextTerminal}
-use Rattle.pipeline_language.specs.declared.pipeline.TextTerminal.TheVariants as of_texts
 use Rattle.value_text.specs.Texts.{groups_text, parts_text, pair_text}
 use Rattle.pipeline_value.specs.declared.arrangements.Arrangement.{Arrangement}
 use Rattle.pipeline_value.specs.declared.arrangements.Arrangement.TheVariants.{Counts, Bases, Groups, Parts, Pair}
+use Rattle.pipeline_language.specs.declared.grammar.Terminal.{Terminal}
+use Rattle.pipeline_language.specs.declared.grammar.Terminal.TheVariants.{GroupBy, Partition, Teeing}
 
-abbrev pub arranges_numbers : NumberTerminal → Bool
-arranges_numbers (of_numbers.GroupBy key summary) = true
-arranges_numbers (of_numbers.Partition test summary) = true
-arranges_numbers (of_numbers.Teeing one other) = true
-arranges_numbers _ = false
-
-abbrev pub arranges_texts : TextTerminal → Bool
-arranges_texts (of_texts.GroupBy key summary) = true
-arranges_texts (of_texts.Partition test summary) = true
-arranges_texts (of_texts.Teeing one other) = true
-arranges_texts _ = false
+abbrev pub arranges : {F P S V O : Type 0} → Terminal F P S V O → Bool
+arranges (GroupBy key summary) = true
+arranges (Partition test summary) = true
+arranges (Teeing one other) = true
+arranges terminal = false
 
 -- the texts of the groups of items by their keys
 abbrev pub grouped_text : {K L X : Type 0} → (L → List ℕ) → (L → L → Bool) → (K → X → L) → K → (List X → List ℕ) → List X → List ℕ

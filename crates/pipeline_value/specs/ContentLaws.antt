@@ -8,10 +8,12 @@ use Rattle.pipeline_language.specs.declared.pipeline.Pipeline.{Pipeline}
 use Rattle.pipeline_language.specs.declared.pipeline.Pipeline.TheVariants as pipelines
 use Rattle.pipeline_language.specs.declared.pipeline.TextEnd.{TextEnd}
 use Rattle.pipeline_language.specs.declared.pipeline.TextEnd.TheVariants as ends
-use Rattle.pipeline_language.specs.declared.pipeline.TextStage.{TextStage}
-use Rattle.pipeline_language.specs.declared.pipeline.TextStage.TheVariants as text_stages
+use Rattle.pipeline_language.specs.Typed.{TextStage}
+use Rattle.pipeline_language.specs.declared.grammar.Stage.TheVariants as text_stages
 use Rattle.pipeline_language.specs.Content as content
 use Rattle.pipeline_language.specs.Language.{Means}
+use Rattle.pipeline_language.specs.declared.grammar.Function.TheVariants.{Length}
+use Rattle.pipeline_language.specs.declared.grammar.Stage.TheVariants.{Map}
 use Rattle.pipeline_language.specs.Syntax as syntax
 use Rattle.pipeline_language.proofs.FileLemmas.{one_meaning}
 use Rattle.pipeline_meaning.specs.Functions.{text_length}
@@ -26,7 +28,7 @@ numbers_told stages terminal l = number_told (number_terminal_of terminal) (mean
 
 abbrev texts_told : List syntax.Stage → syntax.Terminal → List (List ℕ) → Told
 texts_told [] terminal l = text_told (text_terminal_of terminal) l
-texts_told (syntax.MapBy syntax.Length ∷ stages) terminal l = numbers_told stages terminal (map text_length l)
+texts_told (Map Length ∷ stages) terminal l = numbers_told stages terminal (map text_length l)
 texts_told (stage ∷ stages) terminal l = texts_told stages terminal (meaning.text_stage (text_stage_of stage) l)
 
 abbrev origin_told : syntax.Origin → List (List ℕ) → List syntax.Stage → syntax.Terminal → Told
@@ -48,15 +50,10 @@ text_end-same (ends.Lengths body) l = number_body-same body (map text_length l)
 
 -- behind a stage that gives texts, the others
 behind_stage : (stage : TextStage) (stages : List syntax.Stage) (terminal : syntax.Terminal) (l : List (List ℕ)) → texts_told (content.text_stage stage ∷ stages) terminal l ≡ texts_told stages terminal (meaning.text_stage (text_stage_of (content.text_stage stage)) l)
-behind_stage text_stages.MapItself stages terminal l = refl
+behind_stage (text_stages.Map x) stages terminal l = refl
 behind_stage (text_stages.Filter p) stages terminal l = refl
-behind_stage (text_stages.Repeat n) stages terminal l = refl
-behind_stage text_stages.Words stages terminal l = refl
-behind_stage text_stages.Distinct stages terminal l = refl
-behind_stage (text_stages.Limit n) stages terminal l = refl
-behind_stage (text_stages.Skip n) stages terminal l = refl
-behind_stage (text_stages.TakeWhile p) stages terminal l = refl
-behind_stage (text_stages.DropWhile p) stages terminal l = refl
+behind_stage (text_stages.FlatMap e) stages terminal l = refl
+behind_stage (text_stages.Barrier b) stages terminal l = refl
 
 text_body-same : (stages : List TextStage) (end : TextEnd) (l : List (List ℕ)) → texts_told (map content.text_stage stages ++ (content.text_end end).0) (content.text_end end).1 l ≡ text_end_told end (meaning.text_stages stages l)
 text_body-same [] end l = text_end-same end l

@@ -18,8 +18,9 @@ use Rattle.stages.specs.Flags.{IsSound}
 use Rattle.stages.specs.declared.flags.StreamFlags.{StreamFlags}
 use Rattle.barriers.specs.BarrierFlags.{KeepsSound-distinct, KeepsSound-drop, KeepsSound-take}
 use Rattle.barriers.specs.Rewrites.{distinct-stays}
-use Rattle.pipeline_language.specs.declared.pipeline.NumberStage.{NumberStage}
-use Rattle.pipeline_language.specs.declared.pipeline.NumberStage.TheVariants.{Map, Filter, Repeat, Distinct, Limit, Skip, TakeWhile, DropWhile}
+use Rattle.pipeline_language.specs.Typed.{NumberStage}
+use Rattle.pipeline_language.specs.declared.grammar.Barrier.TheVariants.{Distinct, Limit, Skip, TakeWhile, DropWhile}
+use Rattle.pipeline_language.specs.declared.grammar.Stage.TheVariants.{Map, Filter, FlatMap, Barrier}
 use Rattle.pipeline_meaning.specs.Stages.{number_stage, number_stages}
 use Rattle.pipeline_value.specs.Narrowing.{stage-more, stages-append, stages-parted}
 use Rattle.pipeline_value.specs.OneToOne.{GivesI64, IsOneToOne, map-apart}
@@ -29,7 +30,7 @@ abbrev pub DifferAsTold : Bool → List ℤ → Type 0
 DifferAsTold differ l = All IsI64 l × OnTrue differ (AllPairs (λ c d. c ≢ d) l)
 
 abbrev pub is_distinct : NumberStage → Bool
-is_distinct Distinct = true
+is_distinct (Barrier Distinct) = true
 is_distinct _ = false
 
 -- ---- what each stage gives
@@ -82,14 +83,14 @@ distinct-told l values = (kept [] l values, (KeepsSound-distinct int_eq int_eq-d
 -- ---- stages without a distinct
 
 unneeded : (s : NumberStage) (l : List ℤ) → is_distinct s ≡ true → AllPairs (λ c d. c ≢ d) l → number_stage s l ≡ l
-unneeded Distinct l is apart = distinct-stays int_eq int_eq-decides l apart
+unneeded (Barrier Distinct) l is apart = distinct-stays int_eq int_eq-decides l apart
 unneeded (Map f) l is apart = absurd (true≢false (sym is))
 unneeded (Filter p) l is apart = absurd (true≢false (sym is))
-unneeded (Repeat n) l is apart = absurd (true≢false (sym is))
-unneeded (Limit n) l is apart = absurd (true≢false (sym is))
-unneeded (Skip n) l is apart = absurd (true≢false (sym is))
-unneeded (TakeWhile p) l is apart = absurd (true≢false (sym is))
-unneeded (DropWhile p) l is apart = absurd (true≢false (sym is))
+unneeded (FlatMap n) l is apart = absurd (true≢false (sym is))
+unneeded (Barrier (Limit n)) l is apart = absurd (true≢false (sym is))
+unneeded (Barrier (Skip n)) l is apart = absurd (true≢false (sym is))
+unneeded (Barrier (TakeWhile p)) l is apart = absurd (true≢false (sym is))
+unneeded (Barrier (DropWhile p)) l is apart = absurd (true≢false (sym is))
 
 -- a distinct that numbers come to that differ makes no difference
 pub distinct-dropped : (differ : Bool) (stages : List NumberStage) (at : ℕ) (d : NumberStage) (l : List ℤ) → at < length stages → is_distinct (slice_index_or stages at d) ≡ true

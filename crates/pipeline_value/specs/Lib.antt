@@ -6,6 +6,7 @@ pub mod FitLaws
 pub mod FoldedCopies
 pub mod Folds
 pub mod Fronts
+pub mod GrammarLaws
 pub mod KnownSizes
 pub mod NumberContents
 pub mod OneToOne

@@ -4,14 +4,14 @@ use Rattle.sources.specs.Integers.{count_between}
 use Rattle.pipeline_language.specs.declared.pipeline.NumberBody.{NumberBody}
 use Rattle.pipeline_language.specs.declared.pipeline.NumberSource.{NumberSource}
 use Rattle.pipeline_language.specs.declared.pipeline.NumberSource.TheVariants.{Range, Closed, Numbers}
-use Rattle.pipeline_language.specs.declared.pipeline.NumberStage.{NumberStage}
-use Rattle.pipeline_language.specs.declared.pipeline.NumberStage.TheVariants as of_numbers
+use Rattle.pipeline_language.specs.Typed.{NumberStage, TextStage}
 use Rattle.pipeline_language.specs.declared.pipeline.Pipeline.{Pipeline}
 use Rattle.pipeline_language.specs.declared.pipeline.Pipeline.TheVariants as pipelines
 use Rattle.pipeline_language.specs.declared.pipeline.TextEnd.{TextEnd}
 use Rattle.pipeline_language.specs.declared.pipeline.TextEnd.TheVariants as ends
-use Rattle.pipeline_language.specs.declared.pipeline.TextStage.{TextStage}
-use Rattle.pipeline_language.specs.declared.pipeline.TextStage.TheVariants as of_texts
+use Rattle.pipeline_language.specs.declared.grammar.Stage.{Stage}
+use Rattle.pipeline_language.specs.declared.grammar.Stage.TheVariants.{Barrier}
+use Rattle.pipeline_value.specs.Settling.{BarrierFits}
 
 -- a range has at most 2^62 items
 abbrev pub NumberSourceFits : NumberSource → Type 0
@@ -20,26 +20,15 @@ NumberSourceFits (Closed a b) = count_between a (b +ℤ pos 1) ≤ 2 ^ 62
 NumberSourceFits (Numbers numbers) = Unit {0}
 
 -- a number of items is below 2^63
+abbrev pub StageFits : {F P E : Type 0} → Stage F P E → Type 0
+StageFits (Barrier b) = BarrierFits b
+StageFits stage = Unit {0}
+
 abbrev pub NumberStageFits : NumberStage → Type 0
-NumberStageFits (of_numbers.Map f) = Unit {0}
-NumberStageFits (of_numbers.Filter p) = Unit {0}
-NumberStageFits (of_numbers.Repeat n) = Unit {0}
-NumberStageFits of_numbers.Distinct = Unit {0}
-NumberStageFits (of_numbers.Limit n) = n < 2 ^ 63
-NumberStageFits (of_numbers.Skip n) = n < 2 ^ 63
-NumberStageFits (of_numbers.TakeWhile p) = Unit {0}
-NumberStageFits (of_numbers.DropWhile p) = Unit {0}
+NumberStageFits stage = StageFits stage
 
 abbrev pub TextStageFits : TextStage → Type 0
-TextStageFits of_texts.MapItself = Unit {0}
-TextStageFits (of_texts.Filter p) = Unit {0}
-TextStageFits (of_texts.Repeat n) = Unit {0}
-TextStageFits of_texts.Words = Unit {0}
-TextStageFits of_texts.Distinct = Unit {0}
-TextStageFits (of_texts.Limit n) = n < 2 ^ 63
-TextStageFits (of_texts.Skip n) = n < 2 ^ 63
-TextStageFits (of_texts.TakeWhile p) = Unit {0}
-TextStageFits (of_texts.DropWhile p) = Unit {0}
+TextStageFits stage = StageFits stage
 
 abbrev pub NumberBodyFits : NumberBody → Type 0
 NumberBodyFits body = All NumberStageFits body.stages.items

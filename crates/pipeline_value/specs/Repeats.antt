@@ -6,8 +6,9 @@ use Rattle.std.proofs.Common.{ap, ap₂, sym, ◌∙◌, arith, true≢false}
 use Rattle.std.proofs.Math.ListN.{replicate}
 use Rattle.std.proofs.lemmas.Bool.Decides.{nat_tests}
 use Rattle.spliterator.specs.Values.{int_eq-decides}
-use Rattle.pipeline_language.specs.declared.pipeline.NumberStage.{NumberStage}
-use Rattle.pipeline_language.specs.declared.pipeline.NumberStage.TheVariants.{Map, Filter, Repeat, Distinct, Limit, Skip, TakeWhile, DropWhile}
+use Rattle.pipeline_language.specs.Typed.{NumberStage}
+use Rattle.pipeline_language.specs.declared.grammar.Barrier.TheVariants.{Distinct, Limit, Skip, TakeWhile, DropWhile}
+use Rattle.pipeline_language.specs.declared.grammar.Stage.TheVariants.{Map, Filter, FlatMap, Barrier}
 use Rattle.pipeline_meaning.specs.Functions.{number_image, number_holds}
 use Rattle.pipeline_meaning.specs.Stages.{number_stage, number_stages}
 use Rattle.pipeline_value.specs.Narrowing.{stage-more, stages-append, stages-parted}
@@ -16,26 +17,26 @@ use Rattle.pipeline_value.specs.Copies.{copies-drop_while, copies-filter, copies
 
 -- a repeat that makes at least one copy
 abbrev pub makes_copies : NumberStage → Bool
-makes_copies (Repeat n) = nat_le 1 n
+makes_copies (FlatMap n) = nat_le 1 n
 makes_copies _ = false
 
 -- what looks at items and not at how many there are: maps, filters, repeats and whiles
 abbrev pub passes_copies : NumberStage → Bool
-passes_copies Distinct = false
-passes_copies (Limit n) = false
-passes_copies (Skip n) = false
+passes_copies (Barrier Distinct) = false
+passes_copies (Barrier (Limit n)) = false
+passes_copies (Barrier (Skip n)) = false
 passes_copies _ = true
 
 -- it makes copies of copies
 pub passing : (s : NumberStage) (k : ℕ) (l : List ℤ) → passes_copies s ≡ true → number_stage s (flat_map (replicate k) l) ≡ flat_map (replicate k) (number_stage s l)
 passing (Map f) k l passes = copies-map (number_image f) k l
 passing (Filter p) k l passes = copies-filter (number_holds p) k l
-passing (Repeat n) k l passes = copies-swap n k l
-passing (TakeWhile p) k l passes = copies-take_while (number_holds p) k l
-passing (DropWhile p) k l passes = copies-drop_while (number_holds p) k l
-passing Distinct k l passes = absurd (true≢false (sym passes))
-passing (Limit n) k l passes = absurd (true≢false (sym passes))
-passing (Skip n) k l passes = absurd (true≢false (sym passes))
+passing (FlatMap n) k l passes = copies-swap n k l
+passing (Barrier (TakeWhile p)) k l passes = copies-take_while (number_holds p) k l
+passing (Barrier (DropWhile p)) k l passes = copies-drop_while (number_holds p) k l
+passing (Barrier Distinct) k l passes = absurd (true≢false (sym passes))
+passing (Barrier (Limit n)) k l passes = absurd (true≢false (sym passes))
+passing (Barrier (Skip n)) k l passes = absurd (true≢false (sym passes))
 
 -- stages of which each does so
 abbrev pub PassCopies : List NumberStage → Type 0
@@ -54,14 +55,14 @@ pass-more stages at d within pass passes k l =
     ∙ ap (flat_map (replicate k)) (stage-more number_stage stages at d (number_stages (take at stages) l) l within refl)
 
 dropped : (s : NumberStage) → is_distinct s ≡ true → (k : ℕ) (l : List ℤ) → 1 ≤ k → number_stage s (flat_map (replicate k) l) ≡ number_stage s l
-dropped Distinct is k l some = distinct-copies int_eq int_eq-decides k l some
+dropped (Barrier Distinct) is k l some = distinct-copies int_eq int_eq-decides k l some
 dropped (Map f) is k l some = absurd (true≢false (sym is))
 dropped (Filter p) is k l some = absurd (true≢false (sym is))
-dropped (Repeat n) is k l some = absurd (true≢false (sym is))
-dropped (Limit n) is k l some = absurd (true≢false (sym is))
-dropped (Skip n) is k l some = absurd (true≢false (sym is))
-dropped (TakeWhile p) is k l some = absurd (true≢false (sym is))
-dropped (DropWhile p) is k l some = absurd (true≢false (sym is))
+dropped (FlatMap n) is k l some = absurd (true≢false (sym is))
+dropped (Barrier (Limit n)) is k l some = absurd (true≢false (sym is))
+dropped (Barrier (Skip n)) is k l some = absurd (true≢false (sym is))
+dropped (Barrier (TakeWhile p)) is k l some = absurd (true≢false (sym is))
+dropped (Barrier (DropWhile p)) is k l some = absurd (true≢false (sym is))
 
 -- a distinct behind them drops the copies
 pub drop-at : (stages : List NumberStage) (at : ℕ) (d : NumberStage) → at < length stages → PassCopies (take at stages) → is_distinct (slice_index_or stages at d) ≡ true → DropCopies stages
@@ -84,17 +85,17 @@ repeat-dropped stages at d l within makes drops =
     ∙ sym (stages-parted number_stage stages at d l within)
   where
     repeated : (s : NumberStage) → makes_copies s ≡ true → (kept : List ℤ) → number_stages (drop (suc at) stages) (number_stage s kept) ≡ number_stages (drop (suc at) stages) kept
-    repeated (Repeat n) makes kept = drops n kept (some n makes)
+    repeated (FlatMap n) makes kept = drops n kept (some n makes)
       where
         some : (n : ℕ) → nat_le 1 n ≡ true → 1 ≤ n
         some n h = grind (arith, nat_tests, h)
-    repeated Distinct makes kept = absurd (true≢false (sym makes))
+    repeated (Barrier Distinct) makes kept = absurd (true≢false (sym makes))
     repeated (Map f) makes kept = absurd (true≢false (sym makes))
     repeated (Filter p) makes kept = absurd (true≢false (sym makes))
-    repeated (Limit n) makes kept = absurd (true≢false (sym makes))
-    repeated (Skip n) makes kept = absurd (true≢false (sym makes))
-    repeated (TakeWhile p) makes kept = absurd (true≢false (sym makes))
-    repeated (DropWhile p) makes kept = absurd (true≢false (sym makes))
+    repeated (Barrier (Limit n)) makes kept = absurd (true≢false (sym makes))
+    repeated (Barrier (Skip n)) makes kept = absurd (true≢false (sym makes))
+    repeated (Barrier (TakeWhile p)) makes kept = absurd (true≢false (sym makes))
+    repeated (Barrier (DropWhile p)) makes kept = absurd (true≢false (sym makes))
 
 -- ---- repeats that move to the front
 

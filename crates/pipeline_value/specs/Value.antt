@@ -12,17 +12,16 @@ use Rattle.parallel_streams.specs.Terminals.{all_meet, any_meets}
 use Rattle.pipeline_language.specs.declared.pipeline.NumberBody.{NumberBody}
 use Rattle.pipeline_language.specs.declared.pipeline.NumberSource.{NumberSource}
 use Rattle.pipeline_language.specs.declared.pipeline.NumberSource.TheVariants.{Range, Closed, Numbers}
-use Rattle.pipeline_language.specs.declared.pipeline.NumberTerminal.{NumberTerminal}
-use Rattle.pipeline_language.specs.declared.pipeline.NumberTerminal.TheVariants as of_numbers
+use Rattle.pipeline_language.specs.Typed.{NumberTerminal, TextTerminal, TextValue}
+use Rattle.pipeline_language.specs.declared.grammar.NumberTotal.TheVariants as totals
+use Rattle.pipeline_language.specs.declared.grammar.Joint.TheVariants.{Plain, Within}
+use Rattle.pipeline_language.specs.declared.grammar.Terminal.TheVariants as terminals
 use Rattle.pipeline_language.specs.declared.pipeline.TextBody.{TextBody}
 use Rattle.pipeline_language.specs.declared.pipeline.TextEnd.{TextEnd}
 use Rattle.pipeline_language.specs.declared.pipeline.TextEnd.TheVariants as ends
 use Rattle.pipeline_language.specs.declared.pipeline.TextFunction.{TextFunction}
 use Rattle.pipeline_language.specs.declared.pipeline.TextFunction.TheVariants as text_functions
-use Rattle.pipeline_language.specs.declared.pipeline.TextTerminal.{TextTerminal}
-use Rattle.pipeline_language.specs.declared.pipeline.TextTerminal.TheVariants as of_texts
-use Rattle.pipeline_language.specs.declared.pipeline.TextValue.{TextValue}
-use Rattle.pipeline_language.specs.declared.pipeline.TextValue.TheVariants as text_values
+use Rattle.pipeline_language.specs.declared.pipeline.Mapped.TheVariants as text_values
 use Rattle.pipeline_language.specs.declared.pipeline.Pipeline.{Pipeline}
 use Rattle.pipeline_language.specs.declared.pipeline.Pipeline.TheVariants as pipelines
 use Rattle.pipeline_value.specs.declared.told.ValueError.{ValueError}
@@ -57,21 +56,21 @@ strict_told key_text value_text same key value l = repeat_or key_text (first_rep
 
 -- what a terminal tells of numbers (java.util.stream.LongStream)
 abbrev pub number_told : NumberTerminal → List ℤ → Told
-number_told of_numbers.Sum l = Ok (signed_decimal (fold wrapped_sum (pos 0) l))
-number_told of_numbers.Product l = Ok (signed_decimal (fold wrapped_product (pos 1) l))
-number_told of_numbers.Max l = Ok (optional_text signed_decimal (reduced (larger int_cmp) l))
-number_told of_numbers.Min l = Ok (optional_text signed_decimal (reduced (smaller int_cmp) l))
-number_told of_numbers.Count l = Ok (signed_decimal (wrapped (pos (length l))))
-number_told of_numbers.FindFirst l = Ok (optional_text signed_decimal (first l))
-number_told of_numbers.ToList l = Ok (list_text signed_decimal l)
-number_told (of_numbers.AllMatch p) l = Ok (truth_text (all_meet (number_holds p) l))
-number_told (of_numbers.AnyMatch p) l = Ok (truth_text (any_meets (number_holds p) l))
-number_told (of_numbers.NoneMatch p) l = Ok (truth_text (not (any_meets (number_holds p) l)))
-number_told (of_numbers.GroupBy f summary) l = Ok (groups_text signed_decimal int_eq (number_image f) (number_summary_text summary) l)
-number_told (of_numbers.Partition p summary) l = Ok (parts_text (number_holds p) (number_summary_text summary) l)
-number_told (of_numbers.ToMap key value merge) l = Ok (merged_text signed_decimal signed_decimal int_eq (number_image key) (number_image value) (number_join merge) l)
-number_told (of_numbers.ToMapStrict key value) l = strict_told signed_decimal signed_decimal int_eq (number_image key) (number_image value) l
-number_told (of_numbers.Teeing one other) l = Ok (pair_text (number_summary_text one l) (number_summary_text other l))
+number_told (terminals.Own totals.Sum) l = Ok (signed_decimal (fold wrapped_sum (pos 0) l))
+number_told (terminals.Own totals.Product) l = Ok (signed_decimal (fold wrapped_product (pos 1) l))
+number_told (terminals.Own totals.Max) l = Ok (optional_text signed_decimal (reduced (larger int_cmp) l))
+number_told (terminals.Own totals.Min) l = Ok (optional_text signed_decimal (reduced (smaller int_cmp) l))
+number_told terminals.Count l = Ok (signed_decimal (wrapped (pos (length l))))
+number_told terminals.FindFirst l = Ok (optional_text signed_decimal (first l))
+number_told terminals.ToList l = Ok (list_text signed_decimal l)
+number_told (terminals.AllMatch p) l = Ok (truth_text (all_meet (number_holds p) l))
+number_told (terminals.AnyMatch p) l = Ok (truth_text (any_meets (number_holds p) l))
+number_told (terminals.NoneMatch p) l = Ok (truth_text (not (any_meets (number_holds p) l)))
+number_told (terminals.GroupBy f summary) l = Ok (groups_text signed_decimal int_eq (number_image f) (number_summary_text summary) l)
+number_told (terminals.Partition p summary) l = Ok (parts_text (number_holds p) (number_summary_text summary) l)
+number_told (terminals.ToMap key (value, merge)) l = Ok (merged_text signed_decimal signed_decimal int_eq (number_image key) (number_image value) (number_join merge) l)
+number_told (terminals.ToMapStrict key value) l = strict_told signed_decimal signed_decimal int_eq (number_image key) (number_image value) l
+number_told (terminals.Teeing one other) l = Ok (pair_text (number_summary_text one l) (number_summary_text other l))
 
 abbrev pub number_body_told : NumberBody → List ℤ → Told
 number_body_told body l = number_told body.terminal (number_stages body.stages.items l)
@@ -87,21 +86,21 @@ text_strict_told key_text same key text_functions.Itself l = strict_told key_tex
 
 -- what a terminal tells of texts (java.util.stream.Stream)
 abbrev pub text_told : TextTerminal → List (List ℕ) → Told
-text_told of_texts.Count l = Ok (signed_decimal (wrapped (pos (length l))))
-text_told of_texts.FindFirst l = Ok (optional_text itself (first l))
-text_told of_texts.ToList l = Ok (list_text itself l)
-text_told (of_texts.AllMatch p) l = Ok (truth_text (all_meet (text_holds p) l))
-text_told (of_texts.AnyMatch p) l = Ok (truth_text (any_meets (text_holds p) l))
-text_told (of_texts.NoneMatch p) l = Ok (truth_text (not (any_meets (text_holds p) l)))
-text_told (of_texts.Joining between) l = Ok (delimited between.now l)
-text_told (of_texts.JoiningWithin between front back) l = Ok (front.now ++ delimited between.now l ++ back.now)
-text_told (of_texts.GroupBy f summary) l = Ok (text_groups_text f (text_summary_text summary) l)
-text_told (of_texts.Partition p summary) l = Ok (parts_text (text_holds p) (text_summary_text summary) l)
-text_told (of_texts.ToMap text_functions.Length value) l = Ok (text_map_text signed_decimal int_eq text_length value l)
-text_told (of_texts.ToMap text_functions.Itself value) l = Ok (text_map_text itself bytes_eq itself value l)
-text_told (of_texts.ToMapStrict text_functions.Length value) l = text_strict_told signed_decimal int_eq text_length value l
-text_told (of_texts.ToMapStrict text_functions.Itself value) l = text_strict_told itself bytes_eq itself value l
-text_told (of_texts.Teeing one other) l = Ok (pair_text (text_summary_text one l) (text_summary_text other l))
+text_told terminals.Count l = Ok (signed_decimal (wrapped (pos (length l))))
+text_told terminals.FindFirst l = Ok (optional_text itself (first l))
+text_told terminals.ToList l = Ok (list_text itself l)
+text_told (terminals.AllMatch p) l = Ok (truth_text (all_meet (text_holds p) l))
+text_told (terminals.AnyMatch p) l = Ok (truth_text (any_meets (text_holds p) l))
+text_told (terminals.NoneMatch p) l = Ok (truth_text (not (any_meets (text_holds p) l)))
+text_told (terminals.Own (Plain between)) l = Ok (delimited between.now l)
+text_told (terminals.Own (Within between front back)) l = Ok (front.now ++ delimited between.now l ++ back.now)
+text_told (terminals.GroupBy f summary) l = Ok (text_groups_text f (text_summary_text summary) l)
+text_told (terminals.Partition p summary) l = Ok (parts_text (text_holds p) (text_summary_text summary) l)
+text_told (terminals.ToMap text_functions.Length value) l = Ok (text_map_text signed_decimal int_eq text_length value l)
+text_told (terminals.ToMap text_functions.Itself value) l = Ok (text_map_text itself bytes_eq itself value l)
+text_told (terminals.ToMapStrict text_functions.Length value) l = text_strict_told signed_decimal int_eq text_length value l
+text_told (terminals.ToMapStrict text_functions.Itself value) l = text_strict_told itself bytes_eq itself value l
+text_told (terminals.Teeing one other) l = Ok (pair_text (text_summary_text one l) (text_summary_text other l))
 
 abbrev pub text_end_told : TextEnd → List (List ℕ) → Told
 text_end_told (ends.Terminal terminal) l = text_told terminal l

@@ -8,7 +8,7 @@ ghost use Rattle.pipeline_value.specs.Differing.{DifferAsTold, is_distinct};
 ghost use Rattle.pipeline_value.specs.OneToOne.{GivesI64, IsOneToOne};
 ghost use Rattle.pipeline_value.specs.Ranges.{NumberStageFits};
 
-use pipeline_language::{NumberFunction, NumberStage};
+use pipeline_language::{Barrier, NumberFunction, NumberStage};
 
 /// Takes each `distinct` off the stages to which only numbers that differ come. `differ` tells whether those of the source do.
 ///
@@ -36,7 +36,7 @@ pub(crate) fn drop_distincts(stages: &mut Vec<NumberStage>, mut differ: bool)
 pub(crate) fn is_distinct(stage: &NumberStage) -> bool
     ensures { result ≡ is_distinct stage.now }
 {
-    matches!(stage, NumberStage::Distinct)
+    matches!(stage, NumberStage::Barrier(Barrier::Distinct))
 }
 
 /// Whether what a stage gives is known to differ, `differ` telling whether what comes to it is.
@@ -44,12 +44,13 @@ fn differ_behind(stage: &NumberStage, differ: bool) -> bool
     ensures { (l : List ℤ) → DifferAsTold differ l → DifferAsTold result (number_stage stage.now l) }
 {
     match stage {
-        NumberStage::Distinct => true,
+        NumberStage::Barrier(Barrier::Distinct) => true,
         NumberStage::Map(function) => differ & is_one_to_one(function),
-        NumberStage::Repeat(_) => false,
+        NumberStage::FlatMap(_) => false,
         NumberStage::Filter(_) => differ,
-        NumberStage::Limit(_) | NumberStage::Skip(_) => differ,
-        NumberStage::TakeWhile(_) | NumberStage::DropWhile(_) => differ,
+        NumberStage::Barrier(Barrier::Limit(_)) | NumberStage::Barrier(Barrier::Skip(_)) => differ,
+        NumberStage::Barrier(Barrier::TakeWhile(_)) | NumberStage::Barrier(Barrier::DropWhile(_)) =>
+            differ,
     }
 }
 

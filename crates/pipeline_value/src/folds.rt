@@ -12,7 +12,7 @@ use crate::told::{ValueError, ran, ran_optional, told};
 use collectors::SummingLong;
 use parallel_streams::Stream;
 use parts::Itself;
-use pipeline_language::NumberTerminal;
+use pipeline_language::{NumberTerminal, NumberTotal};
 use stages::{Max, Min, WrapMul};
 use std::thread::Threads;
 use stealing_pool::Gate;
@@ -34,10 +34,10 @@ impl Fold {
         ensures { result ≡ fold_of terminal.now }
     {
         match terminal {
-            NumberTerminal::Sum => Some(Fold::Sum),
-            NumberTerminal::Product => Some(Fold::Product),
-            NumberTerminal::Max => Some(Fold::Max),
-            NumberTerminal::Min => Some(Fold::Min),
+            NumberTerminal::Own(NumberTotal::Sum) => Some(Fold::Sum),
+            NumberTerminal::Own(NumberTotal::Product) => Some(Fold::Product),
+            NumberTerminal::Own(NumberTotal::Max) => Some(Fold::Max),
+            NumberTerminal::Own(NumberTotal::Min) => Some(Fold::Min),
             NumberTerminal::Count => Some(Fold::Count),
             _ => None,
         }

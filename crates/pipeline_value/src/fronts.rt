@@ -11,7 +11,7 @@ use crate::engine::Engine;
 use crate::numbers::{list_value, range_items};
 use crate::told::ValueError;
 use barriers::{Demand, FirstHit, TakeWhile};
-use pipeline_language::{NumberBody, NumberStage, NumberTerminal, NumberTest};
+use pipeline_language::{Barrier, NumberBody, NumberStage, NumberTerminal, NumberTest};
 use pipeline_meaning::NumberCheck;
 use sources::{RangeSplit, Windowed};
 use spliterator::Spliterator;
@@ -64,10 +64,11 @@ fn asking_at(stages: &[NumberStage], terminal: &NumberTerminal) -> Option<usize>
     let mut is_behind_barrier = false;
     for (at, stage) in stages.iter().enumerate() {
         match *stage {
-            NumberStage::Limit(_) | NumberStage::TakeWhile(_) if is_behind_barrier => {
+            NumberStage::Barrier(Barrier::Limit(_)) | NumberStage::Barrier(Barrier::TakeWhile(_))
+                if is_behind_barrier => {
                 return Some(at);
             }
-            NumberStage::Map(_) | NumberStage::Filter(_) | NumberStage::Repeat(_) => {}
+            NumberStage::Map(_) | NumberStage::Filter(_) | NumberStage::FlatMap(_) => {}
             _ => is_behind_barrier = true,
         }
     }
@@ -97,8 +98,8 @@ fn stage_decides(items: &[i64], stage: &NumberStage) -> bool
     ensures { result ≡ true → (whole : List ℤ) → IsFrontOf items.now whole → number_stage stage.now whole ≡ number_stage stage.now items.now }
 {
     match *stage {
-        NumberStage::Limit(most) => most <= items.len() as u64,
-        NumberStage::TakeWhile(test) => some_fails(items, test),
+        NumberStage::Barrier(Barrier::Limit(most)) => most <= items.len() as u64,
+        NumberStage::Barrier(Barrier::TakeWhile(test)) => some_fails(items, test),
         _ => false,
     }
 }

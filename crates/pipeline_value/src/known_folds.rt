@@ -10,7 +10,7 @@ ghost use Rattle.pipeline_value.specs.Value.{Tells, number_body_told};
 
 use crate::engine::Engine;
 use crate::told::{ValueError, told};
-use pipeline_language::{NumberBody, NumberTerminal};
+use pipeline_language::{NumberBody, NumberTerminal, NumberTotal};
 use sources::{Progression, Windowed};
 use spliterator::Spliterator;
 use value_text::Rope;
@@ -105,12 +105,12 @@ pub(crate) fn known_fold<R, H>(
         return None;
     }
     match body.terminal {
-        NumberTerminal::Sum => Some(told(engine.alloc, &sum_of(numbers))),
-        NumberTerminal::Max => {
+        NumberTerminal::Own(NumberTotal::Sum) => Some(told(engine.alloc, &sum_of(numbers))),
+        NumberTerminal::Own(NumberTotal::Max) => {
             let greatest = Span::of(numbers)?.greatest();
             Some(told(engine.alloc, &Some(greatest)))
         }
-        NumberTerminal::Min => {
+        NumberTerminal::Own(NumberTotal::Min) => {
             let least = Span::of(numbers)?.least();
             Some(told(engine.alloc, &Some(least)))
         }

@@ -7,12 +7,12 @@ ghost use Rattle.spliterator.specs.Characteristics.{tells};
 ghost use Rattle.spliterator.specs.declared.characteristics.TheConstants.{SIZED};
 ghost use Rattle.stages.specs.Wrapping.{wrapped};
 ghost use Rattle.pipeline_meaning.specs.Stages.{number_stage, number_stages, text_stage, text_stages};
-ghost use Rattle.pipeline_value.specs.KnownSizes.{count_is_known, counts_texts, number_count_is_known, number_size_stays_known, text_count_is_known, text_size_stays_known};
+ghost use Rattle.pipeline_value.specs.KnownSizes.{count_is_known, counts, number_count_is_known, size_stays_known, text_count_is_known};
 ghost use Rattle.pipeline_value.specs.Ranges.{NumberSourceFits, PipelineFits};
 ghost use Rattle.pipeline_value.specs.Value.{number_body_told, pipeline_told, source_numbers, text_end_told, text_told};
 
 use pipeline_language::{
-    NumberBody, NumberSource, NumberStage, NumberTerminal, Pipeline, TextEnd, TextStage,
+    Barrier, NumberBody, NumberSource, NumberStage, NumberTerminal, Pipeline, TextEnd, TextStage,
     TextTerminal,
 };
 use sources::RangeSplit;
@@ -66,7 +66,7 @@ fn end_count(size: u64, end: &TextEnd<'_>) -> Option<i64>
 /// The count of so many texts, where the terminal counts.
 fn terminal_count(size: u64, terminal: &TextTerminal<'_>) -> Option<i64>
     ensures value { IfSome result (λ n. (l : List (List ℕ)) → length l ≡ size → text_told terminal.now l ≡ Ok (signed_decimal n)) }
-    ensures known { is_some result ≡ counts_texts terminal.now }
+    ensures known { is_some result ≡ counts terminal.now }
 {
     match *terminal {
         TextTerminal::Count => Some(as_count(size)),
@@ -84,7 +84,7 @@ pub(crate) fn as_count(size: u64) -> i64
 /// How many numbers stages leave of so many, where that doesn't depend on the numbers.
 pub(crate) fn number_size(size: u64, stages: &[NumberStage]) -> Option<u64>
     ensures value { IfSome result (λ n. (l : List ℤ) → length l ≡ size → length (number_stages stages.now l) ≡ n) }
-    ensures known { is_some result ≡ list_all number_size_stays_known stages.now }
+    ensures known { is_some result ≡ list_all size_stays_known stages.now }
 {
     let mut left = size;
     for stage in stages {
@@ -96,24 +96,24 @@ pub(crate) fn number_size(size: u64, stages: &[NumberStage]) -> Option<u64>
 /// How many numbers a stage leaves of so many.
 fn number_size_after(size: u64, stage: &NumberStage) -> Option<u64>
     ensures value { IfSome result (λ n. (l : List ℤ) → length l ≡ size → length (number_stage stage.now l) ≡ n) }
-    ensures known { is_some result ≡ number_size_stays_known stage.now }
+    ensures known { is_some result ≡ size_stays_known stage.now }
 {
     match *stage {
         NumberStage::Map(_) => Some(size),
-        NumberStage::Limit(most) => Some(most.min(size)),
-        NumberStage::Skip(number) => Some(size.saturating_sub(number)),
+        NumberStage::Barrier(Barrier::Limit(most)) => Some(most.min(size)),
+        NumberStage::Barrier(Barrier::Skip(number)) => Some(size.saturating_sub(number)),
         NumberStage::Filter(_)
-        | NumberStage::Repeat(_)
-        | NumberStage::Distinct
-        | NumberStage::TakeWhile(_)
-        | NumberStage::DropWhile(_) => None,
+        | NumberStage::FlatMap(_)
+        | NumberStage::Barrier(Barrier::Distinct)
+        | NumberStage::Barrier(Barrier::TakeWhile(_))
+        | NumberStage::Barrier(Barrier::DropWhile(_)) => None,
     }
 }
 
 /// How many texts stages leave of so many, where that doesn't depend on the texts.
 pub(crate) fn text_size(size: u64, stages: &[TextStage<'_>]) -> Option<u64>
     ensures value { IfSome result (λ n. (l : List (List ℕ)) → length l ≡ size → length (text_stages stages.now l) ≡ n) }
-    ensures known { is_some result ≡ list_all text_size_stays_known stages.now }
+    ensures known { is_some result ≡ list_all size_stays_known stages.now }
 {
     let mut left = size;
     for stage in stages {
@@ -125,18 +125,17 @@ pub(crate) fn text_size(size: u64, stages: &[TextStage<'_>]) -> Option<u64>
 /// How many texts a stage leaves of so many.
 fn text_size_after(size: u64, stage: &TextStage<'_>) -> Option<u64>
     ensures value { IfSome result (λ n. (l : List (List ℕ)) → length l ≡ size → length (text_stage stage.now l) ≡ n) }
-    ensures known { is_some result ≡ text_size_stays_known stage.now }
+    ensures known { is_some result ≡ size_stays_known stage.now }
 {
     match *stage {
-        TextStage::MapItself => Some(size),
-        TextStage::Limit(most) => Some(most.min(size)),
-        TextStage::Skip(number) => Some(size.saturating_sub(number)),
+        TextStage::Map(()) => Some(size),
+        TextStage::Barrier(Barrier::Limit(most)) => Some(most.min(size)),
+        TextStage::Barrier(Barrier::Skip(number)) => Some(size.saturating_sub(number)),
         TextStage::Filter(_)
-        | TextStage::Repeat(_)
-        | TextStage::Words
-        | TextStage::Distinct
-        | TextStage::TakeWhile(_)
-        | TextStage::DropWhile(_) => None,
+        | TextStage::FlatMap(_)
+        | TextStage::Barrier(Barrier::Distinct)
+        | TextStage::Barrier(Barrier::TakeWhile(_))
+        | TextStage::Barrier(Barrier::DropWhile(_)) => None,
     }
 }
 

@@ -2,26 +2,17 @@
 
 ghost use Rattle.std.specs.Prelude.{◌≡◌, ◌≤◌, ◌<◌, Bool, false, IfOk, IsTrue, List, MatchBool, MatchOption, flat_map, length, take};
 ghost use Rattle.std.specs.List.{HoldsAt};
-ghost use Rattle.pipeline_meaning.specs.Stages.{is_number_barrier, is_text_barrier, number_stage, text_stage};
+ghost use Rattle.pipeline_meaning.specs.Stages.{is_barrier_stage, number_stage, text_stage};
 ghost use Rattle.pipeline_meaning.specs.Walks.{one_after_other};
 ghost use Rattle.pipeline_value.specs.Ranges.{NumberStageFits, TextStageFits};
-ghost use Rattle.pipeline_value.specs.Settling.{BarrierFits, IsReady, barrier_list, cuts_source, number_cuts_source, text_cuts_source};
+ghost use Rattle.pipeline_value.specs.Settling.{BarrierFits, IsReady, barrier_list, cuts_source, stage_cuts_source};
 
 use parts::AtMostOne;
-use pipeline_language::{NumberStage, TextStage};
+use pipeline_language::{Barrier, NumberStage, TextStage};
 use pipeline_meaning::{Fails, NumberCheck, NumberSteps, TextCheck, TextSteps};
 use spliterator::{NoMemory, OrderedValue};
 use stages::Stage;
 use std::alloc::Global;
-
-/// A stage that looks at more than one item, its test prepared.
-pub(crate) enum LanguageBarrier<K> {
-    Distinct,
-    Limit(u64),
-    Skip(u64),
-    TakeWhile(K),
-    DropWhile(K),
-}
 
 /// A stage of the language over items of one type.
 pub(crate) trait LanguageStage<T: OrderedValue + Drop>: Sized {
@@ -54,7 +45,7 @@ pub(crate) trait LanguageStage<T: OrderedValue + Drop>: Sized {
         ensures { IfOk result (λ is_put. MatchBool is_put ((l : List T.Content) → flat_map (Self.Steps.expand steps.new) l ≡ makes self.now (flat_map (Self.Steps.expand steps.old) l)) (IsTrue (is_barrier self.now) × (steps.new ≡ steps.old))) };
 
     /// The barrier that the stage is, or `None` where it looks at one item at a time.
-    fn barrier(&self) -> Option<LanguageBarrier<Self::Check>>
+    fn barrier(&self) -> Option<Barrier<Self::Check>>
         ensures none { MatchOption result (is_barrier self.now ≡ false) (λ b. (l : List T.Content) → barrier_list T.same Self.Check.holds b l ≡ makes self.now l) }
         ensures cuts { MatchOption result (cuts self.now ≡ false) (λ b. cuts_source b ≡ cuts self.now) }
         ensures fits { MatchOption result (Unit {0}) (λ b. Fits self.now → BarrierFits b) }
@@ -73,9 +64,9 @@ impl LanguageStage<i64> for NumberStage {
 
     ghost makes = { number_stage };
 
-    ghost is_barrier = { is_number_barrier };
+    ghost is_barrier = { is_barrier_stage };
 
-    ghost cuts = { number_cuts_source };
+    ghost cuts = { stage_cuts_source };
 
     ghost Fits = { NumberStageFits };
 
@@ -87,14 +78,16 @@ impl LanguageStage<i64> for NumberStage {
         steps.put(self)
     }
 
-    fn barrier(&self) -> Option<LanguageBarrier<NumberCheck>> {
-        Some(match *self {
-            NumberStage::Distinct => LanguageBarrier::Distinct,
-            NumberStage::Limit(most) => LanguageBarrier::Limit(most),
-            NumberStage::Skip(number) => LanguageBarrier::Skip(number),
-            NumberStage::TakeWhile(test) => LanguageBarrier::TakeWhile(NumberCheck::of(test)),
-            NumberStage::DropWhile(test) => LanguageBarrier::DropWhile(NumberCheck::of(test)),
-            NumberStage::Map(_) | NumberStage::Filter(_) | NumberStage::Repeat(_) => return None,
+    fn barrier(&self) -> Option<Barrier<NumberCheck>> {
+        let NumberStage::Barrier(barrier) = *self else {
+            return None;
+        };
+        Some(match barrier {
+            Barrier::Distinct => Barrier::Distinct,
+            Barrier::Limit(most) => Barrier::Limit(most),
+            Barrier::Skip(number) => Barrier::Skip(number),
+            Barrier::TakeWhile(test) => Barrier::TakeWhile(NumberCheck::of(test)),
+            Barrier::DropWhile(test) => Barrier::DropWhile(NumberCheck::of(test)),
         })
     }
 }
@@ -108,9 +101,9 @@ impl<'a> LanguageStage<&'a str> for TextStage<'a> {
 
     ghost makes = { text_stage };
 
-    ghost is_barrier = { is_text_barrier };
+    ghost is_barrier = { is_barrier_stage };
 
-    ghost cuts = { text_cuts_source };
+    ghost cuts = { stage_cuts_source };
 
     ghost Fits = { TextStageFits };
 
@@ -125,17 +118,16 @@ impl<'a> LanguageStage<&'a str> for TextStage<'a> {
         steps.put(self)
     }
 
-    fn barrier(&self) -> Option<LanguageBarrier<TextCheck<'a>>> {
-        Some(match *self {
-            TextStage::Distinct => LanguageBarrier::Distinct,
-            TextStage::Limit(most) => LanguageBarrier::Limit(most),
-            TextStage::Skip(number) => LanguageBarrier::Skip(number),
-            TextStage::TakeWhile(test) => LanguageBarrier::TakeWhile(TextCheck::of(test)),
-            TextStage::DropWhile(test) => LanguageBarrier::DropWhile(TextCheck::of(test)),
-            TextStage::MapItself | TextStage::Filter(_) | TextStage::Repeat(_) | TextStage::Words =>
-                {
-                    return None;
-                }
+    fn barrier(&self) -> Option<Barrier<TextCheck<'a>>> {
+        let TextStage::Barrier(barrier) = *self else {
+            return None;
+        };
+        Some(match barrier {
+            Barrier::Distinct => Barrier::Distinct,
+            Barrier::Limit(most) => Barrier::Limit(most),
+            Barrier::Skip(number) => Barrier::Skip(number),
+            Barrier::TakeWhile(test) => Barrier::TakeWhile(TextCheck::of(test)),
+            Barrier::DropWhile(test) => Barrier::DropWhile(TextCheck::of(test)),
         })
     }
 }

@@ -5,9 +5,10 @@ ghost use Rattle.spliterator.specs.Clones.{ClonesAlike};
 ghost use Rattle.pipeline_value.specs.Settling.{BarrierFits, IsReady, barrier_list};
 
 use crate::engine::Engine;
-use crate::language_stages::{LanguageBarrier, LanguageStage};
+use crate::language_stages::LanguageStage;
 use barriers::{DropWhile, Limit, Skip, TakeWhile};
 use fused_runs::{gather, gather_distinct};
+use pipeline_language::Barrier;
 use spliterator::{NoMemory, OrderedValue, Spliterator};
 use stages::{Stage, Test};
 use std::hash::Hash;
@@ -19,7 +20,7 @@ fn list_left<R, S, A, K, H>(
     engine: &Engine<'_, R, H>,
     source: S,
     stage: &A,
-    barrier: LanguageBarrier<K>,
+    barrier: Barrier<K>,
 ) -> Result<Vec<A::Out>, NoMemory>
 where
     R: Threads + Sync,
@@ -37,11 +38,11 @@ where
 {
     let lent = &engine.lent();
     match barrier {
-        LanguageBarrier::Distinct => gather_distinct(lent, engine.hashes, source, stage),
-        LanguageBarrier::Limit(most) => gather(lent, source, stage, &Limit::new(most)),
-        LanguageBarrier::Skip(number) => gather(lent, source, stage, &Skip::new(number)),
-        LanguageBarrier::TakeWhile(test) => gather(lent, source, stage, &TakeWhile::new(test)),
-        LanguageBarrier::DropWhile(test) => gather(lent, source, stage, &DropWhile::new(test)),
+        Barrier::Distinct => gather_distinct(lent, engine.hashes, source, stage),
+        Barrier::Limit(most) => gather(lent, source, stage, &Limit::new(most)),
+        Barrier::Skip(number) => gather(lent, source, stage, &Skip::new(number)),
+        Barrier::TakeWhile(test) => gather(lent, source, stage, &TakeWhile::new(test)),
+        Barrier::DropWhile(test) => gather(lent, source, stage, &DropWhile::new(test)),
     }
 }
 

@@ -1,11 +1,11 @@
 //! Ranges, narrowed before anything runs: by limits and skips, and by filters that compare.
 
 ghost use Rattle.std.specs.Prelude.{◌≡◌, All, IfSome, false, true};
-ghost use Rattle.pipeline_meaning.specs.Stages.{is_number_map, number_stage, number_stages};
+ghost use Rattle.pipeline_meaning.specs.Stages.{is_map_stage, number_stage, number_stages};
 ghost use Rattle.pipeline_value.specs.Narrowing.{is_window};
 ghost use Rattle.pipeline_value.specs.Ranges.{NumberStageFits};
 
-use pipeline_language::{NumberStage, NumberTest};
+use pipeline_language::{Barrier, NumberStage, NumberTest};
 use sources::{RangeSplit, Windowed};
 use spliterator::Spliterator;
 
@@ -41,7 +41,7 @@ pub(crate) fn narrowed(mut range: RangeSplit, stages: &mut Vec<NumberStage>) -> 
 
 /// Whether the stage is a map.
 fn is_map(stage: &NumberStage) -> bool
-    ensures { result ≡ is_number_map stage.now }
+    ensures { result ≡ is_map_stage stage.now }
 {
     matches!(stage, NumberStage::Map(_))
 }
@@ -52,8 +52,8 @@ fn part_of(range: RangeSplit, stage: &NumberStage, is_first: bool) -> Option<Ran
     ensures window { IfSome result (λ _. is_first ≡ false → is_window stage.now ≡ true) }
 {
     match *stage {
-        NumberStage::Limit(most) => Some(range.first(most)),
-        NumberStage::Skip(number) => Some(range.after_first(number)),
+        NumberStage::Barrier(Barrier::Limit(most)) => Some(range.first(most)),
+        NumberStage::Barrier(Barrier::Skip(number)) => Some(range.after_first(number)),
         _ if is_first => compared_part(range, stage),
         _ => None,
     }

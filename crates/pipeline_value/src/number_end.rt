@@ -12,7 +12,7 @@ use crate::number_maps::{map_value, strict_map_value};
 use crate::told::{ValueError, ran_optional, ran_text, ran_told};
 use parallel_streams::{Stream, of};
 use parts::AtMostOne;
-use pipeline_language::NumberTerminal;
+use pipeline_language::{NumberTerminal, NumberTotal};
 use pipeline_meaning::{NumberCheck as Check, NumberSteps};
 use sources::Windowed;
 use spliterator::Spliterator;
@@ -59,15 +59,17 @@ where
             let check = Check::of(test);
             ran_told(engine, stream.none_match(rt, alloc, run, &check))
         }
-        NumberTerminal::ToMap(key, value, merge) => { map_value(engine, stream, key, value, merge) }
+        NumberTerminal::ToMap(key, (value, merge)) => {
+            map_value(engine, stream, key, value, merge)
+        }
         NumberTerminal::ToMapStrict(key, value) => { strict_map_value(engine, stream, key, value) }
         NumberTerminal::GroupBy(_, _)
         | NumberTerminal::Partition(_, _)
         | NumberTerminal::Teeing(_, _) => unreachable!(),
-        NumberTerminal::Sum
-        | NumberTerminal::Product
-        | NumberTerminal::Max
-        | NumberTerminal::Min
+        NumberTerminal::Own(NumberTotal::Sum)
+        | NumberTerminal::Own(NumberTotal::Product)
+        | NumberTerminal::Own(NumberTotal::Max)
+        | NumberTerminal::Own(NumberTotal::Min)
         | NumberTerminal::Count => unreachable!(),
     }
 }

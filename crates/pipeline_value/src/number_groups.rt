@@ -4,7 +4,7 @@ ghost use Rattle.std.specs.Prelude.{◌≡◌, ℤ, List, IfSome, Ok, is_some, �
 ghost use Rattle.std.specs.Fmt.{signed_decimal};
 ghost use Rattle.std.specs.Ordering.{int_eq};
 ghost use Rattle.pipeline_meaning.specs.Prepared.{check_holds, mapping_image};
-ghost use Rattle.pipeline_value.specs.Arrangements.{IsReady, arranged_text, arranges_numbers, grouped_text};
+ghost use Rattle.pipeline_value.specs.Arrangements.{IsReady, arranged_text, arranges, grouped_text};
 ghost use Rattle.pipeline_value.specs.Value.{number_told};
 
 use crate::arrangements::Arrangement;
@@ -32,7 +32,7 @@ pub(crate) fn number_arrangement<R, H>(
 ) -> Option<NumberArrangement>
     ensures ready { IfSome result (IsReady (λ _. ⊤) (λ _. ⊤) (λ c. ⟦<NumberBaseCollector as Collector>⟧.ready c) (λ c. ⟦<NumberSummaryCollector as Collector>⟧.ready c)) }
     ensures told { IfSome result (λ arranged. (l : List ℤ) → number_told terminal.now l ≡ Ok (arranged_text (grouped_text signed_decimal int_eq mapping_image) check_holds (λ c. ⟦<NumberBaseCollector as Summarizes>⟧.summary c) (λ c. ⟦<NumberSummaryCollector as Summarizes>⟧.summary c) arranged l)) }
-    ensures known { is_some result ≡ arranges_numbers terminal.now }
+    ensures known { is_some result ≡ arranges terminal.now }
 {
     match *terminal {
         NumberTerminal::GroupBy(function, NumberSummary::Base(NumberBase::Count)) => {

@@ -1,13 +1,13 @@
 //! The maps of numbers to numbers that terminals make.
 
-ghost use Rattle.pipeline_language.specs.declared.pipeline.NumberTerminal.TheVariants as terminals;
+ghost use Rattle.pipeline_language.specs.declared.grammar.Terminal.TheVariants as terminals;
 ghost use Rattle.pipeline_value.specs.Value.{Tells, number_told};
 
 use crate::engine::Engine;
 use crate::maps::{merged_value, strict_value};
 use crate::told::ValueError;
 use parallel_streams::Stream;
-use pipeline_language::{NumberFunction, NumberMerge};
+use pipeline_language::{Merge, NumberFunction};
 use pipeline_meaning::{NumberMapping, NumberMerging};
 use std::thread::Threads;
 use stealing_pool::Gate;
@@ -19,7 +19,7 @@ pub(crate) fn map_value<R, X, H>(
     stream: &X,
     key: NumberFunction,
     value: NumberFunction,
-    merge: NumberMerge,
+    merge: Merge,
 ) -> Result<Rope, ValueError>
 where
     R: Threads + Sync,
@@ -28,7 +28,7 @@ where
     X::Part: Send,
     H: Gate + Sync,
     requires stream { X.ready stream.now }
-    ensures { Tells (number_told (terminals.ToMap key value merge) (X.value stream.now)) result }
+    ensures { Tells (number_told (terminals.ToMap key (value, merge)) (X.value stream.now)) result }
 {
     let key = NumberMapping::of(key);
     let value = NumberMapping::of(value);

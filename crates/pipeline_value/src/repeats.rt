@@ -8,7 +8,7 @@ ghost use Rattle.pipeline_meaning.specs.Stages.{number_stage, number_stages};
 
 use crate::differing::is_distinct;
 use crate::repeated::Repeated;
-use pipeline_language::NumberStage;
+use pipeline_language::{Barrier, NumberStage};
 use sources::Windowed;
 use spliterator::{MAX_ESTIMATE, Spliterator};
 
@@ -38,7 +38,7 @@ fn makes_copies(stage: &NumberStage) -> bool
     ensures { result ≡ makes_copies stage.now }
 {
     match *stage {
-        NumberStage::Repeat(number) => number >= 1,
+        NumberStage::FlatMap(number) => number >= 1,
         _ => false,
     }
 }
@@ -63,9 +63,11 @@ fn passes_copies(stage: &NumberStage) -> bool
     ensures { result ≡ passes_copies stage.now }
 {
     match stage {
-        NumberStage::Map(_) | NumberStage::Filter(_) | NumberStage::Repeat(_) => true,
-        NumberStage::TakeWhile(_) | NumberStage::DropWhile(_) => true,
-        NumberStage::Distinct | NumberStage::Limit(_) | NumberStage::Skip(_) => false,
+        NumberStage::Map(_) | NumberStage::Filter(_) | NumberStage::FlatMap(_) => true,
+        NumberStage::Barrier(barrier) => match barrier {
+            Barrier::TakeWhile(_) | Barrier::DropWhile(_) => true,
+            Barrier::Distinct | Barrier::Limit(_) | Barrier::Skip(_) => false,
+        },
     }
 }
 
@@ -91,10 +93,12 @@ pub(crate) fn repeats_first(stages: &mut Vec<NumberStage>)
 fn is_cut_later(stages: &[NumberStage]) -> bool {
     for stage in stages {
         match stage {
-            NumberStage::Distinct => return false,
-            NumberStage::Limit(_) | NumberStage::Skip(_) => return true,
-            NumberStage::TakeWhile(_) | NumberStage::DropWhile(_) => return true,
-            NumberStage::Map(_) | NumberStage::Filter(_) | NumberStage::Repeat(_) => {}
+            NumberStage::Barrier(Barrier::Distinct) => return false,
+            NumberStage::Barrier(Barrier::Limit(_)) | NumberStage::Barrier(Barrier::Skip(_)) =>
+                return true,
+            NumberStage::Barrier(Barrier::TakeWhile(_))
+            | NumberStage::Barrier(Barrier::DropWhile(_)) => return true,
+            NumberStage::Map(_) | NumberStage::Filter(_) | NumberStage::FlatMap(_) => {}
         }
     }
     false
@@ -127,7 +131,7 @@ fn behind_repeat(stage: &NumberStage, repeat: &NumberStage) -> Option<NumberStag
     ensures fits { IfSome result NumberStageFits }
 {
     match *repeat {
-        NumberStage::Repeat(number) => behind_copies(stage, number),
+        NumberStage::FlatMap(number) => behind_copies(stage, number),
         _ => None,
     }
 }
@@ -142,8 +146,12 @@ fn behind_copies(stage: &NumberStage, number: u64) -> Option<NumberStage>
         return Some(*stage);
     }
     match *stage {
-        NumberStage::Limit(most) => Some(NumberStage::Limit(copies_of(most, number)?)),
-        NumberStage::Skip(skipped) => Some(NumberStage::Skip(copies_of(skipped, number)?)),
+        NumberStage::Barrier(Barrier::Limit(most)) => Some(NumberStage::Barrier(Barrier::Limit(
+            copies_of(most, number)?,
+        ))),
+        NumberStage::Barrier(Barrier::Skip(skipped)) => Some(NumberStage::Barrier(Barrier::Skip(
+            copies_of(skipped, number)?,
+        ))),
         _ => None,
     }
 }
@@ -225,7 +233,7 @@ fn copies_behind(times: u64, stage: &NumberStage) -> Option<u64>
     ensures copies { IfSome result (λ copies. (l : List ℤ) → number_stage stage.now (flat_map (replicate times) l) ≡ flat_map (replicate copies) l) }
 {
     match *stage {
-        NumberStage::Repeat(number) if number >= 1 => {
+        NumberStage::FlatMap(number) if number >= 1 => {
             let copies = times.checked_mul(number)?;
             Some(copies)
         }

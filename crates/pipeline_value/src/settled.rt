@@ -7,9 +7,10 @@ ghost use Rattle.pipeline_meaning.specs.Walks.{one_after_other};
 ghost use Rattle.pipeline_value.specs.Settling.{BarrierFits, barrier_list, cuts_source};
 
 use crate::engine::Engine;
-use crate::language_stages::{LanguageBarrier, LanguageStage};
+use crate::language_stages::LanguageStage;
 use fused_runs::{dropped_part, limited_part, skipped_part, taken_part};
 use parts::AtMostOne;
+use pipeline_language::Barrier;
 use pipeline_meaning::Fails;
 use sources::Windowed;
 use spliterator::{NoMemory, OrderedValue};
@@ -22,7 +23,7 @@ fn part_left<R, S, A, K, H>(
     engine: &Engine<'_, R, H>,
     source: S,
     stage: &A,
-    barrier: LanguageBarrier<K>,
+    barrier: Barrier<K>,
 ) -> Result<Option<S>, NoMemory>
 where
     R: Threads + Sync,
@@ -40,20 +41,20 @@ where
 {
     let engine = &engine.lent();
     match barrier {
-        LanguageBarrier::Distinct => Ok(None),
-        LanguageBarrier::Limit(most) => {
+        Barrier::Distinct => Ok(None),
+        Barrier::Limit(most) => {
             let part = limited_part(engine, source, stage, most)?;
             Ok(Some(part))
         }
-        LanguageBarrier::Skip(number) => {
+        Barrier::Skip(number) => {
             let part = skipped_part(engine, source, stage, number)?;
             Ok(Some(part))
         }
-        LanguageBarrier::TakeWhile(test) => {
+        Barrier::TakeWhile(test) => {
             let part = taken_part(engine, source, stage, &test, &test.failing())?;
             Ok(Some(part))
         }
-        LanguageBarrier::DropWhile(test) => {
+        Barrier::DropWhile(test) => {
             let part = dropped_part(engine, source, stage, &test, &test.failing())?;
             Ok(Some(part))
         }

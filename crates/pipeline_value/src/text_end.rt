@@ -2,7 +2,7 @@
 
 ghost use Rattle.std.specs.Prelude.{◌≡◌, bytes_eq, false};
 ghost use Rattle.value_text.specs.Texts.{itself};
-ghost use Rattle.pipeline_value.specs.Arrangements.{arranges_texts};
+ghost use Rattle.pipeline_value.specs.Arrangements.{arranges};
 ghost use Rattle.pipeline_value.specs.Value.{Tells, text_told};
 ghost use Rattle.spliterator.specs.Clones.{ClonesAlike};
 
@@ -12,7 +12,7 @@ use crate::text_maps::{map_value, strict_map_value};
 use crate::text_parts::text_arranged_value;
 use crate::told::{ValueError, ran_optional, ran_text, ran_told};
 use parallel_streams::{Source, Staged, Stream};
-use pipeline_language::TextTerminal;
+use pipeline_language::{Joint, TextTerminal};
 use pipeline_meaning::{TextCheck, TextSteps};
 use sources::SliceSplit;
 use spliterator::{OrderedValue, Text};
@@ -53,7 +53,7 @@ where
     X::Part: Send,
     H: Gate + Sync,
     requires stream { X.ready stream.now }
-    requires plain { arranges_texts terminal.now ≡ false }
+    requires plain { arranges terminal.now ≡ false }
     requires clones { ClonesAlike T.is_clone T.content }
     requires spelling { T.spelling ≡ itself }
     requires same { T.same ≡ bytes_eq }
@@ -79,11 +79,11 @@ where
             let check = TextCheck::of(test);
             ran_told(engine, stream.none_match(rt, alloc, run, &check))
         }
-        TextTerminal::Joining(between) => {
+        TextTerminal::Own(Joint::Plain(between)) => {
             let joining = JoinedText::new(alloc, between);
             ran_text(engine, stream.collect(rt, alloc, run, &joining))
         }
-        TextTerminal::JoiningWithin(between, front, back) => {
+        TextTerminal::Own(Joint::Within(between, front, back)) => {
             let joining = JoinedText::within(alloc, between, front, back);
             ran_text(engine, stream.collect(rt, alloc, run, &joining))
         }

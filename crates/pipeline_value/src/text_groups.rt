@@ -3,7 +3,7 @@
 ghost use Rattle.std.specs.Prelude.{◌≡◌, ℕ, List, IfSome, Ok, is_some, ⊤};
 ghost use Rattle.pipeline_meaning.specs.Functions.{text_holds};
 ghost use Rattle.pipeline_meaning.specs.Summaries.{text_groups_text};
-ghost use Rattle.pipeline_value.specs.Arrangements.{IsReady, arranged_text, arranges_texts};
+ghost use Rattle.pipeline_value.specs.Arrangements.{IsReady, arranged_text, arranges};
 ghost use Rattle.pipeline_value.specs.Value.{text_told};
 
 use crate::arrangements::Arrangement;
@@ -30,7 +30,7 @@ pub(crate) fn text_arrangement<'a, R, H>(
 ) -> Option<TextArrangement<'a>>
     ensures ready { IfSome result (IsReady (λ _. ⊤) (λ _. ⊤) (λ c. ⟦<TextBaseCollector<'a> as Collector>⟧.ready c) (λ c. ⟦<TextSummaryCollector<'a> as Collector>⟧.ready c)) }
     ensures told { IfSome result (λ arranged. (l : List (List ℕ)) → text_told terminal.now l ≡ Ok (arranged_text text_groups_text (λ check. text_holds check.test) (λ c. ⟦<TextBaseCollector<'a> as Summarizes>⟧.summary c) (λ c. ⟦<TextSummaryCollector<'a> as Summarizes>⟧.summary c) arranged l)) }
-    ensures known { is_some result ≡ arranges_texts terminal.now }
+    ensures known { is_some result ≡ arranges terminal.now }
 {
     match *terminal {
         TextTerminal::GroupBy(key, TextSummary::Base(TextBase::Count)) => {

@@ -2,7 +2,7 @@
 
 ghost use Rattle.std.specs.Prelude.{◌≡◌, Ok, bytes_eq};
 ghost use Rattle.value_text.specs.Texts.{itself};
-ghost use Rattle.pipeline_language.specs.declared.pipeline.TextTerminal.TheVariants as terminals;
+ghost use Rattle.pipeline_language.specs.declared.grammar.Terminal.TheVariants as terminals;
 ghost use Rattle.pipeline_value.specs.Value.{Tells, text_map_text, text_strict_told, text_told};
 
 use crate::engine::Engine;

@@ -1,7 +1,7 @@
 //! Copies and words for a sink that takes no more.
 ghost use Rattle.std.specs.Prelude.{⊤};
 
-use pipeline_language::{NumberStage, TextStage};
+use pipeline_language::{Expansion, NumberStage, TextStage};
 use pipeline_meaning::{NumberSteps, TextSteps};
 use spliterator::{NoMemory, Value};
 use stages::{Sink, Stage};
@@ -48,12 +48,15 @@ impl<T: Value + Drop> Sink<T> for Two {
 #[test]
 fn no_more_is_fed_once_a_sink_is_full(rt: HostRuntime) -> Result<(), Fail> {
     for (often, most) in [(1_000, 1_000), (3_000, 1_024)] {
-        let (steps, _) = NumberSteps::front_of(rt.alloc(), &[NumberStage::Repeat(often)])?;
+        let (steps, _) = NumberSteps::front_of(rt.alloc(), &[NumberStage::FlatMap(often)])?;
         let mut two = Two { came: 0 };
         steps.feed_all(&mut Vec::from_array(rt.alloc(), [7, 8])?, &mut two)?;
         assert!(rt; two.came == most, "{} of {often}", two.came);
     }
-    for stage in [TextStage::Repeat(5), TextStage::Words] {
+    for stage in [
+        TextStage::FlatMap(Expansion::Repeat(5)),
+        TextStage::FlatMap(Expansion::Words),
+    ] {
         let (steps, _) = TextSteps::front_of(rt.alloc(), &[stage])?;
         let mut two = Two { came: 0 };
         steps.feed("a b c", &mut two)?;

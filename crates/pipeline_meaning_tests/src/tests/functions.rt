@@ -1,6 +1,6 @@
 //! Functions of numbers and texts, made of what a file names.
 
-use pipeline_language::{NumberFunction, NumberMerge, NumberTest, TextMerge, TextTest};
+use pipeline_language::{Merge, NumberFunction, NumberTest, TextMerge, TextTest};
 use pipeline_meaning::{NumberCheck, NumberMapping, NumberMerging, TextCheck, TextMerging};
 use spliterator::{NoMemory, Value};
 use stages::{Mapping, Operator, Test};
@@ -102,12 +102,12 @@ fn a_test_of_an_owned_text(rt: HostRuntime) -> Result<(), Fail> {
     Ok(())
 }
 
-static JOINED: [(NumberMerge, i64, i64, i64); 5] = [
-    (NumberMerge::First, 3, 5, 3),
-    (NumberMerge::Last, 3, 5, 5),
-    (NumberMerge::Sum, i64::MAX, 1, i64::MIN),
-    (NumberMerge::Max, 3, 5, 5),
-    (NumberMerge::Min, 3, 5, 3),
+static JOINED: [(Merge, i64, i64, i64); 5] = [
+    (Merge::First, 3, 5, 3),
+    (Merge::Last, 3, 5, 5),
+    (Merge::Sum, i64::MAX, 1, i64::MIN),
+    (Merge::Max, 3, 5, 5),
+    (Merge::Min, 3, 5, 3),
 ];
 
 #[test]

@@ -1,5 +1,7 @@
 //! Stages as steps, fed item by item and a block at once.
-use pipeline_language::{NumberFunction, NumberStage, NumberTest, TextStage, TextTest};
+use pipeline_language::{
+    Barrier, Expansion, NumberFunction, NumberStage, NumberTest, TextStage, TextTest,
+};
 use pipeline_meaning::{NumberSteps, TextSteps};
 use spliterator::NoMemory;
 use stages::{Operation, Stage};
@@ -65,7 +67,7 @@ const SMALL: NumberStage = NumberStage::Filter(NumberTest::Less(10));
 
 const LARGE: NumberStage = NumberStage::Filter(NumberTest::Greater(3));
 
-const TWICE: NumberStage = NumberStage::Repeat(2);
+const TWICE: NumberStage = NumberStage::FlatMap(2);
 
 /// Each step follows the one before.
 static IN_ORDER: [NumberRow<'_>; 6] = [
@@ -130,8 +132,8 @@ static REMAINDERS: [NumberRow<'_>; 5] = [
 /// A number is repeated.
 static REPEATED: [NumberRow<'_>; 5] = [
     (&[TWICE], &[7, 8], &[7, 7, 8, 8], 1),
-    (&[NumberStage::Repeat(0), NEGATED], &[7, 8], &[], 2),
-    (&[NumberStage::Repeat(1)], &[7, 8], &[7, 8], 1),
+    (&[NumberStage::FlatMap(0), NEGATED], &[7, 8], &[], 2),
+    (&[NumberStage::FlatMap(1)], &[7, 8], &[7, 8], 1),
     (&[TWICE, NEGATED, TWICE], &[7], &[-7, -7, -7, -7], 3),
     (
         &[NEGATED, TWICE, NumberStage::Filter(NumberTest::Less(-7))],
@@ -152,11 +154,11 @@ fn numbers_walk_through_their_steps(rt: HostRuntime) -> Result<(), Fail> {
 
 /// More copies than a sink is given at once.
 static OFTEN: [(&[NumberStage], usize); 5] = [
-    (&[NumberStage::Repeat(1_024)], 1_024),
-    (&[NumberStage::Repeat(1_025)], 1_025),
-    (&[NumberStage::Repeat(3_000)], 3_000),
-    (&[TWICE, NumberStage::Repeat(700)], 1_400),
-    (&[NumberStage::Repeat(1_100), TWICE], 2_200),
+    (&[NumberStage::FlatMap(1_024)], 1_024),
+    (&[NumberStage::FlatMap(1_025)], 1_025),
+    (&[NumberStage::FlatMap(3_000)], 3_000),
+    (&[TWICE, NumberStage::FlatMap(700)], 1_400),
+    (&[NumberStage::FlatMap(1_100), TWICE], 2_200),
 ];
 
 #[test]
@@ -173,11 +175,11 @@ fn a_number_is_repeated_often(rt: HostRuntime) -> Result<(), Fail> {
 }
 
 static BARRIERS: [NumberStage; 5] = [
-    NumberStage::Distinct,
-    NumberStage::Limit(1),
-    NumberStage::Skip(1),
-    NumberStage::TakeWhile(NumberTest::Less(0)),
-    NumberStage::DropWhile(NumberTest::Less(9)),
+    NumberStage::Barrier(Barrier::Distinct),
+    NumberStage::Barrier(Barrier::Limit(1)),
+    NumberStage::Barrier(Barrier::Skip(1)),
+    NumberStage::Barrier(Barrier::TakeWhile(NumberTest::Less(0))),
+    NumberStage::Barrier(Barrier::DropWhile(NumberTest::Less(9))),
 ];
 
 #[test]
@@ -200,15 +202,15 @@ const LOST: (Operation, Option<u64>) = (Operation::FlatMap, None);
 static NUMBER_SIZES: [(&[NumberStage], (Operation, Option<u64>)); 5] = [
     (&[], KEPT),
     (&[MORE, MORE], KEPT),
-    (&[MORE, NumberStage::Limit(3)], KEPT),
+    (&[MORE, NumberStage::Barrier(Barrier::Limit(3))], KEPT),
     (&[MORE, NumberStage::Filter(NumberTest::Divisible(1))], LOST),
-    (&[NumberStage::Repeat(1)], LOST),
+    (&[NumberStage::FlatMap(1)], LOST),
 ];
 
 /// The texts themselves keep the size.
 static TEXT_SIZES: [(TextStage<'_>, (Operation, Option<u64>)); 2] = [
-    (TextStage::MapItself, KEPT),
-    (TextStage::Words, LOST),
+    (TextStage::Map(()), KEPT),
+    (TextStage::FlatMap(Expansion::Words), LOST),
 ];
 
 #[test]
@@ -250,17 +252,21 @@ fn check_texts(rt: &(impl Abort + Alloc<A = Global>), rows: &[TextRow<'_>]) -> R
 }
 
 static TEXT_BARRIERS: [TextStage<'_>; 5] = [
-    TextStage::Distinct,
-    TextStage::Limit(1),
-    TextStage::Skip(1),
-    TextStage::TakeWhile(TextTest::Empty),
-    TextStage::DropWhile(TextTest::Empty),
+    TextStage::Barrier(Barrier::Distinct),
+    TextStage::Barrier(Barrier::Limit(1)),
+    TextStage::Barrier(Barrier::Skip(1)),
+    TextStage::Barrier(Barrier::TakeWhile(TextTest::Empty)),
+    TextStage::Barrier(Barrier::DropWhile(TextTest::Empty)),
 ];
 
 #[test]
 fn a_front_of_texts_ends_at_a_barrier(rt: HostRuntime) -> Result<(), Fail> {
     for &barrier in &TEXT_BARRIERS {
-        let stages = [TextStage::Words, barrier, TextStage::Words];
+        let stages = [
+            TextStage::FlatMap(Expansion::Words),
+            barrier,
+            TextStage::FlatMap(Expansion::Words),
+        ];
         check_texts(&rt, &[(&stages, &["a b"], &["a", "b"], 1)])?;
     }
     Ok(())
@@ -270,12 +276,27 @@ const LONG: TextStage<'_> = TextStage::Filter(TextTest::Longer(1));
 
 /// A text is cut at its spaces.
 static CUT: [TextRow<'_>; 5] = [
-    (&[TextStage::Words], &[""], &[""], 1),
-    (&[TextStage::Words], &[" "], &["", ""], 1),
-    (&[TextStage::Words], &["a b"], &["a", "b"], 1),
-    (&[TextStage::Words], &["a  b"], &["a", "", "b"], 1),
+    (&[TextStage::FlatMap(Expansion::Words)], &[""], &[""], 1),
     (
-        &[TextStage::Words],
+        &[TextStage::FlatMap(Expansion::Words)],
+        &[" "],
+        &["", ""],
+        1,
+    ),
+    (
+        &[TextStage::FlatMap(Expansion::Words)],
+        &["a b"],
+        &["a", "b"],
+        1,
+    ),
+    (
+        &[TextStage::FlatMap(Expansion::Words)],
+        &["a  b"],
+        &["a", "", "b"],
+        1,
+    ),
+    (
+        &[TextStage::FlatMap(Expansion::Words)],
         &[" é\t", "c "],
         &["", "é\t", "c", ""],
         1,
@@ -286,30 +307,40 @@ static CUT: [TextRow<'_>; 5] = [
 static WALKED: [TextRow<'_>; 6] = [
     (&[], &["a", ""], &["a", ""], 0),
     (
-        &[TextStage::MapItself, LONG],
+        &[TextStage::Map(()), LONG],
         &["a", "é", "bc"],
         &["é", "bc"],
         2,
     ),
     (
-        &[TextStage::Words, TextStage::Repeat(2)],
+        &[
+            TextStage::FlatMap(Expansion::Words),
+            TextStage::FlatMap(Expansion::Repeat(2)),
+        ],
         &["a b"],
         &["a", "a", "b", "b"],
         2,
     ),
     (
-        &[TextStage::Repeat(2), TextStage::Words],
+        &[
+            TextStage::FlatMap(Expansion::Repeat(2)),
+            TextStage::FlatMap(Expansion::Words),
+        ],
         &["a b"],
         &["a", "b", "a", "b"],
         2,
     ),
     (
-        &[TextStage::Words, LONG, TextStage::Words],
+        &[
+            TextStage::FlatMap(Expansion::Words),
+            LONG,
+            TextStage::FlatMap(Expansion::Words),
+        ],
         &["a bc d", "ef"],
         &["bc", "ef"],
         3,
     ),
-    (&[TextStage::Repeat(0)], &["a"], &[], 1),
+    (&[TextStage::FlatMap(Expansion::Repeat(0))], &["a"], &[], 1),
 ];
 
 #[test]

@@ -1,8 +1,8 @@
 //! The texts of values, and of what the language's collectors make.
 use collectors::{Collector, GroupingBy, PartitioningBy, Teeing, ToMap, collect};
 use pipeline_language::{
-    NumberBase, NumberFunction, NumberInner, NumberMerge, NumberSummary, NumberTest, TextBase,
-    TextFunction, TextInner, TextSummary,
+    Mapped, Merge, NumberBase, NumberFunction, NumberInner, NumberOnly, NumberSummary, NumberTest,
+    TextBase, TextFunction, TextInner, TextSummary,
 };
 use pipeline_meaning::{
     NumberCheck, NumberMapping, NumberMerging, Seed, SeededHashes, number_base, number_summary,
@@ -35,12 +35,12 @@ where
 /// The summary, the items, and the text of what is made of these.
 static OF_NUMBERS: [(NumberBase, &[i64], &str); 8] = [
     (NumberBase::Count, &[2, 5, 3], "3"),
-    (NumberBase::Sum, &[2, 5, 3], "10"),
-    (NumberBase::Max, &[2, 5, 3], "Optional[5]"),
-    (NumberBase::Min, &[2, 5, 3], "Optional[2]"),
+    (NumberBase::Own(NumberOnly::Sum), &[2, 5, 3], "10"),
+    (NumberBase::Own(NumberOnly::Max), &[2, 5, 3], "Optional[5]"),
+    (NumberBase::Own(NumberOnly::Min), &[2, 5, 3], "Optional[2]"),
     (NumberBase::First, &[2, 5, 3], "Optional[2]"),
     (NumberBase::ToList, &[2, 5, 3], "[2, 5, 3]"),
-    (NumberBase::Max, &[], "Optional.empty"),
+    (NumberBase::Own(NumberOnly::Max), &[], "Optional.empty"),
     (NumberBase::ToList, &[], "[]"),
 ];
 
@@ -90,7 +90,7 @@ fn nested_groups(rt: HostRuntime) -> Result<(), Fail> {
 #[test]
 fn a_partition(rt: HostRuntime) -> Result<(), Fail> {
     let list = NumberInner::Base(NumberBase::ToList);
-    let tens = NumberSummary::Mapping(NumberFunction::Mul(10), list);
+    let tens = NumberSummary::Mapping((NumberFunction::Mul(10), list));
     let inner = number_summary(rt.alloc(), SeededHashes::of(Seed::draw(&rt)), tens);
     let parts = PartitioningBy::new(NumberCheck::of(NumberTest::Less(3)), inner);
     check(&rt, &parts, &[1, 2, 3], "{false=[30], true=[10, 20]}")?;
@@ -99,8 +99,8 @@ fn a_partition(rt: HostRuntime) -> Result<(), Fail> {
 
 #[test]
 fn a_pair(rt: HostRuntime) -> Result<(), Fail> {
-    let max = number_base(rt.alloc(), NumberBase::Max);
-    let min = number_base(rt.alloc(), NumberBase::Min);
+    let max = number_base(rt.alloc(), NumberBase::Own(NumberOnly::Max));
+    let min = number_base(rt.alloc(), NumberBase::Own(NumberOnly::Min));
     let both = Teeing::new(max, min, Both);
     check(&rt, &both, &[2, 5, 3], "[Optional[5], Optional[2]]")?;
     Ok(())
@@ -111,7 +111,7 @@ fn a_map(rt: HostRuntime) -> Result<(), Fail> {
     let hashes = SeededHashes::of(Seed::draw(&rt));
     let key = NumberMapping::of(NumberFunction::Mod(2));
     let value = NumberMapping::of(NumberFunction::Itself);
-    let merge = NumberMerging::of(NumberMerge::Last);
+    let merge = NumberMerging::of(Merge::Last);
     let last = ToMap::<i64, i64, _, _, _, _>::with_hasher(rt.alloc(), key, value, merge, hashes);
     check(&rt, &last, &[1, 2, 3, 4], "{1=3, 0=4}")?;
     Ok(())
@@ -122,12 +122,12 @@ type TextRow<'a> = (TextSummary<'a>, &'a [&'a str], &'a str);
 
 static OF_TEXTS: [TextRow<'_>; 4] = [
     (
-        TextSummary::Base(TextBase::Joining("+")),
+        TextSummary::Base(TextBase::Own("+")),
         &["a", "", "bb"],
         "a++bb",
     ),
     (
-        TextSummary::MappingLength(NumberInner::Base(NumberBase::ToList)),
+        TextSummary::Mapping(Mapped::Length(NumberInner::Base(NumberBase::ToList))),
         &["a", "", "bb"],
         "[1, 0, 2]",
     ),

@@ -3,8 +3,8 @@
 use super::first_wrong;
 use file_words::ReadError;
 use pipeline_language::{
-    NumberBase, NumberFunction, NumberMerge, NumberSource, NumberStage, NumberSummary,
-    NumberTerminal, NumberTest, Pipeline,
+    Barrier, Merge, NumberBase, NumberFunction, NumberOnly, NumberSource, NumberStage,
+    NumberSummary, NumberTerminal, NumberTest, NumberTotal, Pipeline,
 };
 use pipeline_reader::read_pipeline;
 use std::alloc::{AllocError, Global};
@@ -41,12 +41,12 @@ static STAGES: [NumberStage; 15] = [
     NumberStage::Filter(NumberTest::Greater(2)),
     NumberStage::Filter(NumberTest::Equals(3)),
     NumberStage::Filter(NumberTest::Divisible(4)),
-    NumberStage::Repeat(1000),
-    NumberStage::Distinct,
-    NumberStage::Limit(0),
-    NumberStage::Skip(9_223_372_036_854_775_807),
-    NumberStage::TakeWhile(NumberTest::Less(5)),
-    NumberStage::DropWhile(NumberTest::Less(6)),
+    NumberStage::FlatMap(1000),
+    NumberStage::Barrier(Barrier::Distinct),
+    NumberStage::Barrier(Barrier::Limit(0)),
+    NumberStage::Barrier(Barrier::Skip(9_223_372_036_854_775_807)),
+    NumberStage::Barrier(Barrier::TakeWhile(NumberTest::Less(5))),
+    NumberStage::Barrier(Barrier::DropWhile(NumberTest::Less(6))),
 ];
 
 #[test]
@@ -57,8 +57,7 @@ fn reads_stages_over_numbers(rt: HostRuntime) -> Result<(), Fail> {
         skip 9223372036854775807\ntakewhile less 5\ndropwhile less 6\ntomap self negate last\n";
     let terminal = NumberTerminal::ToMap(
         NumberFunction::Itself,
-        NumberFunction::Negate,
-        NumberMerge::Last,
+        (NumberFunction::Negate, Merge::Last),
     );
     assert!(rt; is_of_numbers(rt.alloc(), file, &[5, -2, i64::MAX], &STAGES, terminal)?);
     Ok(())
@@ -91,7 +90,15 @@ static WORDS: [(&[u8], &str); 14] = [
 #[test]
 fn reads_the_numbers_of_a_line(rt: HostRuntime) -> Result<(), Fail> {
     let none = b"pipeline 1\nnumbers\nsum\n";
-    assert!(rt; is_of_numbers(rt.alloc(), none, &[], &[], NumberTerminal::Sum)?);
+    assert!(rt;
+        is_of_numbers(
+            rt.alloc(),
+            none,
+            &[],
+            &[],
+            NumberTerminal::Own(NumberTotal::Sum)
+        )?
+    );
     let ends = b"pipeline 1\nnumbers 9223372036854775807 0 -1 -9223372036854775808 1000\nsum\n";
     let wanted = [
         9_223_372_036_854_775_807,
@@ -100,7 +107,15 @@ fn reads_the_numbers_of_a_line(rt: HostRuntime) -> Result<(), Fail> {
         -9_223_372_036_854_775_808,
         1000,
     ];
-    assert!(rt; is_of_numbers(rt.alloc(), ends, &wanted, &[], NumberTerminal::Sum)?);
+    assert!(rt;
+        is_of_numbers(
+            rt.alloc(),
+            ends,
+            &wanted,
+            &[],
+            NumberTerminal::Own(NumberTotal::Sum)
+        )?
+    );
     assert!(rt; first_wrong(rt.alloc(), b"pipeline 1\n", WORDS.as_slice())?.is_none());
     Ok(())
 }
@@ -142,10 +157,10 @@ const ODD: NumberFunction = NumberFunction::Mod(2);
 
 /// Terminals that both versions have.
 static TERMINALS: [(&str, NumberTerminal); 16] = [
-    ("sum", NumberTerminal::Sum),
-    ("product", NumberTerminal::Product),
-    ("max", NumberTerminal::Max),
-    ("min", NumberTerminal::Min),
+    ("sum", NumberTerminal::Own(NumberTotal::Sum)),
+    ("product", NumberTerminal::Own(NumberTotal::Product)),
+    ("max", NumberTerminal::Own(NumberTotal::Max)),
+    ("min", NumberTerminal::Own(NumberTotal::Min)),
     ("count", NumberTerminal::Count),
     ("findfirst", NumberTerminal::FindFirst),
     ("tolist", NumberTerminal::ToList),
@@ -167,20 +182,20 @@ static TERMINALS: [(&str, NumberTerminal); 16] = [
     (
         "teeing sum first",
         NumberTerminal::Teeing(
-            NumberSummary::Base(NumberBase::Sum),
+            NumberSummary::Base(NumberBase::Own(NumberOnly::Sum)),
             NumberSummary::Base(NumberBase::First),
         ),
     ),
     (
         "teeing max min",
         NumberTerminal::Teeing(
-            NumberSummary::Base(NumberBase::Max),
-            NumberSummary::Base(NumberBase::Min),
+            NumberSummary::Base(NumberBase::Own(NumberOnly::Max)),
+            NumberSummary::Base(NumberBase::Own(NumberOnly::Min)),
         ),
     ),
     (
         "tomap mod 2 mod 2 sum",
-        NumberTerminal::ToMap(ODD, ODD, NumberMerge::Sum),
+        NumberTerminal::ToMap(ODD, (ODD, Merge::Sum)),
     ),
 ];
 

@@ -2,8 +2,9 @@
 
 use file_words::ReadError;
 use pipeline_language::{
-    NumberFunction, NumberMerge, NumberStage, NumberTerminal, Pipeline, TextBase, TextEnd,
-    TextFunction, TextStage, TextSummary, TextTerminal, TextTest, TextValue,
+    Barrier, Expansion, Joint, Merge, NumberFunction, NumberStage, NumberTerminal, NumberTotal,
+    Pipeline, TextBase, TextEnd, TextFunction, TextStage, TextSummary, TextTerminal, TextTest,
+    TextValue,
 };
 use pipeline_reader::read_pipeline;
 use std::alloc::{AllocError, Global};
@@ -25,7 +26,7 @@ fn is_of_texts<'a>(
                 TextEnd::Lengths(body) => {
                     let wanted = [NumberStage::Map(NumberFunction::Add(1))];
                     body.stages.as_slice() == wanted.as_slice()
-                        && body.terminal == NumberTerminal::Max
+                        && body.terminal == NumberTerminal::Own(NumberTotal::Max)
                 }
                 TextEnd::Terminal(_) => false,
             };
@@ -39,17 +40,17 @@ fn is_of_texts<'a>(
 
 /// The stages of a file with each stage over texts.
 static STAGES: [TextStage<'static>; 11] = [
-    TextStage::MapItself,
+    TextStage::Map(()),
     TextStage::Filter(TextTest::Starts("")),
     TextStage::Filter(TextTest::Empty),
     TextStage::Filter(TextTest::Longer(3)),
-    TextStage::Words,
-    TextStage::Repeat(2),
-    TextStage::Distinct,
-    TextStage::Limit(1),
-    TextStage::Skip(0),
-    TextStage::TakeWhile(TextTest::Empty),
-    TextStage::DropWhile(TextTest::Starts("a")),
+    TextStage::FlatMap(Expansion::Words),
+    TextStage::FlatMap(Expansion::Repeat(2)),
+    TextStage::Barrier(Barrier::Distinct),
+    TextStage::Barrier(Barrier::Limit(1)),
+    TextStage::Barrier(Barrier::Skip(0)),
+    TextStage::Barrier(Barrier::TakeWhile(TextTest::Empty)),
+    TextStage::Barrier(Barrier::DropWhile(TextTest::Starts("a"))),
 ];
 
 #[test]
@@ -99,21 +100,21 @@ static TERMINALS: [(&[u8], TextTerminal<'static>); 9] = [
         b"pipeline 1\nlines 0\nallmatch longer 2",
         TextTerminal::AllMatch(TextTest::Longer(2)),
     ),
-    (b"pipeline 1\nlines 0\njoining ", TextTerminal::Joining("")),
+    (
+        b"pipeline 1\nlines 0\njoining ",
+        TextTerminal::Own(Joint::Plain("")),
+    ),
     (
         b"pipeline 1\nlines 0\njoining - < >",
-        TextTerminal::JoiningWithin("-", "<", ">"),
+        TextTerminal::Own(Joint::Within("-", "<", ">")),
     ),
     (
         b"pipeline 1\nlines 0\ngroupby length joining +",
-        TextTerminal::GroupBy(
-            TextFunction::Length,
-            TextSummary::Base(TextBase::Joining("+")),
-        ),
+        TextTerminal::GroupBy(TextFunction::Length, TextSummary::Base(TextBase::Own("+"))),
     ),
     (
         b"pipeline 1\nlines 0\ntomap self length sum",
-        TextTerminal::ToMap(TextFunction::Itself, TextValue::Length(NumberMerge::Sum)),
+        TextTerminal::ToMap(TextFunction::Itself, TextValue::Length(Merge::Sum)),
     ),
     (
         b"pipeline 1\nlines 0\nteeing first tolist",

@@ -4,8 +4,8 @@ use super::first_wrong;
 use super::numbers::first_other;
 use super::texts::first_other_end;
 use pipeline_language::{
-    NumberBase, NumberFunction, NumberInner, NumberSummary, NumberTerminal, NumberTest, TextBase,
-    TextFunction, TextInner, TextSummary, TextTerminal, TextTest,
+    Mapped, NumberBase, NumberFunction, NumberInner, NumberOnly, NumberSummary, NumberTerminal,
+    NumberTest, TextBase, TextFunction, TextInner, TextSummary, TextTerminal, TextTest,
 };
 use std::test::Fail;
 
@@ -33,10 +33,10 @@ static NEW_TERMINALS: [(&str, NumberTerminal); 8] = [
         "partition less 3 mapping mul 10 tolist",
         NumberTerminal::Partition(
             NumberTest::Less(3),
-            NumberSummary::Mapping(
+            NumberSummary::Mapping((
                 NumberFunction::Mul(10),
                 NumberInner::Base(NumberBase::ToList),
-            ),
+            )),
         ),
     ),
     (
@@ -49,7 +49,7 @@ static NEW_TERMINALS: [(&str, NumberTerminal); 8] = [
             ODD,
             NumberSummary::GroupBy(
                 THIRDS,
-                NumberInner::Mapping(NumberFunction::Negate, NumberBase::Max),
+                NumberInner::Mapping((NumberFunction::Negate, NumberBase::Own(NumberOnly::Max))),
             ),
         ),
     ),
@@ -59,18 +59,18 @@ static NEW_TERMINALS: [(&str, NumberTerminal); 8] = [
             NumberTest::Equals(1),
             NumberSummary::Filtering(
                 NumberTest::Divisible(2),
-                NumberInner::Filtering(NumberTest::Less(3), NumberBase::Sum),
+                NumberInner::Filtering(NumberTest::Less(3), NumberBase::Own(NumberOnly::Sum)),
             ),
         ),
     ),
     (
         "teeing mapping self mapping add 1 first groupby mod 2 min",
         NumberTerminal::Teeing(
-            NumberSummary::Mapping(
+            NumberSummary::Mapping((
                 NumberFunction::Itself,
-                NumberInner::Mapping(NumberFunction::Add(1), NumberBase::First),
-            ),
-            NumberSummary::GroupBy(ODD, NumberInner::Base(NumberBase::Min)),
+                NumberInner::Mapping((NumberFunction::Add(1), NumberBase::First)),
+            )),
+            NumberSummary::GroupBy(ODD, NumberInner::Base(NumberBase::Own(NumberOnly::Min))),
         ),
     ),
 ];
@@ -94,24 +94,26 @@ static NEW_TEXT_TERMINALS: [(&[u8], TextTerminal<'static>); 7] = [
         b"pipeline 2\nlines 0\ngroupby length mapping length sum",
         TextTerminal::GroupBy(
             TextFunction::Length,
-            TextSummary::MappingLength(NumberInner::Base(NumberBase::Sum)),
+            TextSummary::Mapping(Mapped::Length(NumberInner::Base(NumberBase::Own(
+                NumberOnly::Sum,
+            )))),
         ),
     ),
     (
         b"pipeline 2\nlines 0\ngroupby self mapping length filtering less 3 max",
         TextTerminal::GroupBy(
             TextFunction::Itself,
-            TextSummary::MappingLength(NumberInner::Filtering(
+            TextSummary::Mapping(Mapped::Length(NumberInner::Filtering(
                 NumberTest::Less(3),
-                NumberBase::Max,
-            )),
+                NumberBase::Own(NumberOnly::Max),
+            ))),
         ),
     ),
     (
         b"pipeline 2\nlines 0\npartition empty mapping self joining +",
         TextTerminal::Partition(
             TextTest::Empty,
-            TextSummary::MappingItself(TextInner::Base(TextBase::Joining("+"))),
+            TextSummary::Mapping(Mapped::Itself(TextInner::Base(TextBase::Own("+")))),
         ),
     ),
     (
@@ -120,7 +122,7 @@ static NEW_TEXT_TERMINALS: [(&[u8], TextTerminal<'static>); 7] = [
             TextTest::Empty,
             TextSummary::Filtering(
                 TextTest::Starts("a"),
-                TextInner::MappingLength(NumberBase::Min),
+                TextInner::Mapping(Mapped::Length(NumberBase::Own(NumberOnly::Min))),
             ),
         ),
     ),
@@ -130,7 +132,7 @@ static NEW_TEXT_TERMINALS: [(&[u8], TextTerminal<'static>); 7] = [
             TextFunction::Length,
             TextSummary::GroupBy(
                 TextFunction::Itself,
-                TextInner::MappingItself(TextBase::ToList),
+                TextInner::Mapping(Mapped::Itself(TextBase::ToList)),
             ),
         ),
     ),

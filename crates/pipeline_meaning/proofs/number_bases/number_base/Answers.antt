@@ -15,5 +15,5 @@ returns-in-First-clause-summary c = λ l.
     ∙ ap (λ base. number_base_text base l) (sym c.in-First.is)
 
 -- bounded: a wrong body would search to its limit
-pub returns-in-Max-clause-summary : goal.returns-in-Max-clause-summary
-returns-in-Max-clause-summary c = search rules fits 60 depth 3
+pub returns-in-Own-Max-clause-summary : goal.returns-in-Own-Max-clause-summary
+returns-in-Own-Max-clause-summary c = search rules fits 60 depth 3

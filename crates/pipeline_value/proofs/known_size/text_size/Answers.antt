@@ -1,12 +1,12 @@
 use Rattle.std.proofs.Common.{arith}
 use Rattle.pipeline_meaning.specs.Stages.{text_stage}
-use Rattle.pipeline_value.specs.KnownSizes.{text_size_stays_known}
+use Rattle.pipeline_value.specs.KnownSizes.{size_stays_known}
 use Rattle.pipeline_value.proofs.KnownSizes.{sized-more}
 use Rattle.pipeline_value.proofs.known_size.text_size.Goals as goal
 
 pub loop-stage-preserved : goal.loop-stage-preserved
 loop-stage-preserved c = (
   omega arith,
-  sized-more text_stage text_size_stays_known c.args.stages.now c.loop-stage.stage-index _ c.args.size c.loop-stage.left c.in_ok-left.left c.loop-stage-test.true c.loop-stage.invariant.1
+  sized-more text_stage size_stays_known c.args.stages.now c.loop-stage.stage-index _ c.args.size c.loop-stage.left c.in_ok-left.left c.loop-stage-test.true c.loop-stage.invariant.1
       c.in_ok-left.ensures.known c.in_ok-left.ensures.value,
 )

@@ -2,7 +2,7 @@ use Rattle.std.proofs.Common.{◌≡◌, ◌<◌, length, nat_eq, true, ap, sym,
 use Rattle.std.specs.List.{slice_index_or}
 use Rattle.std.specs.Prelude.{remove}
 use Rattle.sources.specs.Integers.{integers}
-use Rattle.pipeline_meaning.specs.Stages.{is_number_map, number_stage, number_stages}
+use Rattle.pipeline_meaning.specs.Stages.{is_map_stage, number_stage, number_stages}
 use Rattle.pipeline_value.specs.Narrowing.{is_window, is_none, maps-more, maps-kept, done-before, fits-kept}
 use Rattle.pipeline_value.specs.Ranges.{NumberStageFits}
 use Rattle.pipeline_value.proofs.narrowed.narrowed.Goals.{then-is_map, else-is_map+in-Some}
@@ -16,7 +16,7 @@ loop-round-preserved c =
     let within : maps < length stages = omega (arith, c.if-maps-len.false, c.len.ensures) in
     elim c.if-is_map.branch [
       | then-is_map w ↦
-          let passes : is_number_map (slice_index_or stages maps d) ≡ true = ap is_number_map (sym c.index.ensures) ∙ sym c.is_map.ensures ∙ w.if-is_map.true in
+          let passes : is_map_stage (slice_index_or stages maps d) ≡ true = ap is_map_stage (sym c.index.ensures) ∙ sym c.is_map.ensures ∙ w.if-is_map.true in
           rw (w.maps-is, w.stages-is, w.range-is) (
             maps-more stages maps d within c.loop-round.invariant.0 passes,
             c.loop-round.invariant.1,

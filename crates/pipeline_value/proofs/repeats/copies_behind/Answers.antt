@@ -4,8 +4,8 @@ use Rattle.pipeline_value.specs.Copies.{copies-copies}
 use Rattle.pipeline_meaning.specs.Stages.{number_stage}
 use Rattle.pipeline_value.proofs.repeats.copies_behind.Goals as goal
 
-pub returns-in_ok-copies-in-Repeat-clause-copies : goal.returns-in_ok-copies-in-Repeat-clause-copies
-returns-in_ok-copies-in-Repeat-clause-copies c l =
-    let counted : c.in_ok-copies-in-Repeat.copies ≡ c.args.times * c.in-Repeat.number = search rules in
-    let turned : c.in-Repeat.number * c.args.times ≡ c.in_ok-copies-in-Repeat.copies = omega (arith, counted) in
-    ap (λ s. number_stage s (flat_map (replicate c.args.times) l)) c.in-Repeat.is ∙ copies-copies c.in-Repeat.number c.args.times l ∙ ap (λ i. flat_map (replicate i) l) turned
+pub returns-in_ok-copies-in-FlatMap-clause-copies : goal.returns-in_ok-copies-in-FlatMap-clause-copies
+returns-in_ok-copies-in-FlatMap-clause-copies c l =
+    let counted : c.in_ok-copies-in-FlatMap.copies ≡ c.args.times * c.in-FlatMap.number = search rules in
+    let turned : c.in-FlatMap.number * c.args.times ≡ c.in_ok-copies-in-FlatMap.copies = omega (arith, counted) in
+    ap (λ s. number_stage s (flat_map (replicate c.args.times) l)) c.in-FlatMap.is ∙ copies-copies c.in-FlatMap.number c.args.times l ∙ ap (λ i. flat_map (replicate i) l) turned

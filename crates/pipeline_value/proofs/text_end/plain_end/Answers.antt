@@ -1,4 +1,7 @@
 use Rattle.std.proofs.Common.{◌++◌, ap, append-nil, map-id, ◌∙◌}
+use Rattle.std.specs.Prelude.{◌≡◌}
+use Rattle.pipeline_language.specs.declared.grammar.Joint.TheVariants.{Plain, Within}
+use Rattle.pipeline_language.specs.declared.grammar.Terminal.TheVariants.{Own}
 use Rattle.collectors.specs.Reductions.{delimited}
 use Rattle.std.proofs.lemmas.Result.{IfOk-weaker}
 use Rattle.pipeline_value.proofs.text_end.plain_end.Goals as goal
@@ -21,12 +24,16 @@ returns-in-AnyMatch g c = rw c.in-AnyMatch.is (c.ran_told-in-AnyMatch.ensures _ 
 pub returns-in-NoneMatch : goal.returns-in-NoneMatch
 returns-in-NoneMatch g c = rw c.in-NoneMatch.is (c.ran_told-in-NoneMatch.ensures _ (rw c.of-check-in-NoneMatch.ensures at c.none_match.ensures.value))
 
-pub returns-in-Joining : goal.returns-in-Joining
-returns-in-Joining g c =
-    rw c.in-Joining.is (c.ran_text-in-Joining.ensures _ (IfOk-weaker c.collect-in-Joining.result _ _ (λ text is. (rw (c.requires.spelling, c.new-joining.ensures.front, c.new-joining.ensures.between, c.new-joining.ensures.back) at is) ∙ append-nil _ ∙ ap (delimited c.in-Joining.between.now) (map-id (g.X.Stream.value c.args.stream.now))) c.collect-in-Joining.ensures.value))
+pub returns-in-Own-Plain : goal.returns-in-Own-Plain
+returns-in-Own-Plain g c =
+    let outer : c.args.terminal.now ≡ Own c.in-Own-Plain.field-0 = c.in-Own-Plain.is in
+    let inner : c.in-Own-Plain.field-0 ≡ Plain c.in-Own-Plain.between = rw outer at c.in-Own-Plain.field-0-is in
+    rw (outer, inner) (c.ran_text-in-Own-Plain.ensures _ (IfOk-weaker c.collect-in-Own-Plain.result _ _ (λ text is. (rw (c.requires.spelling, c.new-joining.ensures.front, c.new-joining.ensures.between, c.new-joining.ensures.back) at is) ∙ append-nil _ ∙ ap (delimited c.in-Own-Plain.between.now) (map-id (g.X.Stream.value c.args.stream.now))) c.collect-in-Own-Plain.ensures.value))
 
-pub returns-in-JoiningWithin : goal.returns-in-JoiningWithin
-returns-in-JoiningWithin g c =
-    rw c.in-JoiningWithin.is (c.ran_text-in-JoiningWithin.ensures _ (IfOk-weaker c.collect-in-JoiningWithin.result _ _
-    (λ text is. (rw (c.requires.spelling, c.within-joining.ensures.front, c.within-joining.ensures.between, c.within-joining.ensures.back) at is) ∙ ap (λ t. c.in-JoiningWithin.front.now ++ t ++ c.in-JoiningWithin.back.now) (ap (delimited c.in-JoiningWithin.between.now) (map-id (g.X.Stream.value c.args.stream.now))))
-    c.collect-in-JoiningWithin.ensures.value))
+pub returns-in-Own-Within : goal.returns-in-Own-Within
+returns-in-Own-Within g c =
+    let outer : c.args.terminal.now ≡ Own c.in-Own-Within.field-0 = c.in-Own-Within.is in
+    let inner : c.in-Own-Within.field-0 ≡ Within c.in-Own-Within.between c.in-Own-Within.front c.in-Own-Within.back = rw outer at c.in-Own-Within.field-0-is in
+    rw (outer, inner) (c.ran_text-in-Own-Within.ensures _ (IfOk-weaker c.collect-in-Own-Within.result _ _
+    (λ text is. (rw (c.requires.spelling, c.within-joining.ensures.front, c.within-joining.ensures.between, c.within-joining.ensures.back) at is) ∙ ap (λ t. c.in-Own-Within.front.now ++ t ++ c.in-Own-Within.back.now) (ap (delimited c.in-Own-Within.between.now) (map-id (g.X.Stream.value c.args.stream.now))))
+    c.collect-in-Own-Within.ensures.value))

@@ -4,7 +4,7 @@ use Rattle.std.proofs.lemmas.Grind.{common_steps}
 use Rattle.pipeline_meaning.specs.declared.number_steps.NumberSteps.{NumberSteps}
 use Rattle.pipeline_meaning.proofs.NumberFronts.{no-stages}
 use Rattle.pipeline_meaning.specs.NumberSteps.{number_images, only_maps}
-use Rattle.pipeline_meaning.specs.Stages.{number_stage, is_number_map}
+use Rattle.pipeline_meaning.specs.Stages.{number_stage, is_map_stage}
 use Rattle.pipeline_meaning.specs.WalkLaws.{front-more}
 use Rattle.pipeline_meaning.proofs.number_steps.NumberSteps.front_of.Goals as goal
 
@@ -17,7 +17,7 @@ pub loop-place-preserved : goal.loop-place-preserved
 loop-place-preserved c =
     let old = c.loop-place.front in
     let new = c.put.new.self in
-    front-more number_stage is_number_map (number_images old) (number_images new) (only_maps old) (only_maps new) c.args.stages.now c.loop-place.place _
+    front-more number_stage is_map_stage (number_images old) (number_images new) (only_maps old) (only_maps new) c.args.stages.now c.loop-place.place _
     c.loop-place-test.true c.loop-place.invariant (MatchBool-at_true _ _ c.if-not-branch.false c.in_ok-put.ensures)
 
 -- bounded: a wrong body would search to its limit

@@ -15,8 +15,8 @@ returns-in_ok-push-in-Filter c =
     let new : NumberSteps = record { alloc = old.alloc; steps = c.push-in-Filter.new.self; repeats = old.repeats } in
     filter-follows old new c.of-check.result c.in-Filter.test c.args.stage.now c.in-Filter.is c.of-check.ensures c.in_ok-push-in-Filter.ensures.items refl
 
-pub returns-in_ok-push-in-Repeat : goal.returns-in_ok-push-in-Repeat
-returns-in_ok-push-in-Repeat c =
+pub returns-in_ok-push-in-FlatMap : goal.returns-in_ok-push-in-FlatMap
+returns-in_ok-push-in-FlatMap c =
     let old = c.args.self.now in
-    let new : NumberSteps = record { alloc = old.alloc; steps = old.steps; repeats = c.push-in-Repeat.new.self } in
-    repeat-follows old new c.in-Repeat.number c.args.stage.now c.in-Repeat.is refl c.in_ok-push-in-Repeat.ensures.items
+    let new : NumberSteps = record { alloc = old.alloc; steps = old.steps; repeats = c.push-in-FlatMap.new.self } in
+    repeat-follows old new c.in-FlatMap.number c.args.stage.now c.in-FlatMap.is refl c.in_ok-push-in-FlatMap.ensures.items

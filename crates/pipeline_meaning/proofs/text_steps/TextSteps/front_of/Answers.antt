@@ -1,7 +1,7 @@
 use Rattle.std.proofs.Common.{rules, arith}
 use Rattle.std.proofs.lemmas.Bool.{MatchBool-at_true}
 use Rattle.std.proofs.lemmas.Grind.{common_steps}
-use Rattle.pipeline_meaning.specs.Stages.{text_stage, is_text_map}
+use Rattle.pipeline_meaning.specs.Stages.{text_stage, is_map_stage}
 use Rattle.pipeline_meaning.specs.TextSteps.{text_images, only_maps}
 use Rattle.pipeline_meaning.specs.WalkLaws.{front-more}
 use Rattle.pipeline_meaning.proofs.TextFronts.{no-stages}
@@ -14,7 +14,7 @@ pub loop-place-preserved : goal.loop-place-preserved
 loop-place-preserved c =
     let old = c.loop-place.front.steps.items in
     let new = c.put.new.self.steps.items in
-    front-more text_stage is_text_map (text_images old) (text_images new) (only_maps old) (only_maps new) c.args.stages.now c.loop-place.place _
+    front-more text_stage is_map_stage (text_images old) (text_images new) (only_maps old) (only_maps new) c.args.stages.now c.loop-place.place _
     c.loop-place-test.true c.loop-place.invariant (MatchBool-at_true _ _ c.if-not-branch.false c.in_ok-put.ensures)
 
 -- bounded: a wrong body would search to its limit

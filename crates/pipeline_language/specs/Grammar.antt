@@ -1,0 +1,87 @@
+-- Things of a line with what they are made of replaced.
+use Rattle.pipeline_language.specs.declared.grammar.Barrier as barriers
+use Rattle.pipeline_language.specs.declared.grammar.Barrier.TheVariants.{Distinct, Limit, Skip, TakeWhile, DropWhile}
+use Rattle.pipeline_language.specs.declared.grammar.Base.{Base}
+use Rattle.pipeline_language.specs.declared.grammar.Base.TheVariants as bases
+use Rattle.pipeline_language.specs.declared.grammar.Condition.{Condition}
+use Rattle.pipeline_language.specs.declared.grammar.Condition.TheVariants.{Less, Greater, Equals, Divisible, Empty, Starts, Longer}
+use Rattle.pipeline_language.specs.declared.grammar.Inner.{Inner}
+use Rattle.pipeline_language.specs.declared.grammar.Inner.TheVariants as inners
+use Rattle.pipeline_language.specs.declared.grammar.Joint.{Joint}
+use Rattle.pipeline_language.specs.declared.grammar.Joint.TheVariants.{Plain, Within}
+use Rattle.pipeline_language.specs.declared.grammar.Line.{Line}
+use Rattle.pipeline_language.specs.declared.grammar.Line.TheVariants as lines
+use Rattle.pipeline_language.specs.declared.grammar.OfKind.{OfKind}
+use Rattle.pipeline_language.specs.declared.grammar.OfKind.TheVariants.{OfNumbers, OfTexts}
+use Rattle.pipeline_language.specs.declared.grammar.Stage.{Stage}
+use Rattle.pipeline_language.specs.declared.grammar.Stage.TheVariants.{Map, Filter, FlatMap, Barrier}
+use Rattle.pipeline_language.specs.declared.grammar.Summary.{Summary}
+use Rattle.pipeline_language.specs.declared.grammar.Summary.TheVariants as summaries
+use Rattle.pipeline_language.specs.declared.grammar.Terminal.{Terminal}
+use Rattle.pipeline_language.specs.declared.grammar.Terminal.TheVariants.{Count, FindFirst, ToList, AllMatch, AnyMatch, NoneMatch, GroupBy, Partition, ToMap, ToMapStrict, Teeing, Own}
+
+abbrev pub of_kind : {N M T U : Type 0} → (N → M) → (T → U) → OfKind N T → OfKind M U
+of_kind number text (OfNumbers x) = OfNumbers (number x)
+of_kind number text (OfTexts x) = OfTexts (text x)
+
+abbrev pub condition : {T U : Type 0} → (T → U) → Condition T → Condition U
+condition text (Less n) = Less n
+condition text (Greater n) = Greater n
+condition text (Equals n) = Equals n
+condition text (Divisible n) = Divisible n
+condition text Empty = Empty
+condition text (Starts front) = Starts (text front)
+condition text (Longer n) = Longer n
+
+abbrev pub joint : {T U : Type 0} → (T → U) → Joint T → Joint U
+joint text (Plain between) = Plain (text between)
+joint text (Within between front back) = Within (text between) (text front) (text back)
+
+module _ {P Q : Type 0} (test : P → Q) where
+  abbrev pub barrier : barriers.Barrier P → barriers.Barrier Q
+  barrier Distinct = Distinct
+  barrier (Limit n) = Limit n
+  barrier (Skip n) = Skip n
+  barrier (TakeWhile p) = TakeWhile (test p)
+  barrier (DropWhile p) = DropWhile (test p)
+
+abbrev pub stage : {F G P Q E D : Type 0} → (F → G) → (P → Q) → (E → D) → Stage F P E → Stage G Q D
+stage function test expansion (Map f) = Map (function f)
+stage function test expansion (Filter p) = Filter (test p)
+stage function test expansion (FlatMap e) = FlatMap (expansion e)
+stage function test expansion (Barrier b) = Barrier (barrier test b)
+
+abbrev pub base : {O N : Type 0} → (O → N) → Base O → Base N
+base own bases.Count = bases.Count
+base own bases.First = bases.First
+base own bases.ToList = bases.ToList
+base own (bases.Own x) = bases.Own (own x)
+
+abbrev pub inner : {M N P Q B C : Type 0} → (M → N) → (P → Q) → (B → C) → Inner M P B → Inner N Q C
+inner mapped test base (inners.Base b) = inners.Base (base b)
+inner mapped test base (inners.Mapping m) = inners.Mapping (mapped m)
+inner mapped test base (inners.Filtering p b) = inners.Filtering (test p) (base b)
+
+abbrev pub summary : {F G M N P Q B C I J : Type 0} → (F → G) → (M → N) → (P → Q) → (B → C) → (I → J) → Summary F M P B I → Summary G N Q C J
+summary function mapped test base inner (summaries.Base b) = summaries.Base (base b)
+summary function mapped test base inner (summaries.Mapping m) = summaries.Mapping (mapped m)
+summary function mapped test base inner (summaries.Filtering p i) = summaries.Filtering (test p) (inner i)
+summary function mapped test base inner (summaries.GroupBy f i) = summaries.GroupBy (function f) (inner i)
+
+abbrev pub terminal : {F G P Q S R V W O N : Type 0} → (F → G) → (P → Q) → (S → R) → (V → W) → (O → N) → Terminal F P S V O → Terminal G Q R W N
+terminal function test summary value own Count = Count
+terminal function test summary value own FindFirst = FindFirst
+terminal function test summary value own ToList = ToList
+terminal function test summary value own (AllMatch p) = AllMatch (test p)
+terminal function test summary value own (AnyMatch p) = AnyMatch (test p)
+terminal function test summary value own (NoneMatch p) = NoneMatch (test p)
+terminal function test summary value own (GroupBy f s) = GroupBy (function f) (summary s)
+terminal function test summary value own (Partition p s) = Partition (test p) (summary s)
+terminal function test summary value own (ToMap key v) = ToMap (function key) (value v)
+terminal function test summary value own (ToMapStrict key v) = ToMapStrict (function key) (function v)
+terminal function test summary value own (Teeing one other) = Teeing (summary one) (summary other)
+terminal function test summary value own (Own x) = Own (own x)
+
+abbrev pub line : {S R E D : Type 0} → (S → R) → (E → D) → Line S E → Line R D
+line stage terminal (lines.Stage s) = lines.Stage (stage s)
+line stage terminal (lines.Terminal t) = lines.Terminal (terminal t)
