@@ -63,10 +63,10 @@ fn reads_stages_over_texts(rt: HostRuntime) -> Result<(), Fail> {
 }
 
 /// Whether a file is a pipeline of no texts with the terminal.
-fn ends_with<'a>(
+fn ends_with(
     alloc: Global,
-    file: &'a [u8],
-    wanted: TextTerminal<'a>,
+    file: &'static [u8],
+    wanted: TextTerminal<'static>,
 ) -> Result<bool, AllocError> {
     match read_pipeline(alloc, file) {
         Ok(Pipeline::Texts(_texts, body)) => {
@@ -81,7 +81,7 @@ fn ends_with<'a>(
 /// The first of the files that isn't a pipeline of no texts with its terminal, by its place.
 pub(super) fn first_other_end(
     alloc: Global,
-    rows: &[(&[u8], TextTerminal<'static>)],
+    rows: &[(&'static [u8], TextTerminal<'static>)],
 ) -> Result<Option<usize>, AllocError> {
     for (index, (file, wanted)) in rows.iter().enumerate() {
         if !ends_with(alloc, file, *wanted)? {
