@@ -36,7 +36,8 @@ impl<'a, T: OrderedValue> SortedSplit<'a, T> {
     // java.util.SortedSet, spliterator
     pub fn new(items: &'a [T]) -> SortedSplit<'a, T>
         requires { IsSorted T.order (map T.content items.now) }
-        ensures { ⟦<SortedSplit<'a, T> as Spliterator>⟧.items result ≡ map T.content items.now }
+        ensures { let items_of = ⟦<SortedSplit<'a, T> as Spliterator>⟧.items in
+            items_of result ≡ map T.content items.now }
     {
         SortedSplit { items }
     }

@@ -46,7 +46,8 @@ pub trait Terminals: Stream {
         requires stream { Self.ready self.now }
         requires clones { ClonesAlike Self.Item.is_clone Self.Item.content }
         ensures settings { AnswersUnder run.now.workers run.now.target result }
-        ensures value { let best = IsFirstBestBy (is_better Least Self.Item.order) (λ x. x) in
+        ensures value { let better = is_better Least Self.Item.order in
+            let best = IsFirstBestBy better (λ x. x) in
             IfOk result (λ least. best (Self.value self.now) (option_map Self.Item.content least)) }
     {
         self.reduce_optional(rt, alloc, run, &Min::new())
@@ -72,7 +73,8 @@ pub trait Terminals: Stream {
         requires stream { Self.ready self.now }
         requires clones { ClonesAlike Self.Item.is_clone Self.Item.content }
         ensures settings { AnswersUnder run.now.workers run.now.target result }
-        ensures value { let best = IsFirstBestBy (is_better Greatest Self.Item.order) (λ x. x) in
+        ensures value { let better = is_better Greatest Self.Item.order in
+            let best = IsFirstBestBy better (λ x. x) in
             IfOk result (λ most. best (Self.value self.now) (option_map Self.Item.content most)) }
     {
         self.reduce_optional(rt, alloc, run, &Max::new())
@@ -101,7 +103,8 @@ pub trait Terminals: Stream {
         requires key { K.ready key.now }
         requires clones { ClonesAlike Self.Item.is_clone Self.Item.content }
         ensures settings { AnswersUnder run.now.workers run.now.target result }
-        ensures value { let best = IsFirstBestBy (is_better Least K.Out.order) (K.image key.now) in
+        ensures value { let better = is_better Least K.Out.order in
+            let best = IsFirstBestBy better (K.image key.now) in
             IfOk result (λ least. best (Self.value self.now) (option_map Self.Item.content least)) }
     {
         self.collect(rt, alloc, run, &BestByKey::least(key))
@@ -130,7 +133,8 @@ pub trait Terminals: Stream {
         requires key { K.ready key.now }
         requires clones { ClonesAlike Self.Item.is_clone Self.Item.content }
         ensures settings { AnswersUnder run.now.workers run.now.target result }
-        ensures value { let best = IsFirstBestBy (is_better Greatest K.Out.order) (K.image key.now) in
+        ensures value { let better = is_better Greatest K.Out.order in
+            let best = IsFirstBestBy better (K.image key.now) in
             IfOk result (λ most. best (Self.value self.now) (option_map Self.Item.content most)) }
     {
         self.collect(rt, alloc, run, &BestByKey::greatest(key))
