@@ -2,7 +2,7 @@
 use Rattle.std.specs.Prelude.{ℕ, length}
 use Rattle.pipeline_language.specs.declared.pipeline.Pipeline.{Pipeline}
 use Rattle.pipeline_language.specs.declared.pipeline.Pipeline.TheVariants.{Numbers, Texts}
-use Rattle.pipeline_value.specs.Value.{source_numbers}
+use Rattle.pipeline_value.specs.Typed.{source_numbers}
 
 -- how many items a pipeline's source has
 abbrev pub source_count : Pipeline → ℕ

@@ -4,3 +4,7 @@ pub mod Stages
 pub mod Strict
 pub mod Telling
 pub mod RepeatedItems
+mod Embedded
+mod NumbersTold
+mod TextsTold
+mod ContentTold

@@ -21,7 +21,8 @@ use Rattle.pipeline_meaning.specs.Functions.{number_image, number_holds}
 use Rattle.pipeline_meaning.specs.Stages.{number_stage, number_stages}
 use Rattle.pipeline_value.specs.Fronts.{IsFrontOf}
 use Rattle.pipeline_value.specs.Narrowing.{stages-append}
-use Rattle.pipeline_value.specs.Value.{Tells, number_told}
+use Rattle.pipeline_value.specs.Typed.{number_told}
+use Rattle.pipeline_value.specs.Value.{Tells}
 use Rattle.pipeline_value.specs.declared.told.ValueError.{ValueError}
 
 cons-front : {X : Type 0} (x : X) (front whole : List X) → IsFrontOf front whole → IsFrontOf (x ∷ front) (x ∷ whole)

@@ -10,7 +10,8 @@ use Rattle.pipeline_meaning.specs.Stages.{number_stages}
 use Rattle.pipeline_meaning.specs.Walks.{one_after_other}
 use Rattle.stages.specs.Passing.{flat_map-flat_map, flat_map-one}
 use Rattle.pipeline_value.specs.declared.told.ValueError.{ValueError}
-use Rattle.pipeline_value.specs.Value.{Tells, number_body_told, number_told}
+use Rattle.pipeline_value.specs.Typed.{number_body_told, number_told}
+use Rattle.pipeline_value.specs.Value.{Tells}
 use Rattle.pipeline_value.proofs.Stages.{stages-cut, stages-whole}
 
 module _ {S C : Type 0} (stage : S → List C → List C) (Q : List C → Type 0) (stages : List S) (at : ℕ) where

@@ -1,5 +1,5 @@
 -- Numbers of a pipeline that are in the ranges of their places, as those of each file are.
-use Rattle.std.specs.Prelude.{pos, ◌+ℤ◌, ◌<◌, ◌≤◌, ◌^◌, All}
+use Rattle.std.specs.Prelude.{pos, ◌+ℤ◌, ◌≤◌, ◌^◌, All}
 use Rattle.sources.specs.Integers.{count_between}
 use Rattle.pipeline_language.specs.declared.pipeline.NumberBody.{NumberBody}
 use Rattle.pipeline_language.specs.declared.pipeline.NumberSource.{NumberSource}

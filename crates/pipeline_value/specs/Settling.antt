@@ -1,7 +1,5 @@
 -- The language's barriers, and those that leave a part of their source.
-use Rattle.std.specs.Prelude.{◌<◌, ◌^◌, Bool, true, false, List, take, drop, take_while}
-use Rattle.barriers.specs.Whiles.{drop_while}
-use Rattle.stages.specs.Distinct.{distinct}
+use Rattle.std.specs.Prelude.{◌<◌, ◌^◌, Bool, true, false}
 use Rattle.pipeline_language.specs.declared.grammar.Barrier as barriers
 use Rattle.pipeline_language.specs.declared.grammar.Barrier.TheVariants.{Distinct, Limit, Skip, TakeWhile, DropWhile}
 use Rattle.pipeline_language.specs.declared.grammar.Stage.{Stage}

@@ -1,45 +1,31 @@
--- The value of a pipeline, as the text that is written of it.
-use Rattle.std.specs.Prelude.{◌≡◌, ◌+ℤ◌, ℕ, ℤ, pos, not, Bool, bytes_eq, List, [], ◌∷◌, ◌++◌, map, fold, length, string_bytes, Option, Some, None, Result, Ok, Err, if◌then◌else◌}
+-- The value of a program, as the text that is written of it.
+use Rattle.std.specs.Prelude.{◌≡◌, ℕ, pos, not, Bool, List, [], ◌∷◌, ◌++◌, map, filter, fold, length, string_bytes, Option, Some, None, Result, Ok, Err, if◌then◌else◌}
 use Rattle.std.specs.Fmt.{signed_decimal}
 use Rattle.std.specs.List.{list_any}
-use Rattle.std.specs.Ordering.{int_eq, int_cmp}
-use Rattle.sources.specs.Integers.{integers_between}
+use Rattle.std.specs.Ordering.{int_cmp}
 use Rattle.stages.specs.Choices.{larger, smaller}
 use Rattle.stages.specs.Products.{wrapped_product}
 use Rattle.stages.specs.Wrapping.{wrapped, wrapped_sum}
 use Rattle.collectors.specs.Reductions.{delimited, first, reduced}
+use Rattle.collectors.specs.Sums.{int_sum}
 use Rattle.parallel_streams.specs.Terminals.{all_meet, any_meets}
-use Rattle.pipeline_language.specs.declared.pipeline.NumberBody.{NumberBody}
-use Rattle.pipeline_language.specs.declared.pipeline.NumberSource.{NumberSource}
-use Rattle.pipeline_language.specs.declared.pipeline.NumberSource.TheVariants.{Range, Closed, Numbers}
-use Rattle.pipeline_language.specs.Typed.{NumberTerminal, TextTerminal, TextValue}
+use Rattle.pipeline_language.specs.declared.grammar.Base.TheVariants as bases
+use Rattle.pipeline_language.specs.declared.grammar.Inner.TheVariants as inners
+use Rattle.pipeline_language.specs.declared.grammar.NumberOnly.TheVariants as only
 use Rattle.pipeline_language.specs.declared.grammar.NumberTotal.TheVariants as totals
+use Rattle.pipeline_language.specs.declared.grammar.Summary.TheVariants as summaries
 use Rattle.pipeline_language.specs.declared.grammar.Joint.TheVariants.{Plain, Within}
-use Rattle.pipeline_language.specs.declared.grammar.Terminal.TheVariants as terminals
-use Rattle.pipeline_language.specs.declared.pipeline.TextBody.{TextBody}
-use Rattle.pipeline_language.specs.declared.pipeline.TextEnd.{TextEnd}
-use Rattle.pipeline_language.specs.declared.pipeline.TextEnd.TheVariants as ends
-use Rattle.pipeline_language.specs.declared.pipeline.TextFunction.{TextFunction}
-use Rattle.pipeline_language.specs.declared.pipeline.TextFunction.TheVariants as text_functions
-use Rattle.pipeline_language.specs.declared.pipeline.Mapped.TheVariants as text_values
-use Rattle.pipeline_language.specs.declared.pipeline.Pipeline.{Pipeline}
-use Rattle.pipeline_language.specs.declared.pipeline.Pipeline.TheVariants as pipelines
+use Rattle.pipeline_language.specs.declared.grammar.OfKind.TheVariants.{OfNumbers, OfTexts}
+use Rattle.pipeline_language.specs.declared.grammar.Terminal.TheVariants.{Count, FindFirst, ToList, AllMatch, AnyMatch, NoneMatch, GroupBy, Partition, ToMap, ToMapStrict, Teeing, Own}
+use Rattle.pipeline_language.specs.Syntax.{Base, Inner, Program, Summary, Terminal}
+use Rattle.value_text.specs.Texts.{groups_text, parts_text, merged_text, strict_text, list_text, optional_text, pair_text, truth_text}
 use Rattle.pipeline_value.specs.declared.told.ValueError.{ValueError}
 use Rattle.pipeline_value.specs.declared.told.ValueError.TheVariants as errors
-use Rattle.pipeline_meaning.specs.Functions.{number_image, number_holds, number_join, text_length, text_holds, text_join}
-use Rattle.pipeline_meaning.specs.Stages.{number_stages, text_stages}
-use Rattle.value_text.specs.Texts.{itself, groups_text, parts_text, merged_text, strict_text, list_text, optional_text, pair_text, truth_text}
-use Rattle.pipeline_meaning.specs.Summaries.{number_summary_text, text_summary_text, text_groups_text}
+use Rattle.pipeline_value.specs.Items.{Item, holds, image, item_number, item_text, joined, origin_items, same_item, stages_items}
 
 -- the text of a value, or of a key that is repeated where none may be
 abbrev pub Told : Type 0
 Told = Result (List ℕ) (List ℕ)
-
--- the items of a source (java.util.stream.LongStream, range and rangeClosed)
-abbrev pub source_numbers : NumberSource → List ℤ
-source_numbers (Range a b) = integers_between a b
-source_numbers (Closed a b) = integers_between a (b +ℤ pos 1)
-source_numbers (Numbers numbers) = numbers.items
 
 -- The key of the earliest place whose key came before, if there is one.
 abbrev pub first_repeat : {K : Type 0} → (K → K → Bool) → List K → List K → Option K
@@ -54,65 +40,51 @@ repeat_or key_text (Some k) text = Err (key_text k)
 abbrev pub strict_told : {X K V : Type 0} → (K → List ℕ) → (V → List ℕ) → (K → K → Bool) → (X → K) → (X → V) → List X → Told
 strict_told key_text value_text same key value l = repeat_or key_text (first_repeat same [] (map key l)) (strict_text key_text value_text key value l)
 
--- what a terminal tells of numbers (java.util.stream.LongStream)
-abbrev pub number_told : NumberTerminal → List ℤ → Told
-number_told (terminals.Own totals.Sum) l = Ok (signed_decimal (fold wrapped_sum (pos 0) l))
-number_told (terminals.Own totals.Product) l = Ok (signed_decimal (fold wrapped_product (pos 1) l))
-number_told (terminals.Own totals.Max) l = Ok (optional_text signed_decimal (reduced (larger int_cmp) l))
-number_told (terminals.Own totals.Min) l = Ok (optional_text signed_decimal (reduced (smaller int_cmp) l))
-number_told terminals.Count l = Ok (signed_decimal (wrapped (pos (length l))))
-number_told terminals.FindFirst l = Ok (optional_text signed_decimal (first l))
-number_told terminals.ToList l = Ok (list_text signed_decimal l)
-number_told (terminals.AllMatch p) l = Ok (truth_text (all_meet (number_holds p) l))
-number_told (terminals.AnyMatch p) l = Ok (truth_text (any_meets (number_holds p) l))
-number_told (terminals.NoneMatch p) l = Ok (truth_text (not (any_meets (number_holds p) l)))
-number_told (terminals.GroupBy f summary) l = Ok (groups_text signed_decimal int_eq (number_image f) (number_summary_text summary) l)
-number_told (terminals.Partition p summary) l = Ok (parts_text (number_holds p) (number_summary_text summary) l)
-number_told (terminals.ToMap key (value, merge)) l = Ok (merged_text signed_decimal signed_decimal int_eq (number_image key) (number_image value) (number_join merge) l)
-number_told (terminals.ToMapStrict key value) l = strict_told signed_decimal signed_decimal int_eq (number_image key) (number_image value) l
-number_told (terminals.Teeing one other) l = Ok (pair_text (number_summary_text one l) (number_summary_text other l))
+-- What is made of items at once, inside another collector, and of some of the items.
+-- java.util.stream.Collectors: counting, summingLong, maxBy, minBy, toList, joining, mapping, filtering, groupingBy; java.util.stream.Stream, findFirst.
+abbrev pub base_text : Base → List Item → List ℕ
+base_text bases.Count l = signed_decimal (wrapped (pos (length l)))
+base_text bases.First l = optional_text item_text (first l)
+base_text bases.ToList l = list_text item_text l
+base_text (bases.Own (OfNumbers only.Sum)) l = signed_decimal (wrapped (int_sum (map item_number l)))
+base_text (bases.Own (OfNumbers only.Max)) l = optional_text signed_decimal (reduced (larger int_cmp) (map item_number l))
+base_text (bases.Own (OfNumbers only.Min)) l = optional_text signed_decimal (reduced (smaller int_cmp) (map item_number l))
+base_text (bases.Own (OfTexts between)) l = delimited between (map item_text l)
 
-abbrev pub number_body_told : NumberBody → List ℤ → Told
-number_body_told body l = number_told body.terminal (number_stages body.stages.items l)
+abbrev pub inner_text : Inner → List Item → List ℕ
+inner_text (inners.Base base) l = base_text base l
+inner_text (inners.Mapping (f, base)) l = base_text base (map (image f) l)
+inner_text (inners.Filtering p base) l = base_text base (filter (holds p) l)
 
--- a map over texts, with its values and what becomes of two of one key
-abbrev pub text_map_text : {K : Type 0} → (K → List ℕ) → (K → K → Bool) → (List ℕ → K) → TextValue → List (List ℕ) → List ℕ
-text_map_text key_text same key (text_values.Length merge) l = merged_text key_text signed_decimal same key text_length (number_join merge) l
-text_map_text key_text same key (text_values.Itself merge) l = merged_text key_text itself same key itself (text_join merge) l
+abbrev pub summary_text : Summary → List Item → List ℕ
+summary_text (summaries.Base base) l = base_text base l
+summary_text (summaries.Mapping (f, inner)) l = inner_text inner (map (image f) l)
+summary_text (summaries.Filtering p inner) l = inner_text inner (filter (holds p) l)
+summary_text (summaries.GroupBy f inner) l = groups_text item_text same_item (image f) (inner_text inner) l
 
-abbrev pub text_strict_told : {K : Type 0} → (K → List ℕ) → (K → K → Bool) → (List ℕ → K) → TextFunction → List (List ℕ) → Told
-text_strict_told key_text same key text_functions.Length l = strict_told key_text signed_decimal same key text_length l
-text_strict_told key_text same key text_functions.Itself l = strict_told key_text itself same key itself l
+-- what a terminal tells of the items (java.util.stream.LongStream, Stream and Collectors)
+abbrev pub terminal_told : Terminal → List Item → Told
+terminal_told Count l = Ok (signed_decimal (wrapped (pos (length l))))
+terminal_told FindFirst l = Ok (optional_text item_text (first l))
+terminal_told ToList l = Ok (list_text item_text l)
+terminal_told (AllMatch p) l = Ok (truth_text (all_meet (holds p) l))
+terminal_told (AnyMatch p) l = Ok (truth_text (any_meets (holds p) l))
+terminal_told (NoneMatch p) l = Ok (truth_text (not (any_meets (holds p) l)))
+terminal_told (GroupBy f summary) l = Ok (groups_text item_text same_item (image f) (summary_text summary) l)
+terminal_told (Partition p summary) l = Ok (parts_text (holds p) (summary_text summary) l)
+terminal_told (ToMap key (value, merge)) l = Ok (merged_text item_text item_text same_item (image key) (image value) (joined merge) l)
+terminal_told (ToMapStrict key value) l = strict_told item_text item_text same_item (image key) (image value) l
+terminal_told (Teeing one other) l = Ok (pair_text (summary_text one l) (summary_text other l))
+terminal_told (Own (OfNumbers totals.Sum)) l = Ok (signed_decimal (fold wrapped_sum (pos 0) (map item_number l)))
+terminal_told (Own (OfNumbers totals.Product)) l = Ok (signed_decimal (fold wrapped_product (pos 1) (map item_number l)))
+terminal_told (Own (OfNumbers totals.Max)) l = Ok (optional_text signed_decimal (reduced (larger int_cmp) (map item_number l)))
+terminal_told (Own (OfNumbers totals.Min)) l = Ok (optional_text signed_decimal (reduced (smaller int_cmp) (map item_number l)))
+terminal_told (Own (OfTexts (Plain between))) l = Ok (delimited between (map item_text l))
+terminal_told (Own (OfTexts (Within between front back))) l = Ok (front ++ delimited between (map item_text l) ++ back)
 
--- what a terminal tells of texts (java.util.stream.Stream)
-abbrev pub text_told : TextTerminal → List (List ℕ) → Told
-text_told terminals.Count l = Ok (signed_decimal (wrapped (pos (length l))))
-text_told terminals.FindFirst l = Ok (optional_text itself (first l))
-text_told terminals.ToList l = Ok (list_text itself l)
-text_told (terminals.AllMatch p) l = Ok (truth_text (all_meet (text_holds p) l))
-text_told (terminals.AnyMatch p) l = Ok (truth_text (any_meets (text_holds p) l))
-text_told (terminals.NoneMatch p) l = Ok (truth_text (not (any_meets (text_holds p) l)))
-text_told (terminals.Own (Plain between)) l = Ok (delimited between.now l)
-text_told (terminals.Own (Within between front back)) l = Ok (front.now ++ delimited between.now l ++ back.now)
-text_told (terminals.GroupBy f summary) l = Ok (text_groups_text f (text_summary_text summary) l)
-text_told (terminals.Partition p summary) l = Ok (parts_text (text_holds p) (text_summary_text summary) l)
-text_told (terminals.ToMap text_functions.Length value) l = Ok (text_map_text signed_decimal int_eq text_length value l)
-text_told (terminals.ToMap text_functions.Itself value) l = Ok (text_map_text itself bytes_eq itself value l)
-text_told (terminals.ToMapStrict text_functions.Length value) l = text_strict_told signed_decimal int_eq text_length value l
-text_told (terminals.ToMapStrict text_functions.Itself value) l = text_strict_told itself bytes_eq itself value l
-text_told (terminals.Teeing one other) l = Ok (pair_text (text_summary_text one l) (text_summary_text other l))
-
-abbrev pub text_end_told : TextEnd → List (List ℕ) → Told
-text_end_told (ends.Terminal terminal) l = text_told terminal l
-text_end_told (ends.Lengths body) l = number_body_told body (map text_length l)
-
-abbrev pub text_body_told : TextBody → List (List ℕ) → Told
-text_body_told body l = text_end_told body.end (text_stages body.stages.items l)
-
--- what a pipeline tells
-abbrev pub pipeline_told : Pipeline → Told
-pipeline_told (pipelines.Numbers source body) = number_body_told body (source_numbers source)
-pipeline_told (pipelines.Texts texts body) = text_body_told body (map (λ text. text.now) texts.items)
+-- what a program tells
+abbrev pub program_told : Program → Told
+program_told program = terminal_told program.terminal (stages_items program.stages (origin_items program.origin program.texts))
 
 -- the answer is what is told; want of memory says nothing
 abbrev pub Tells : Told → Result (List ℕ) ValueError → Type 0

@@ -3,7 +3,8 @@
 ghost use Rattle.std.specs.Prelude.{◌≡◌, ◌≤◌, flat_map};
 ghost use Rattle.std.proofs.Math.ListN.{replicate};
 ghost use Rattle.pipeline_value.specs.Folds.{fold_of, fold_terminal};
-ghost use Rattle.pipeline_value.specs.Value.{Tells, number_told};
+ghost use Rattle.pipeline_value.specs.Typed.{number_told};
+ghost use Rattle.pipeline_value.specs.Value.{Tells};
 
 use crate::engine::Engine;
 use crate::known_size::as_count;

@@ -5,7 +5,8 @@ ghost use Rattle.pipeline_meaning.specs.Functions.{number_holds};
 ghost use Rattle.pipeline_meaning.specs.Stages.{number_stage, number_stages};
 ghost use Rattle.pipeline_value.specs.Fronts.{IsFrontOf};
 ghost use Rattle.pipeline_value.specs.Ranges.{NumberBodyFits};
-ghost use Rattle.pipeline_value.specs.Value.{Tells, number_body_told, number_told};
+ghost use Rattle.pipeline_value.specs.Typed.{number_body_told, number_told};
+ghost use Rattle.pipeline_value.specs.Value.{Tells};
 
 use crate::engine::Engine;
 use crate::numbers::{list_value, range_items};

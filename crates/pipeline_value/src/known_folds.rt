@@ -6,7 +6,8 @@ ghost use Rattle.stages.specs.Choices.{larger, smaller};
 ghost use Rattle.stages.specs.Wrapping.{wrapped_sum};
 ghost use Rattle.collectors.specs.Reductions.{reduced};
 ghost use Rattle.pipeline_value.specs.Spans.{IsSpan};
-ghost use Rattle.pipeline_value.specs.Value.{Tells, number_body_told};
+ghost use Rattle.pipeline_value.specs.Typed.{number_body_told};
+ghost use Rattle.pipeline_value.specs.Value.{Tells};
 
 use crate::engine::Engine;
 use crate::told::{ValueError, told};

@@ -9,7 +9,7 @@ ghost use Rattle.stages.specs.Wrapping.{wrapped};
 ghost use Rattle.pipeline_meaning.specs.Stages.{number_stage, number_stages, text_stage, text_stages};
 ghost use Rattle.pipeline_value.specs.KnownSizes.{count_is_known, counts, number_count_is_known, size_stays_known, text_count_is_known};
 ghost use Rattle.pipeline_value.specs.Ranges.{NumberSourceFits, PipelineFits};
-ghost use Rattle.pipeline_value.specs.Value.{number_body_told, pipeline_told, source_numbers, text_end_told, text_told};
+ghost use Rattle.pipeline_value.specs.Typed.{number_body_told, pipeline_told, source_numbers, text_end_told, text_told};
 
 use pipeline_language::{
     Barrier, NumberBody, NumberSource, NumberStage, NumberTerminal, Pipeline, TextEnd, TextStage,

@@ -2,7 +2,8 @@
 
 ghost use Rattle.std.specs.Prelude.{◌≡◌, None, flat_map};
 ghost use Rattle.pipeline_value.specs.Folds.{fold_of};
-ghost use Rattle.pipeline_value.specs.Value.{Tells, number_told};
+ghost use Rattle.pipeline_value.specs.Typed.{number_told};
+ghost use Rattle.pipeline_value.specs.Value.{Tells};
 
 use crate::arranged::arranged_value;
 use crate::engine::Engine;

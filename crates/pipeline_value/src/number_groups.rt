@@ -5,7 +5,7 @@ ghost use Rattle.std.specs.Fmt.{signed_decimal};
 ghost use Rattle.std.specs.Ordering.{int_eq};
 ghost use Rattle.pipeline_meaning.specs.Prepared.{check_holds, mapping_image};
 ghost use Rattle.pipeline_value.specs.Arrangements.{IsReady, arranged_text, arranges, grouped_text};
-ghost use Rattle.pipeline_value.specs.Value.{number_told};
+ghost use Rattle.pipeline_value.specs.Typed.{number_told};
 
 use crate::arrangements::Arrangement;
 use crate::engine::Engine;

@@ -1,7 +1,8 @@
 //! The maps of numbers to numbers that terminals make.
 
 ghost use Rattle.pipeline_language.specs.declared.grammar.Terminal.TheVariants as terminals;
-ghost use Rattle.pipeline_value.specs.Value.{Tells, number_told};
+ghost use Rattle.pipeline_value.specs.Typed.{number_told};
+ghost use Rattle.pipeline_value.specs.Value.{Tells};
 
 use crate::engine::Engine;
 use crate::maps::{merged_value, strict_value};

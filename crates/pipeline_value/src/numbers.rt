@@ -3,7 +3,8 @@
 ghost use Rattle.std.specs.Prelude.{◌≡◌, IfOk, All, flat_map};
 ghost use Rattle.pipeline_meaning.specs.Stages.{number_stages};
 ghost use Rattle.pipeline_value.specs.Ranges.{NumberStageFits};
-ghost use Rattle.pipeline_value.specs.Value.{Tells, number_told, number_body_told};
+ghost use Rattle.pipeline_value.specs.Typed.{number_told, number_body_told};
+ghost use Rattle.pipeline_value.specs.Value.{Tells};
 
 use crate::engine::Engine;
 use crate::listed::through_barrier;

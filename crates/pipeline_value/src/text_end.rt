@@ -3,7 +3,8 @@
 ghost use Rattle.std.specs.Prelude.{◌≡◌, bytes_eq, false};
 ghost use Rattle.value_text.specs.Texts.{itself};
 ghost use Rattle.pipeline_value.specs.Arrangements.{arranges};
-ghost use Rattle.pipeline_value.specs.Value.{Tells, text_told};
+ghost use Rattle.pipeline_value.specs.Typed.{text_told};
+ghost use Rattle.pipeline_value.specs.Value.{Tells};
 ghost use Rattle.spliterator.specs.Clones.{ClonesAlike};
 
 use crate::engine::Engine;

@@ -4,7 +4,7 @@ ghost use Rattle.std.specs.Prelude.{◌≡◌, ℕ, List, IfSome, Ok, is_some, �
 ghost use Rattle.pipeline_meaning.specs.Functions.{text_holds};
 ghost use Rattle.pipeline_meaning.specs.Summaries.{text_groups_text};
 ghost use Rattle.pipeline_value.specs.Arrangements.{IsReady, arranged_text, arranges};
-ghost use Rattle.pipeline_value.specs.Value.{text_told};
+ghost use Rattle.pipeline_value.specs.Typed.{text_told};
 
 use crate::arrangements::Arrangement;
 use crate::engine::Engine;

@@ -3,7 +3,8 @@
 ghost use Rattle.std.specs.Prelude.{◌≡◌, Ok, bytes_eq};
 ghost use Rattle.value_text.specs.Texts.{itself};
 ghost use Rattle.pipeline_language.specs.declared.grammar.Terminal.TheVariants as terminals;
-ghost use Rattle.pipeline_value.specs.Value.{Tells, text_map_text, text_strict_told, text_told};
+ghost use Rattle.pipeline_value.specs.Typed.{text_map_text, text_strict_told, text_told};
+ghost use Rattle.pipeline_value.specs.Value.{Tells};
 
 use crate::engine::Engine;
 use crate::maps::{merged_value, strict_value};

@@ -4,7 +4,8 @@ ghost use Rattle.std.specs.Prelude.{All, flat_map, map};
 ghost use Rattle.pipeline_meaning.specs.Functions.{text_length};
 ghost use Rattle.pipeline_meaning.specs.Stages.{text_stages};
 ghost use Rattle.pipeline_value.specs.Ranges.{NumberBodyFits, TextEndFits, TextStageFits};
-ghost use Rattle.pipeline_value.specs.Value.{Tells, number_body_told, text_end_told};
+ghost use Rattle.pipeline_value.specs.Typed.{number_body_told, text_end_told};
+ghost use Rattle.pipeline_value.specs.Value.{Tells};
 
 use crate::engine::Engine;
 use crate::listed::through_barrier;

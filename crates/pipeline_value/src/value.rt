@@ -1,8 +1,10 @@
 //! The value of a pipeline.
 
 ghost use Rattle.parallel_streams.specs.Runs.{IsLawfulRun};
+ghost use Rattle.pipeline_language.specs.Content.{program_of};
 ghost use Rattle.pipeline_value.specs.Ranges.{NumberBodyFits, NumberSourceFits, PipelineFits};
-ghost use Rattle.pipeline_value.specs.Value.{Tells, number_body_told, pipeline_told, source_numbers};
+ghost use Rattle.pipeline_value.specs.Typed.{number_body_told, source_numbers};
+ghost use Rattle.pipeline_value.specs.Value.{Tells, program_told};
 
 use crate::differing::drop_distincts;
 use crate::engine::Engine;
@@ -37,7 +39,7 @@ pub fn pipeline_value<R: Threads + Sync, H: Gate + Sync>(
 ) -> Result<Rope, ValueError>
     requires settings { IsLawfulRun run.now.workers run.now.target }
     requires fits { PipelineFits pipeline }
-    ensures { Tells (pipeline_told pipeline.entry) result }
+    ensures { Tells (program_told (program_of pipeline.entry)) result }
 {
     if let Some(count) = known_count(&pipeline) {
         return told(alloc, &count);

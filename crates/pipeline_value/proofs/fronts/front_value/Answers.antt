@@ -3,7 +3,7 @@ use Rattle.std.proofs.lemmas.List.{take-append-drop}
 use Rattle.sources.specs.Integers.{integers}
 use Rattle.pipeline_meaning.specs.Stages.{number_stages}
 use Rattle.pipeline_value.specs.Fronts.{IsFrontOf}
-use Rattle.pipeline_value.specs.Value.{number_told}
+use Rattle.pipeline_value.specs.Typed.{number_told}
 use Rattle.pipeline_value.proofs.StageFronts.{told-by-front}
 use Rattle.pipeline_value.proofs.fronts.front_value.Goals as goal
 

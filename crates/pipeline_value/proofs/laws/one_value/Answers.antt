@@ -1,8 +1,7 @@
-use Rattle.pipeline_value.specs.ContentLaws.{told_by_content, one_value}
+use Rattle.std.proofs.Common.{ap}
+use Rattle.pipeline_language.proofs.FileLemmas.{one_meaning}
+use Rattle.pipeline_value.specs.Value.{program_told}
 use Rattle.pipeline_value.proofs.laws.one_value.Goals as goal
 
-pub returns-clause-by_content : goal.returns-clause-by_content
-returns-clause-by_content c = told_by_content
-
-pub returns-clause-by_file : goal.returns-clause-by_file
-returns-clause-by_file c = one_value
+pub returns : goal.returns
+returns c = record { by_file = λ file one other of_one of_other. ap program_told (one_meaning file one other of_one of_other) }

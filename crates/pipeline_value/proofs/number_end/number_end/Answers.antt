@@ -2,7 +2,8 @@ use Rattle.std.proofs.Common.{◌∙◌, ℤ, List, ap, flat_map, refl, subst, s
 use Rattle.std.proofs.Math.ListN.{replicate}
 use Rattle.pipeline_meaning.specs.NumberSteps.{number_images}
 use Rattle.pipeline_value.specs.Folds.{fold-is, fold_terminal}
-use Rattle.pipeline_value.specs.Value.{Tells, number_told}
+use Rattle.pipeline_value.specs.Typed.{number_told}
+use Rattle.pipeline_value.specs.Value.{Tells}
 use Rattle.pipeline_value.proofs.Telling.{in_one}
 use Rattle.pipeline_value.proofs.number_end.number_end.Goals as goal
 

@@ -5,7 +5,8 @@ use Rattle.stages.specs.Passing.{flat_map-one}
 use Rattle.pipeline_meaning.specs.NumberSteps.{number_images}
 use Rattle.pipeline_meaning.specs.Stages.{number_stage}
 use Rattle.pipeline_value.specs.Ranges.{NumberStageFits}
-use Rattle.pipeline_value.specs.Value.{Tells, number_told}
+use Rattle.pipeline_value.specs.Typed.{number_told}
+use Rattle.pipeline_value.specs.Value.{Tells}
 use Rattle.pipeline_value.proofs.Telling.{behind-none, copies-told, cut-told, whole-told}
 use Rattle.pipeline_value.proofs.numbers.+list_value.Goals as goal
 

@@ -4,7 +4,8 @@ use Rattle.std.proofs.lemmas.List.Elements.{All-drop, All-take}
 use Rattle.pipeline_meaning.specs.NumberSteps.{number_images}
 use Rattle.pipeline_meaning.specs.Stages.{number_stage, number_stages}
 use Rattle.pipeline_value.specs.Ranges.{NumberStageFits}
-use Rattle.pipeline_value.specs.Value.{Tells, number_told}
+use Rattle.pipeline_value.specs.Typed.{number_told}
+use Rattle.pipeline_value.specs.Value.{Tells}
 use Rattle.pipeline_value.proofs.Telling.{cut-told, in_one, whole-told}
 use Rattle.pipeline_value.proofs.numbers.number_value.Goals as goal
 

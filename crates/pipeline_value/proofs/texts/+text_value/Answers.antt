@@ -1,7 +1,8 @@
 use Rattle.std.proofs.Common.{◌≡◌, ◌<◌, ℕ, List, length, map, take, arith, ap, ◌∙◌}
 use Rattle.pipeline_meaning.specs.Stages.{text_stage}
 use Rattle.pipeline_meaning.specs.TextSteps.{text_images}
-use Rattle.pipeline_value.specs.Value.{Tells, text_end_told}
+use Rattle.pipeline_value.specs.Typed.{text_end_told}
+use Rattle.pipeline_value.specs.Value.{Tells}
 use Rattle.pipeline_value.proofs.Telling.{behind-none, cut-told, whole-told}
 use Rattle.pipeline_value.proofs.texts.+text_value.Goals as goal
 

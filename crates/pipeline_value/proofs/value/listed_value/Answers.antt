@@ -1,7 +1,8 @@
 use Rattle.std.proofs.Common.{ℤ, List, All, subst, ◌∙◌}
 use Rattle.std.proofs.lemmas.List.{map-id}
 use Rattle.spliterator.specs.Values.{IsI64}
-use Rattle.pipeline_value.specs.Value.{Tells, number_told}
+use Rattle.pipeline_value.specs.Typed.{number_told}
+use Rattle.pipeline_value.specs.Value.{Tells}
 use Rattle.pipeline_value.proofs.value.listed_value.Goals as goal
 
 pub returns : goal.returns

@@ -3,7 +3,8 @@ use Rattle.std.specs.Prelude.{FitsSigned}
 use Rattle.sources.specs.Integers.{integers}
 use Rattle.sources.specs.Progressions.{progression}
 use Rattle.pipeline_value.specs.Differing.{range-told}
-use Rattle.pipeline_value.specs.Value.{Tells, number_told}
+use Rattle.pipeline_value.specs.Typed.{number_told}
+use Rattle.pipeline_value.specs.Value.{Tells}
 use Rattle.pipeline_value.proofs.Telling.{narrowed-told}
 use Rattle.pipeline_value.proofs.value.narrowed_value.Goals as goal
 
