@@ -57,12 +57,12 @@ module _ {X Y : Type 0} (e : X → Y) where
   replicate-both zero x = refl
   replicate-both (suc n) x = ap (λ l. e x ∷ l) (replicate-both n x)
 
-  module _ (p : Y → Bool) (q : X → Bool) (same : (x : X) → p (e x) ≡ q x) where
-    pub filter-both : (l : List X) → filter p (map e l) ≡ map e (filter q l)
-    filter-both [] = refl
-    filter-both (x ∷ l) =
-        ap₂ (λ b t. cond b (e x ∷ t) t) (same x) (filter-both l) ∙ sym (under (map e) (q x) (x ∷ filter q l) (filter q l))
+  pub filter-both : (p : Y → Bool) (q : X → Bool) → ((x : X) → p (e x) ≡ q x) → (l : List X) → filter p (map e l) ≡ map e (filter q l)
+  filter-both p q same [] = refl
+  filter-both p q same (x ∷ l) =
+      ap₂ (λ b t. cond b (e x ∷ t) t) (same x) (filter-both p q same l) ∙ sym (under (map e) (q x) (x ∷ filter q l) (filter q l))
 
+  module _ (p : Y → Bool) (q : X → Bool) (same : (x : X) → p (e x) ≡ q x) where
     prefix-both : (l : List X) → prefix_len p (map e l) ≡ prefix_len q l
     prefix-both [] = refl
     prefix-both (x ∷ l) = ap₂ (λ b n. cond b (1 + n) 0) (same x) (prefix-both l)
@@ -89,13 +89,8 @@ module _ {X Y : Type 0} (e : X → Y) where
     pub parts-both : (text : List Y → List ℕ) (told : List X → List ℕ) → ((l : List X) → text (map e l) ≡ told l) → (l : List X) → parts_text p text (map e l) ≡ parts_text q told l
     parts-both text told texts l =
         ap₂ partition_text
-        (ap text (filter-both-fails l) ∙ texts (filter (fails q) l))
-        (ap text (filter-both l) ∙ texts (filter q l))
-      where
-        filter-both-fails : (l : List X) → filter (fails p) (map e l) ≡ map e (filter (fails q) l)
-        filter-both-fails [] = refl
-        filter-both-fails (x ∷ l) =
-            ap₂ (λ b t. cond (not b) (e x ∷ t) t) (same x) (filter-both-fails l) ∙ sym (under (map e) (fails q x) (x ∷ filter (fails q) l) (filter (fails q) l))
+        (ap text (filter-both (fails p) (fails q) (λ x. ap not (same x)) l) ∙ texts (filter (fails q) l))
+        (ap text (filter-both p q same l) ∙ texts (filter q l))
 
 module _ {X : Type 0} (k : Kind X) where
   distinct_after-both : (earlier l : List X) → distinct_after same_item (map k.item earlier) (map k.item l) ≡ map k.item (distinct_after k.same earlier l)
