@@ -18,7 +18,6 @@ mod narrowed;
 mod nested;
 mod number_end;
 mod number_groups;
-mod number_maps;
 mod numbers;
 mod powers;
 mod repeated;

@@ -8,13 +8,15 @@ ghost use Rattle.pipeline_value.specs.Value.{Tells};
 use crate::arranged::arranged_value;
 use crate::engine::Engine;
 use crate::folds::{Fold, fold_value};
+use crate::maps::{merged_value, strict_value};
 use crate::number_groups::number_arrangement;
-use crate::number_maps::{map_value, strict_map_value};
 use crate::told::{ValueError, ran_optional, ran_text, ran_told};
 use parallel_streams::{Stream, of};
 use parts::AtMostOne;
 use pipeline_language::{NumberTerminal, NumberTotal};
-use pipeline_meaning::{NumberCheck as Check, NumberSteps};
+use pipeline_meaning::{
+    NumberCheck as Check, NumberMapping as Mapping, NumberMerging, NumberSteps,
+};
 use sources::Windowed;
 use spliterator::Spliterator;
 use stages::{Stage, Then};
@@ -61,13 +63,16 @@ where
             ran_told(engine, stream.none_match(rt, alloc, run, &check))
         }
         NumberTerminal::ToMap(key, (value, merge)) => {
-            map_value(engine, stream, key, value, merge)
+            let (key, value) = (Mapping::of(key), Mapping::of(value));
+            merged_value(engine, stream, key, value, NumberMerging::of(merge))
         }
-        NumberTerminal::ToMapStrict(key, value) => { strict_map_value(engine, stream, key, value) }
+        NumberTerminal::ToMapStrict(key, value) => {
+            strict_value(engine, stream, Mapping::of(key), Mapping::of(value))
+        }
         NumberTerminal::GroupBy(_, _)
         | NumberTerminal::Partition(_, _)
-        | NumberTerminal::Teeing(_, _) => unreachable!(),
-        NumberTerminal::Own(NumberTotal::Sum)
+        | NumberTerminal::Teeing(_, _)
+        | NumberTerminal::Own(NumberTotal::Sum)
         | NumberTerminal::Own(NumberTotal::Product)
         | NumberTerminal::Own(NumberTotal::Max)
         | NumberTerminal::Own(NumberTotal::Min)

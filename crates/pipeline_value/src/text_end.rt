@@ -9,10 +9,11 @@ ghost use Rattle.spliterator.specs.Clones.{ClonesAlike};
 
 use crate::engine::Engine;
 use crate::text_groups::text_arrangement;
-use crate::text_maps::{map_value, strict_map_value};
+use crate::text_maps::{text_map, text_strict_map};
 use crate::text_parts::text_arranged_value;
 use crate::told::{ValueError, ran_optional, ran_text, ran_told};
 use parallel_streams::{Source, Staged, Stream};
+use pipeline_language::TextFunction::{Itself, Length};
 use pipeline_language::{Joint, TextTerminal};
 use pipeline_meaning::{TextCheck, TextSteps};
 use sources::SliceSplit;
@@ -88,8 +89,14 @@ where
             let joining = JoinedText::within(alloc, between, front, back);
             ran_text(engine, stream.collect(rt, alloc, run, &joining))
         }
-        TextTerminal::ToMap(key, value) => map_value(engine, stream, key, value),
-        TextTerminal::ToMapStrict(key, value) => { strict_map_value(engine, stream, key, value) }
+        TextTerminal::ToMap(Length, value) => text_map(engine, stream, parts::Length, value),
+        TextTerminal::ToMap(Itself, value) => text_map(engine, stream, parts::Itself, value),
+        TextTerminal::ToMapStrict(Length, value) => {
+            text_strict_map(engine, stream, parts::Length, value)
+        }
+        TextTerminal::ToMapStrict(Itself, value) => {
+            text_strict_map(engine, stream, parts::Itself, value)
+        }
         TextTerminal::GroupBy(_, _) | TextTerminal::Partition(_, _) | TextTerminal::Teeing(_, _) =>
             unreachable!(),
     }

@@ -21,57 +21,7 @@ use stealing_pool::Gate;
 use value_text::{Rope, Spelled};
 
 /// The text of the map of a stream's keys and values, where values of one key are merged.
-pub(crate) fn map_value<T, R, X, H>(
-    engine: &Engine<'_, R, H>,
-    stream: &X,
-    key: TextFunction,
-    value: TextValue,
-) -> Result<Rope, ValueError>
-where
-    T: Text + OrderedValue + Spelled + Hash + Copy + Drop + Send + Sync,
-    R: Threads + Sync,
-    X: Stream<Item = T> + Sync,
-    X::Progress: Send + Sync,
-    X::Part: Send,
-    H: Gate + Sync,
-    requires stream { X.ready stream.now }
-    requires spelling { T.spelling ≡ itself }
-    requires same { T.same ≡ bytes_eq }
-    ensures { Tells (text_told (terminals.ToMap key value) (X.value stream.now)) result }
-{
-    match key {
-        TextFunction::Length => text_map(engine, stream, Length, value),
-        TextFunction::Itself => text_map(engine, stream, Itself, value),
-    }
-}
-
-/// The text of the map of a stream's keys and values, or of the first key that comes again.
-pub(crate) fn strict_map_value<T, R, X, H>(
-    engine: &Engine<'_, R, H>,
-    stream: &X,
-    key: TextFunction,
-    value: TextFunction,
-) -> Result<Rope, ValueError>
-where
-    T: Text + OrderedValue + Spelled + Hash + Copy + Drop + Send + Sync,
-    R: Threads + Sync,
-    X: Stream<Item = T> + Sync,
-    X::Progress: Send + Sync,
-    X::Part: Send,
-    H: Gate + Sync,
-    requires stream { X.ready stream.now }
-    requires spelling { T.spelling ≡ itself }
-    requires same { T.same ≡ bytes_eq }
-    ensures { Tells (text_told (terminals.ToMapStrict key value) (X.value stream.now)) result }
-{
-    match key {
-        TextFunction::Length => text_strict_map(engine, stream, Length, value),
-        TextFunction::Itself => text_strict_map(engine, stream, Itself, value),
-    }
-}
-
-/// The text of the map of a stream's keys and values, where values of one key are merged.
-fn text_map<T, R, X, K, H>(
+pub(crate) fn text_map<T, R, X, K, H>(
     engine: &Engine<'_, R, H>,
     stream: &X,
     key: K,
@@ -104,7 +54,7 @@ where
 }
 
 /// The text of the map of a stream's keys and values, or of the first key that comes again.
-fn text_strict_map<T, R, X, K, H>(
+pub(crate) fn text_strict_map<T, R, X, K, H>(
     engine: &Engine<'_, R, H>,
     stream: &X,
     key: K,

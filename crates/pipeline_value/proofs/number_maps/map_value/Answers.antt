@@ -1,6 +1,0 @@
-use Rattle.std.proofs.Common.{rules}
-use Rattle.pipeline_value.proofs.number_maps.map_value.Goals as goal
-
--- bounded: a wrong body would search to its limit
-pub returns : goal.returns
-returns g c = search rules fits 200 depth 4
