@@ -7,7 +7,6 @@ use Rattle.pipeline_language.specs.declared.grammar.Function.{Function}
 use Rattle.pipeline_language.specs.declared.grammar.Inner as inners
 use Rattle.pipeline_language.specs.declared.grammar.Joint as joints
 use Rattle.pipeline_language.specs.declared.grammar.Line as lines
-use Rattle.pipeline_language.specs.declared.grammar.Line.TheVariants as body_lines
 use Rattle.pipeline_language.specs.declared.grammar.Merge.{Merge}
 use Rattle.pipeline_language.specs.declared.grammar.NumberOnly.{NumberOnly}
 use Rattle.pipeline_language.specs.declared.grammar.NumberTotal.{NumberTotal}
@@ -68,9 +67,3 @@ terminal_content terminal = grammar.terminal as_read condition_content summary_c
 
 abbrev pub body_line_content : lines.Line LentStage LentTerminal → BodyLine
 body_line_content line = grammar.line stage_content terminal_content line
-
-abbrev pub stage_line_content : LentStage → BodyLine
-stage_line_content stage = body_line_content (body_lines.Stage stage)
-
-abbrev pub terminal_line_content : LentTerminal → BodyLine
-terminal_line_content terminal = body_line_content (body_lines.Terminal terminal)
