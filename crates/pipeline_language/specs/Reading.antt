@@ -45,10 +45,6 @@ whole read words = read (record { words = words; good = true }) >>= λ x. ended 
 abbrev pub fitting : {X : Type 0} → Forms X → X → Result X FileError
 fitting forms x = if forms.takes_kind x then (if forms.in_limits x then Ok x else Err forms.limit_fault) else Err WrongKind
 
--- all the words of a line, with the kinds and the limits
-abbrev pub form_of : {X : Type 0} → Forms X → Reader X → List (List ℕ) → Result X FileError
-form_of forms read words = whole read words >>= fitting forms
-
 -- a line
 unfoldable pub line_of : {X : Type 0} → Forms X → Reader X → List ℕ → Result X FileError
-line_of forms read line = if is_utf8 line then form_of forms read (words_of line) else Err BadText
+line_of forms read line = if is_utf8 line then whole read (words_of line) >>= fitting forms else Err BadText
