@@ -10,8 +10,7 @@ use Rattle.pipeline_language.specs.Form.{Slot, Name, EitherName, Number, AnyWord
 pub name_of_word : (slot : Slot) (word : List ℕ) → WordFits slot word → NameFits slot word
 name_of_word (Name name) word fits = fits
 name_of_word (EitherName name other) word fits = fits
-name_of_word (Number low high n) word fits = tt
-name_of_word (AnyWord text) word fits = tt
+name_of_word slot word fits = tt
 
 pub names_of_words : (slots : List Slot) (words : List (List ℕ)) → WordsFit slots words → NamesFit slots words
 names_of_words [] [] fits = tt

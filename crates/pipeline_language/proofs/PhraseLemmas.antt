@@ -173,8 +173,10 @@ module _ {A X : Type 0} {follow : List Slot → Type 0} {ka : A → Bool} {known
 
   -- either of two names
   abbrev pub either_lead : {others : ByName X} (one other : List ℕ) (make : A → X) → ((a : A) → slots (make a) ≡ EitherName one other ∷ sa a) → ((a : A) → ka a ≡ true → known (make a) ≡ true) → Phrase follow ka sa ra → Leads follow known slots others → Leads follow known slots (named one make ra (named other make ra others))
-  either_lead one other make form keeps pa more = record { at = λ word.
-      tested one make (EitherName one other) (inl refl) form keeps pa (record { at = λ word. tested other make (EitherName one other) (inr refl) form keeps pa more word (bytes_eq word other) refl }) word (bytes_eq word one) refl }
+  either_lead one other make form keeps pa more = record {
+    at = λ word.
+        tested one make (EitherName one other) (inl refl) form keeps pa (record { at = λ word. tested other make (EitherName one other) (inr refl) form keeps pa more word (bytes_eq word other) refl }) word (bytes_eq word one) refl;
+  }
 
 pub made_twice : {A B X : Type 0} (first : B → A) (make : A → X) (r : Result (B × Left) FileError) → ((r >>= λ b. let a : Result (A × Left) FileError = Ok (first b.0, b.1) in a) >>= λ a. let x : Result (X × Left) FileError = Ok (make a.0, a.1) in x) ≡ (r >>= λ b. Ok (make (first b.0), b.1))
 made_twice first make (Err kind) = refl
@@ -184,7 +186,13 @@ made_twice first make (Ok b) = refl
 module _ {A X : Type 0} {follow : List Slot → Type 0} {ka : A → Bool} {known : X → Bool} {sa : A → List Slot} {slots : X → List Slot} (make : A → X) (form : (a : A) → slots (make a) ≡ sa a) (keeps : (a : A) → ka a ≡ true → known (make a) ≡ true) where
   abbrev made_lead : {word : List ℕ} {read : Reader A} → Lead follow ka sa word read → Lead follow known slots word (λ left. read left >>= λ a. Ok (make a.0, a.1))
   made_lead (To row) = To (record {
-    Behind = row.Behind; all = row.all; rest = row.rest; reads_rest = row.reads_rest; slot = row.slot; fits = row.fits; phrase = row.phrase;
+    Behind = row.Behind;
+    all = row.all;
+    rest = row.rest;
+    reads_rest = row.reads_rest;
+    slot = row.slot;
+    fits = row.fits;
+    phrase = row.phrase;
     make = λ b. make (row.make b);
     form = λ b. form (row.make b) ∙ row.form b;
     keeps = λ b k. keeps (row.make b) (row.keeps b k);
@@ -236,6 +244,7 @@ module _ {X : Type 0} {follow : List Slot → Type 0} {known : X → Bool} {slot
         met : (more : List Slot) → follow more → (words : List (List ℕ)) (good : Bool) → NamesFit (slot ∷ rest ++ more) words → Met more (length (slot ∷ rest ++ more) ≡ length words) (by_name names (record { words = words; good = good }))
         met more f [] good n = (refl, λ e. absurd (omega (arith, e)))
         met more f (word ∷ words) good n = met_if more (λ e. omega (arith, e)) _ ((lead_knows (leads.at word) rest x (to word n.0)).met more f words good n.1)
+
         spelled : (more : List Slot) → follow more → (words : List (List ℕ)) (good : Bool) → WordsFit (slot ∷ rest ++ more) words → Spelled more x good (by_name names (record { words = words; good = good }))
         spelled more f [] good w = absurd w
         spelled more f (word ∷ words) good w = (lead_knows (leads.at word) rest x (to word (name_of_word slot word w.0))).spelled more f words good w.1

@@ -17,7 +17,7 @@ use Rattle.pipeline_language.specs.declared.grammar.Summary.TheVariants as summa
 use Rattle.pipeline_language.specs.Syntax.{Add, AllMatch, AnyMatch, Barrier, Count, Distinct, Divisible, DropWhile, Empty, Equals, Expansion, Filter, FindFirst, FlatMap, Function, Greater, GroupBy, Itself, Length, Less, Limit, Longer, Map, Merge, Mod, Mul, Negate, NoneMatch, OfNumbers, OfTexts, Own, Partition, Repeat, Skip, Starts, TakeWhile, Teeing, ToList, ToMap, ToMapStrict, Words, Condition, Base, Inner, Summary, Origin, Range, Closed, Numbers, Lines, BodyLine, function_slots, condition_slots, base_slots, inner_slots, summary_slots, merge_slots, expansion_slots, terminal_slots, body_slots, origin_slots, has_new_names, summary_known, terminal_known, body_known}
 use Rattle.file_words.specs.WordReading.{Left, next_number, next_natural}
 use Rattle.pipeline_language.specs.Reading.{ByName, nothing, both, made_of, by_name}
-use Rattle.pipeline_language.specs.SyntaxReading.{function_names, function_of, condition_names, condition_of, base_names, base_of, inner_names, inner_of, summary_names, summary_of, merge_names, merge_of, expansion_names, expansion_of, body_names, new_terminal_names, terminal_names, body_of, origin_names, origin_words, asking_names, collecting_names}
+use Rattle.pipeline_language.specs.SyntaxReading.{function_names, function_of, condition_names, condition_of, base_names, base_of, inner_names, inner_of, summary_names, summary_of, merge_names, merge_of, expansion_names, expansion_of, body_names, new_terminal_names, terminal_names, body_of, origin_names, origin_words, collecting_names}
 use Rattle.pipeline_language.proofs.PhraseLemmas.{Anything, AtEnd, Phrase, Knows, Leads, nothing_phrase, both_phrase, no_leads, name_lead, either_lead, made_of_leads, named_knows, either_knows, by_name_phrase, at_end}
 use Rattle.pipeline_language.proofs.NumberPhrases.{number_phrase, natural_phrase, all_numbers_phrase}
 use Rattle.pipeline_language.proofs.WordPhrases.{word_phrase, joint_phrase}
@@ -177,7 +177,7 @@ new_terminal_leads One = no_leads
 new_terminal_leads Two = name_lead (codes "tomapstrict") (λ p. ToMapStrict p.0 p.1) (λ _. refl) (λ _ _. refl) (at_end (both_phrase function_phrase function_phrase)) no_leads
 
 abbrev terminal_leads : (version : Version) → Leads AtEnd (terminal_known version) terminal_slots (terminal_names version)
-unfolding terminal_names asking_names collecting_names
+unfolding terminal_names collecting_names
 terminal_leads version = name_lead (codes "sum") (λ _. Own (OfNumbers totals.Sum)) (λ _. refl) (λ _ _. refl) (at_end alone)
     (name_lead (codes "product") (λ _. Own (OfNumbers totals.Product)) (λ _. refl) (λ _ _. refl) (at_end alone)
     (name_lead (codes "max") (λ _. Own (OfNumbers totals.Max)) (λ _. refl) (λ _ _. refl) (at_end alone)
@@ -197,7 +197,7 @@ terminal_leads version = name_lead (codes "sum") (λ _. Own (OfNumbers totals.Su
 
 -- a line of the body
 abbrev body_leads : (version : Version) → Leads AtEnd (body_known version) body_slots (body_names version)
-unfolding terminal_names asking_names collecting_names
+unfolding terminal_names collecting_names
 body_leads version = name_lead (codes "map") (λ f. body_lines.Stage (Map f)) (λ _. refl) (λ _ _. refl) (at_end function_phrase)
     (name_lead (codes "filter") (λ p. body_lines.Stage (Filter p)) (λ _. refl) (λ _ _. refl) (at_end condition_phrase)
     (name_lead (codes "flatmap") (λ e. body_lines.Stage (FlatMap e)) (λ _. refl) (λ _ _. refl) (at_end expansion_phrase)
@@ -209,12 +209,12 @@ body_leads version = name_lead (codes "map") (λ f. body_lines.Stage (Map f)) (�
     (made_of_leads body_lines.Terminal (λ _. refl) (λ _ k. k) (terminal_leads version)))))))))
 
 strict_knows : (version : Version) (key value : Function) → has_new_names version ≡ true → Knows AtEnd (by_name (body_names version)) (body_slots (body_lines.Terminal (ToMapStrict key value))) (body_lines.Terminal (ToMapStrict key value))
-unfolding terminal_names asking_names collecting_names new_terminal_names
+unfolding terminal_names collecting_names new_terminal_names
 strict_knows One key value known = absurd (false≢true known)
 strict_knows Two key value known = named_knows (body_leads Two) (_, refl, refl, refl)
 
 body_knows : (version : Version) (x : BodyLine) → body_known version x ≡ true → Knows AtEnd (by_name (body_names version)) (body_slots x) x
-unfolding terminal_names asking_names collecting_names
+unfolding terminal_names collecting_names
 body_knows version (body_lines.Stage (Barrier Distinct)) known = named_knows (body_leads version) (_, refl, refl, refl)
 body_knows version (body_lines.Terminal (Own (OfNumbers totals.Sum))) known = named_knows (body_leads version) (_, refl, refl, refl)
 body_knows version (body_lines.Terminal (ToMap key (value, merge))) known = named_knows (body_leads version) (_, refl, refl, refl)

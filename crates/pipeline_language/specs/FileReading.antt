@@ -12,12 +12,13 @@ use Rattle.pipeline_language.specs.declared.version.Version.{Version}
 use Rattle.pipeline_language.specs.declared.version.Version.TheVariants.{One, Two}
 use Rattle.pipeline_language.specs.declared.kinds.TextLine.{TextLine}
 use Rattle.pipeline_language.specs.declared.line.Source.{Source}
-use Rattle.pipeline_language.specs.Content.{Body}
+use Rattle.pipeline_language.specs.declared.pipeline.Pipeline.{Pipeline}
+use Rattle.pipeline_language.specs.Content.{Body, program_of}
 use Rattle.pipeline_language.specs.Kinds.{NumberLine, number_line_content, text_line_content, source_content}
 use Rattle.file_words.specs.Words.{lines_of}
 use Rattle.pipeline_language.specs.declared.grammar.Line.TheVariants as body_lines
 use Rattle.pipeline_language.specs.Syntax.{Origin, origins, text_count, Stage, BodyLine, NumberKind, TextKind, Coming, comes, after_stage, bodies, Program}
-use Rattle.pipeline_language.specs.Language.{most_bytes, first_line, from_origin}
+use Rattle.pipeline_language.specs.Language.{most_bytes, first_line, from_origin, Means, HasFault}
 use Rattle.file_words.specs.WordReading.{◌>>=◌, Left}
 use Rattle.pipeline_language.specs.Reading.{ReadAs, line_of}
 use Rattle.pipeline_language.specs.SyntaxReading.{body_of, origin_words}
@@ -97,7 +98,14 @@ Reads content (Ok x) read = read ≡ Ok (content x)
 Reads content (Err errors.NoMemory) read = Unit {0}
 Reads content (Err (errors.Fault fault)) read = read ≡ Err fault
 
--- the same of one line
+-- What a file means is read; its fault is told.
+abbrev pub ReadsMeaning : List ℕ → Result Pipeline ReadError → Type 0
+ReadsMeaning file result = (program : Program) → Means file program → Reads program_of result (Ok program)
+
+abbrev pub TellsFault : List ℕ → Result Pipeline ReadError → Type 0
+TellsFault file result = (fault : FileFault) → HasFault file fault → Reads program_of result (Err fault)
+
+-- what a function returned of one line, by its content
 abbrev pub LineReads : {X Y : Type 0} → (X → Y) → Result X LineError → Result Y FileError → Type 0
 LineReads content (Ok x) read = read ≡ Ok (content x)
 LineReads content (Err line_errors.NoMemory) read = Unit {0}

@@ -110,10 +110,8 @@ FaultAt EndPlace line kind = ((IsUtf8 line → ⊥) × (kind ≡ BadText)) ⊎ (
 -- the fault of a file that ends where a line has to come
 abbrev pub FaultAtEnd : Place → FileError → Type 0
 FaultAtEnd VersionPlace kind = kind ≡ BadVersion
-FaultAtEnd SourcePlace kind = kind ≡ MissingTerminal
-FaultAtEnd TextPlace kind = kind ≡ MissingTerminal
-FaultAtEnd (BodyPlace coming) kind = kind ≡ MissingTerminal
 FaultAtEnd EndPlace kind = ⊥
+FaultAtEnd place kind = kind ≡ MissingTerminal
 
 -- What comes next has the fault: the first of the lines left, or their want.
 abbrev pub FaultOfNext : Place → List (List ℕ) → FileError → Type 0

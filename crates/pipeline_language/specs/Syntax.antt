@@ -172,8 +172,7 @@ most_items = 4611686018427387904
 abbrev pub is_short : Origin → Bool
 is_short (Range a b) = nat_le (steps_up (b -ℤ a)) most_items
 is_short (Closed a b) = nat_le (steps_up ((b +ℤ pos 1) -ℤ a)) most_items
-is_short (Numbers ns) = true
-is_short (Lines n) = true
+is_short origin = true
 
 abbrev pub origins : Forms Origin
 origins = record { slots = origin_slots; known = all_known; takes_kind = λ _. true; in_limits = is_short; limit_fault = RangeTooLong }
@@ -185,9 +184,7 @@ has_new_names Two = true
 
 abbrev pub summary_known : Version → Summary → Bool
 summary_known version (summaries.Base base) = true
-summary_known version (summaries.Mapping (f, inner)) = has_new_names version
-summary_known version (summaries.Filtering p inner) = has_new_names version
-summary_known version (summaries.GroupBy f inner) = has_new_names version
+summary_known version summary = has_new_names version
 
 abbrev pub terminal_known : Version → Terminal → Bool
 terminal_known version (GroupBy f summary) = summary_known version summary
@@ -211,43 +208,29 @@ is_text TextKind = true
 
 -- the kind of a source's items, and how many lines of text follow it
 abbrev pub origin_kind : Origin → Kind
-origin_kind (Range a b) = NumberKind
-origin_kind (Closed a b) = NumberKind
-origin_kind (Numbers ns) = NumberKind
 origin_kind (Lines n) = TextKind
+origin_kind origin = NumberKind
 
 abbrev pub text_count : Origin → ℕ
-text_count (Range a b) = 0
-text_count (Closed a b) = 0
-text_count (Numbers ns) = 0
 text_count (Lines n) = n
+text_count origin = 0
 
 -- The function takes items of the kind.
 abbrev pub function_takes : Kind → Function → Bool
-function_takes kind (Add n) = is_number kind
-function_takes kind (Mul n) = is_number kind
-function_takes kind Negate = is_number kind
-function_takes kind (Mod n) = is_number kind
 function_takes kind Length = is_text kind
 function_takes kind Itself = true
+function_takes kind f = is_number kind
 
 -- the kind of its values
 abbrev pub value_kind : Kind → Function → Kind
-value_kind kind (Add n) = NumberKind
-value_kind kind (Mul n) = NumberKind
-value_kind kind Negate = NumberKind
-value_kind kind (Mod n) = NumberKind
-value_kind kind Length = NumberKind
 value_kind kind Itself = kind
+value_kind kind f = NumberKind
 
 abbrev pub condition_takes : Kind → Condition → Bool
-condition_takes kind (Less n) = is_number kind
-condition_takes kind (Greater n) = is_number kind
-condition_takes kind (Equals n) = is_number kind
-condition_takes kind (Divisible n) = is_number kind
 condition_takes kind Empty = is_text kind
 condition_takes kind (Starts front) = is_text kind
 condition_takes kind (Longer n) = is_text kind
+condition_takes kind p = is_number kind
 
 -- what stands for one kind alone
 abbrev pub own_takes : {N T : Type 0} → Kind → OfKind N T → Bool
@@ -273,9 +256,7 @@ summary_takes kind (summaries.GroupBy f inner) = function_takes kind f && inner_
 abbrev pub merge_takes : Kind → Merge → Bool
 merge_takes kind merges.First = true
 merge_takes kind merges.Last = true
-merge_takes kind merges.Sum = is_number kind
-merge_takes kind merges.Max = is_number kind
-merge_takes kind merges.Min = is_number kind
+merge_takes kind merge = is_number kind
 
 abbrev pub expansion_takes : Kind → Expansion → Bool
 expansion_takes kind (Repeat n) = true

@@ -115,8 +115,7 @@ joint_after between left = if is_done left.words then (let found : Joint × Left
 unfoldable pub joint_of : Reader Joint
 joint_of left = next_word left >>= λ between. joint_after between.0 between.1
 
--- The names of terminals that the first version has not; before them those of terminals with collectors or maps, of those
--- with a test or texts between, and of those that stand alone.
+-- The names of terminals that the first version has not; before them those of terminals with collectors or maps, and all others.
 unfoldable pub new_terminal_names : Version → ByName Terminal
 new_terminal_names One = unknown
 new_terminal_names Two = named (codes "tomapstrict") (λ p. ToMapStrict p.0 p.1) (both function_of function_of)
@@ -129,13 +128,6 @@ collecting_names version = named (codes "groupby") (λ p. GroupBy p.0 p.1) (both
     (named (codes "teeing") (λ p. Teeing p.0 p.1) (both (summary_of version) (summary_of version))
     (new_terminal_names version))))
 
-unfoldable pub asking_names : Version → ByName Terminal
-asking_names version = named (codes "allmatch") AllMatch condition_of
-    (named (codes "anymatch") AnyMatch condition_of
-    (named (codes "nonematch") NoneMatch condition_of
-    (named (codes "joining") (λ j. Own (OfTexts j)) joint_of
-    (collecting_names version))))
-
 unfoldable pub terminal_names : Version → ByName Terminal
 terminal_names version = named (codes "sum") (λ _. Own (OfNumbers totals.Sum)) nothing
     (named (codes "product") (λ _. Own (OfNumbers totals.Product)) nothing
@@ -144,7 +136,11 @@ terminal_names version = named (codes "sum") (λ _. Own (OfNumbers totals.Sum)) 
     (named (codes "count") (λ _. Count) nothing
     (named (codes "findfirst") (λ _. FindFirst) nothing
     (named (codes "tolist") (λ _. ToList) nothing
-    (asking_names version)))))))
+    (named (codes "allmatch") AllMatch condition_of
+    (named (codes "anymatch") AnyMatch condition_of
+    (named (codes "nonematch") NoneMatch condition_of
+    (named (codes "joining") (λ j. Own (OfTexts j)) joint_of
+    (collecting_names version)))))))))))
 
 -- The names of stages, and then those of terminals.
 abbrev pub body_names : Version → ByName BodyLine

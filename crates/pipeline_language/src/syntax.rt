@@ -4,7 +4,7 @@ ghost use Rattle.std.specs.Prelude.{Result};
 ghost use Rattle.pipeline_language.specs.LineContent.{as_read, base_content, body_line_content, condition_content, inner_content, joint_content, summary_content, terminal_content};
 ghost use Rattle.file_words.specs.WordReading.{GetsAs};
 ghost use Rattle.pipeline_language.specs.Reading.{ReadAs, whole};
-ghost use Rattle.pipeline_language.specs.SyntaxReading.{asking_names, base_names, base_of, body_of, collecting_names, condition_of, expansion_of, function_of, inner_of, joint_of, merge_of, new_terminal_names, summary_of, terminal_names};
+ghost use Rattle.pipeline_language.specs.SyntaxReading.{base_names, base_of, body_of, collecting_names, condition_of, expansion_of, function_of, inner_of, joint_of, merge_of, new_terminal_names, summary_of, terminal_names};
 ghost use Rattle.file_words.specs.Words.{words_of};
 
 use crate::grammar::{
@@ -111,12 +111,16 @@ fn read_inner<'a>(words: &mut Words<'a>) -> Result<AnyInner<'a>, FileError>
 fn read_summary<'a>(version: Version, words: &mut Words<'a>) -> Result<AnySummary<'a>, FileError>
     ensures { GetsAs summary_content (summary_of version words.old) result words.new }
 {
-    match (version, words.any()?) {
-        (Version::Two, "mapping") => Ok(Summary::Mapping((read_function(words)?, read_inner(words)?))),
-        (Version::Two, "filtering") => Ok(Summary::Filtering(read_condition(words)?, read_inner(words)?)),
-        (Version::Two, "groupby") => Ok(Summary::GroupBy(read_function(words)?, read_inner(words)?)),
-        (_, name) => Ok(Summary::Base(base_named(name, words)?)),
-    }
+    let name = words.any()?;
+    Ok(match (version, name) {
+        (Version::Two, "mapping") => Summary::Mapping((read_function(words)?, read_inner(words)?)),
+        (Version::Two, "filtering") => Summary::Filtering(
+            read_condition(words)?,
+            read_inner(words)?,
+        ),
+        (Version::Two, "groupby") => Summary::GroupBy(read_function(words)?, read_inner(words)?),
+        _ => Summary::Base(base_named(name, words)?),
+    })
 }
 
 #[tactic(auto, unfolding(crate::specs::SyntaxReading::merge_of))]
@@ -183,34 +187,20 @@ fn read_terminal<'a>(
 ) -> Result<AnyTerminal<'a>, FileError>
     ensures { GetsAs terminal_content (terminal_names version name.now words.old) result words.new }
 {
-    match name {
-        "sum" => Ok(Terminal::Own(OfKind::OfNumbers(NumberTotal::Sum))),
-        "product" => Ok(Terminal::Own(OfKind::OfNumbers(NumberTotal::Product))),
-        "max" => Ok(Terminal::Own(OfKind::OfNumbers(NumberTotal::Max))),
-        "min" => Ok(Terminal::Own(OfKind::OfNumbers(NumberTotal::Min))),
-        "count" => Ok(Terminal::Count),
-        "findfirst" => Ok(Terminal::FindFirst),
-        "tolist" => Ok(Terminal::ToList),
-        _ => read_asking_terminal(version, name, words),
-    }
-}
-
-/// A terminal that does not stand alone, behind its name.
-#[tactic(auto, unfolding(crate::specs::SyntaxReading::asking_names))]
-fn read_asking_terminal<'a>(
-    version: Version,
-    name: &str,
-    words: &mut Words<'a>,
-) -> Result<AnyTerminal<'a>, FileError>
-    ensures { GetsAs terminal_content (asking_names version name.now words.old) result words.new }
-{
-    match name {
-        "allmatch" => Ok(Terminal::AllMatch(read_condition(words)?)),
-        "anymatch" => Ok(Terminal::AnyMatch(read_condition(words)?)),
-        "nonematch" => Ok(Terminal::NoneMatch(read_condition(words)?)),
-        "joining" => Ok(Terminal::Own(OfKind::OfTexts(read_joint(words)?))),
-        _ => read_collecting_terminal(version, name, words),
-    }
+    Ok(match name {
+        "sum" => Terminal::Own(OfKind::OfNumbers(NumberTotal::Sum)),
+        "product" => Terminal::Own(OfKind::OfNumbers(NumberTotal::Product)),
+        "max" => Terminal::Own(OfKind::OfNumbers(NumberTotal::Max)),
+        "min" => Terminal::Own(OfKind::OfNumbers(NumberTotal::Min)),
+        "count" => Terminal::Count,
+        "findfirst" => Terminal::FindFirst,
+        "tolist" => Terminal::ToList,
+        "allmatch" => Terminal::AllMatch(read_condition(words)?),
+        "anymatch" => Terminal::AnyMatch(read_condition(words)?),
+        "nonematch" => Terminal::NoneMatch(read_condition(words)?),
+        "joining" => Terminal::Own(OfKind::OfTexts(read_joint(words)?)),
+        _ => return read_collecting_terminal(version, name, words),
+    })
 }
 
 /// A terminal with a collector or a map, behind its name.
@@ -222,22 +212,18 @@ fn read_collecting_terminal<'a>(
 ) -> Result<AnyTerminal<'a>, FileError>
     ensures { GetsAs terminal_content (collecting_names version name.now words.old) result words.new }
 {
-    match name {
-        "groupby" => Ok(Terminal::GroupBy(read_function(words)?, read_summary(version, words)?)),
-        "partition" => Ok(Terminal::Partition(
-            read_condition(words)?,
-            read_summary(version, words)?,
-        )),
-        "tomap" => Ok(Terminal::ToMap(
-            read_function(words)?,
-            (read_function(words)?, read_merge(words)?),
-        )),
-        "teeing" => Ok(Terminal::Teeing(
-            read_summary(version, words)?,
-            read_summary(version, words)?,
-        )),
-        _ => read_new_terminal(version, name, words),
-    }
+    Ok(match name {
+        "groupby" => Terminal::GroupBy(read_function(words)?, read_summary(version, words)?),
+        "partition" => Terminal::Partition(read_condition(words)?, read_summary(version, words)?),
+        "tomap" => {
+            Terminal::ToMap(
+                read_function(words)?,
+                (read_function(words)?, read_merge(words)?),
+            )
+        }
+        "teeing" => Terminal::Teeing(read_summary(version, words)?, read_summary(version, words)?),
+        _ => return read_new_terminal(version, name, words),
+    })
 }
 
 /// A terminal that the first version has not, behind its name.
