@@ -11,7 +11,7 @@ use Rattle.pipeline_language.specs.Content.{Body}
 use Rattle.pipeline_language.specs.Form.{IsLineOf}
 use Rattle.pipeline_language.specs.declared.grammar.Line.TheVariants as body_lines
 use Rattle.pipeline_language.specs.Syntax.{Stage, Terminal, BodyLine, Coming, after_stage, bodies}
-use Rattle.pipeline_language.specs.Language.{AreStageLines, after_stages, BodyPlace, EndPlace, FaultAt, FaultOfNext}
+use Rattle.pipeline_language.specs.Language.{AreStageLines, after_stages, Place, BodyPlace, EndPlace, FaultAt, FaultOfNext}
 use Rattle.file_words.specs.WordReading.{◌>>=◌}
 use Rattle.pipeline_language.specs.Reading.{line_of}
 use Rattle.pipeline_language.specs.SyntaxReading.{body_of}
@@ -27,29 +27,25 @@ pub record IsBodyOf (coming : Coming) (lines : List (List ℕ)) (body : Body) : 
   pub stages : AreStageLines coming stage_lines body.0
   pub terminal : IsLineOf (bodies (after_stages coming body.0)) terminal_line (body_lines.Terminal body.1)
 
--- a fault among the lines of a body, of which the first has number n
-pub record IsFaultWithin (coming : Coming) (n : ℕ) (lines : List (List ℕ)) (fault : FileFault) : Type 0 where
-  pub front : List (List ℕ)
-  pub left : List (List ℕ)
-  pub steps : List Stage
-  pub whole : lines ≡ front ++ left
-  pub stages : AreStageLines coming front steps
-  pub line : fault.line ≡ n + length front
-  pub here : FaultOfNext (BodyPlace (after_stages coming steps)) left fault.kind
+-- Lines that lead to a place of a body: stage lines, or all of its lines.
+abbrev pub LeadsInBody : Coming → List (List ℕ) → Place → Type 0
+LeadsInBody coming lines (BodyPlace next) = (steps : List Stage) × AreStageLines coming lines steps × (next ≡ after_stages coming steps)
+LeadsInBody coming lines EndPlace = (body : Body) × IsBodyOf coming lines body
+LeadsInBody coming lines place = ⊥
 
--- a fault behind the terminal line
-pub record IsFaultBehind (coming : Coming) (n : ℕ) (lines : List (List ℕ)) (fault : FileFault) : Type 0 where
+-- a fault of the lines of a body, of which the first has number n
+pub record IsFaultOfBody (coming : Coming) (n : ℕ) (lines : List (List ℕ)) (fault : FileFault) : Type 0 where
   pub front : List (List ℕ)
   pub left : List (List ℕ)
-  pub body : Body
+  pub place : Place
   pub whole : lines ≡ front ++ left
-  pub is : IsBodyOf coming front body
+  pub leads : LeadsInBody coming front place
   pub line : fault.line ≡ n + length front
-  pub here : FaultOfNext EndPlace left fault.kind
+  pub here : FaultOfNext place left fault.kind
 
 abbrev pub AnswersBody : Coming → ℕ → List (List ℕ) → Result Body FileFault → Type 0
 AnswersBody coming n lines (Ok body) = IsBodyOf coming lines body
-AnswersBody coming n lines (Err fault) = IsFaultWithin coming n lines fault ⊎ IsFaultBehind coming n lines fault
+AnswersBody coming n lines (Err fault) = IsFaultOfBody coming n lines fault
 
 -- a line after the end
 pub end_fault : (line : List ℕ) → FaultAt EndPlace line (after_end line)
@@ -63,50 +59,42 @@ end_fault_is line kind (inl fault) = cond-false (is_utf8 line) AfterTerminal Bad
 end_fault_is line kind (inr fault) = cond-true (is_utf8 line) AfterTerminal BadText (is_utf8-from_IsUtf8 line fault.0) ∙ sym fault.1
 
 -- a stage in front of what the rest answers
-stage_answer : (coming : Coming) (n : ℕ) (line : List ℕ) (lines : List (List ℕ)) (stage : Stage) → IsLineOf (bodies coming) line (body_lines.Stage stage) → (rest : Result Body FileFault) → AnswersBody (after_stage coming stage) (n + 1) lines rest → AnswersBody coming n (line ∷ lines) (in_front (stage ∷ []) rest)
-stage_answer coming n line lines stage is (Ok body) h =
-    record { stage_lines = line ∷ h.stage_lines; terminal_line = h.terminal_line; whole = ap (λ l. line ∷ l) h.whole; stages = (is, h.stages); terminal = h.terminal }
-stage_answer coming n line lines stage is (Err fault) (inl h) = inl (record {
-  front = line ∷ h.front;
-  left = h.left;
-  steps = stage ∷ h.steps;
-  whole = ap (λ l. line ∷ l) h.whole;
-  stages = (is, h.stages);
-  line = omega (arith, h.line);
-  here = h.here;
-})
-stage_answer coming n line lines stage is (Err fault) (inr h) = inr (record {
-  front = line ∷ h.front;
-  left = h.left;
-  body = (stage ∷ h.body.0, h.body.1);
-  whole = ap (λ l. line ∷ l) h.whole;
-  is = record { stage_lines = line ∷ h.is.stage_lines; terminal_line = h.is.terminal_line; whole = ap (λ l. line ∷ l) h.is.whole; stages = (is, h.is.stages); terminal = h.is.terminal };
-  line = omega (arith, h.line);
-  here = h.here;
-})
+module _ (coming : Coming) (line : List ℕ) (stage : Stage) (is : IsLineOf (bodies coming) line (body_lines.Stage stage)) where
+  stage_body : (lines : List (List ℕ)) (body : Body) → IsBodyOf (after_stage coming stage) lines body → IsBodyOf coming (line ∷ lines) (stage ∷ body.0, body.1)
+  stage_body lines body h = record { stage_lines = line ∷ h.stage_lines; terminal_line = h.terminal_line; whole = ap (λ l. line ∷ l) h.whole; stages = (is, h.stages); terminal = h.terminal }
+
+  stage_leads : (front : List (List ℕ)) (place : Place) → LeadsInBody (after_stage coming stage) front place → LeadsInBody coming (line ∷ front) place
+  stage_leads front (BodyPlace next) h = (stage ∷ h.0, (is, h.1), h.2)
+  stage_leads front EndPlace h = ((stage ∷ h.0.0, h.0.1), stage_body front h.0 h.1)
+  stage_leads front place h = h
+
+  stage_answer : (n : ℕ) (lines : List (List ℕ)) (rest : Result Body FileFault) → AnswersBody (after_stage coming stage) (n + 1) lines rest → AnswersBody coming n (line ∷ lines) (in_front (stage ∷ []) rest)
+  stage_answer n lines (Ok body) h = stage_body lines body h
+  stage_answer n lines (Err fault) h =
+      record { front = line ∷ h.front; left = h.left; place = h.place; whole = ap (λ l. line ∷ l) h.whole; leads = stage_leads h.front h.place h.leads; line = omega (arith, h.line); here = h.here }
 
 terminal_answer : (coming : Coming) (n : ℕ) (line : List ℕ) (lines : List (List ℕ)) (terminal : Terminal) → IsLineOf (bodies coming) line (body_lines.Terminal terminal) → (rest : Stage → Result Body FileFault) → AnswersBody coming n (line ∷ lines) (ending_with (body_lines.Terminal terminal) (no_more (n + 1) lines) >>= λ b. going_on b rest)
 unfolding no_more
 terminal_answer coming n line [] terminal is rest = record { stage_lines = []; terminal_line = line; whole = refl; stages = tt; terminal = is }
-terminal_answer coming n line (next ∷ lines) terminal is rest = inr (record {
+terminal_answer coming n line (next ∷ lines) terminal is rest = record {
   front = line ∷ [];
   left = next ∷ lines;
-  body = ([], terminal);
+  place = EndPlace;
   whole = refl;
-  is = record { stage_lines = []; terminal_line = line; whole = refl; stages = tt; terminal = is };
+  leads = (([], terminal), record { stage_lines = []; terminal_line = line; whole = refl; stages = tt; terminal = is });
   line = omega arith;
   here = end_fault next;
-})
+}
 
 first_answer : (coming : Coming) (n : ℕ) (line : List ℕ) (lines : List (List ℕ)) (r : Result BodyLine FileError) → AnswersLine (bodies coming) line r → (rest : Stage → Result Body FileFault) → ((stage : Stage) → AnswersBody (after_stage coming stage) (n + 1) lines (rest stage)) → AnswersBody coming n (line ∷ lines) ((at_line n r >>= λ b. ending_with b (no_more (n + 1) lines)) >>= λ b. going_on b rest)
-first_answer coming n line lines (Err kind) fault rest h = inl (record { front = []; left = line ∷ lines; steps = []; whole = refl; stages = tt; line = omega arith; here = fault })
-first_answer coming n line lines (Ok (body_lines.Stage stage)) is rest h = stage_answer coming n line lines stage is (rest stage) (h stage)
+first_answer coming n line lines (Err kind) fault rest h = record { front = []; left = line ∷ lines; place = BodyPlace coming; whole = refl; leads = ([], tt, refl); line = omega arith; here = fault }
+first_answer coming n line lines (Ok (body_lines.Stage stage)) is rest h = stage_answer coming line stage is n lines (rest stage) (h stage)
 first_answer coming n line lines (Ok (body_lines.Terminal terminal)) is rest h = terminal_answer coming n line lines terminal is rest
 
 -- The lines of a body have the answer that reading gives.
 pub body_answer : (lines : List (List ℕ)) (coming : Coming) (n : ℕ) → AnswersBody coming n lines (body_from coming n lines)
 unfolding first_of
-body_answer [] coming n = inl (record { front = []; left = []; steps = []; whole = refl; stages = tt; line = omega arith; here = refl })
+body_answer [] coming n = record { front = []; left = []; place = BodyPlace coming; whole = refl; leads = ([], tt, refl); line = omega arith; here = refl }
 body_answer (line ∷ lines) coming n =
     first_answer coming n line lines (line_of (bodies coming) (body_of coming.version) line) (line_answer (bodies coming) (body_of coming.version) (body_phrase coming.version) line)
     (λ stage. body_from (after_stage coming stage) (n + 1) lines) (λ stage. body_answer lines (after_stage coming stage) (n + 1))

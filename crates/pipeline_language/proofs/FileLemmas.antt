@@ -25,7 +25,7 @@ use Rattle.pipeline_language.specs.SyntaxReading.{body_of, origin_words}
 use Rattle.pipeline_language.specs.FileReading.{IfFault, Reads, Texts, first_text, texts_from, from_texts, at_line, version_of, after_end, no_more, in_front, body_from, from_source, program_from, file_of}
 use Rattle.pipeline_language.proofs.LineAnswers.{AnswersLine, line_answer, line_is_read, fault_is_read, not_text}
 use Rattle.pipeline_language.proofs.SyntaxLemmas.{body_phrase, origin_phrase}
-use Rattle.pipeline_language.proofs.BodyLemmas.{AnswersBody, IsBodyOf, body_answer, body_is_read, stages_are_read, line_first, end_fault_is, in_front_none, in_front_twice, in_front_of_none}
+use Rattle.pipeline_language.proofs.BodyLemmas.{AnswersBody, IsBodyOf, LeadsInBody, body_answer, body_is_read, stages_are_read, line_first, end_fault_is, in_front_none, in_front_twice, in_front_of_none}
 
 -- what lines, and a file, have as their answer
 abbrev AnswersLines : List (List ℕ) → Result Program FileFault → Type 0
@@ -98,17 +98,16 @@ texts_answer (suc count) n (line ∷ lines) =
     (λ t. ([], line ∷ lines, refl, tt, omega arith, omega arith, (not_text line t, refl)))
 
 -- texts that stand in front are read
-text_is_read : (text : List ℕ) (count n : ℕ) (left : List (List ℕ)) → IsUtf8 text → texts_from (suc count) n (text ∷ left) ≡ in_front (text ∷ []) (texts_from count (n + 1) left)
-unfolding first_text
-text_is_read text count n left is = ap (λ r. r >>= λ t. in_front (t ∷ []) (texts_from count (n + 1) left)) (cond-true (is_utf8 text) (Ok text) (Err (record { line = n; kind = BadText })) (is_utf8-from_IsUtf8 text is))
-
 front_is_read : (texts : List (List ℕ)) (count n : ℕ) (left : List (List ℕ)) → AreTexts texts → texts_from (length texts + count) n (texts ++ left) ≡ in_front texts (texts_from count (n + length texts) left)
+unfolding first_text
 front_is_read [] count n left are =
     let none : 0 + count ≡ count = omega arith in let same : n ≡ n + 0 = omega arith in
     ap (λ k. texts_from k n left) none ∙ ap (λ m. texts_from count m left) same ∙ sym (in_front_none (texts_from count (n + 0) left))
 front_is_read (text ∷ texts) count n left are =
     let more : length (text ∷ texts) + count ≡ suc (length texts + count) = omega arith in let same : (n + 1) + length texts ≡ n + length (text ∷ texts) = omega arith in
-    ap (λ k. texts_from k n (text ∷ texts ++ left)) more ∙ text_is_read text (length texts + count) n (texts ++ left) are.0
+    let rest : Result Texts FileFault = texts_from (length texts + count) (n + 1) (texts ++ left) in
+    ap (λ k. texts_from k n (text ∷ texts ++ left)) more
+    ∙ ap (λ r. r >>= λ t. in_front (t ∷ []) rest) (cond-true (is_utf8 text) (Ok text) (Err (record { line = n; kind = BadText })) (is_utf8-from_IsUtf8 text are.0))
     ∙ ap (in_front (text ∷ [])) (front_is_read texts count (n + 1) left are.1)
     ∙ in_front_twice (text ∷ []) texts (texts_from count ((n + 1) + length texts) left) ∙ ap (λ m. in_front (text ∷ texts) (texts_from count m left)) same
 
@@ -150,23 +149,19 @@ program_lines version line origin is texts are number lines body h = record {
   terminal = h.terminal;
 }
 
+leads_behind : (version : Version) (line : List ℕ) (origin : Origin) → IsLineOf origins line origin → (texts : List (List ℕ)) → AreTexts texts → length texts ≡ text_count origin → (front : List (List ℕ)) (place : Place) → LeadsInBody (from_origin version origin) front place → LeadsTo (head version line (texts ++ front)) place
+leads_behind version line origin is texts are number front (BodyPlace next) h = record { version = version; origin_line = line; source = origin; lines_read = texts; stage_lines = front; steps = h.0; whole = refl; origin = is; texts = are; number = number; stages = h.1; comes = h.2 }
+leads_behind version line origin is texts are number front EndPlace h = (made origin texts h.0, program_lines version line origin is texts are number front h.0 h.1)
+leads_behind version line origin is texts are number front place h = absurd h
+
 after_texts : (version : Version) (line : List ℕ) (origin : Origin) → IsLineOf origins line origin → (texts : List (List ℕ)) → AreTexts texts → length texts ≡ text_count origin → (lines : List (List ℕ)) (r : Result Body FileFault) → AnswersBody (from_origin version origin) (3 + length texts) lines r → AnswersLines (head version line (texts ++ lines)) (r >>= λ body. Ok (made origin texts body))
 after_texts version line origin is texts are number lines (Ok body) h = program_lines version line origin is texts are number lines body h
-after_texts version line origin is texts are number lines (Err fault) (inl h) = record {
+after_texts version line origin is texts are number lines (Err fault) h = record {
   before = head version line (texts ++ h.front);
   left = h.left;
-  place = BodyPlace (after_stages (from_origin version origin) h.steps);
+  place = h.place;
   whole = ap (λ l. head version line (texts ++ l)) h.whole ∙ ap (head version line) (sym (append_assoc texts h.front h.left));
-  leads = record { version = version; origin_line = line; source = origin; lines_read = texts; stage_lines = h.front; steps = h.steps; whole = refl; origin = is; texts = are; number = number; stages = h.stages; comes = refl };
-  line = omega (arith, h.line, length-append texts h.front);
-  here = h.here;
-}
-after_texts version line origin is texts are number lines (Err fault) (inr h) = record {
-  before = head version line (texts ++ h.front);
-  left = h.left;
-  place = EndPlace;
-  whole = ap (λ l. head version line (texts ++ l)) h.whole ∙ ap (head version line) (sym (append_assoc texts h.front h.left));
-  leads = (made origin texts h.body, program_lines version line origin is texts are number h.front h.body h.is);
+  leads = leads_behind version line origin is texts are number h.front h.place h.leads;
   line = omega (arith, h.line, length-append texts h.front);
   here = h.here;
 }

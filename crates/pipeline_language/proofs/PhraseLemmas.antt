@@ -185,19 +185,7 @@ made_twice first make (Ok b) = refl
 -- Things by the names of what they are made of.
 module _ {A X : Type 0} {follow : List Slot → Type 0} {ka : A → Bool} {known : X → Bool} {sa : A → List Slot} {slots : X → List Slot} (make : A → X) (form : (a : A) → slots (make a) ≡ sa a) (keeps : (a : A) → ka a ≡ true → known (make a) ≡ true) where
   abbrev made_lead : {word : List ℕ} {read : Reader A} → Lead follow ka sa word read → Lead follow known slots word (λ left. read left >>= λ a. Ok (make a.0, a.1))
-  made_lead (To row) = To (record {
-    Behind = row.Behind;
-    all = row.all;
-    rest = row.rest;
-    reads_rest = row.reads_rest;
-    slot = row.slot;
-    fits = row.fits;
-    phrase = row.phrase;
-    make = λ b. make (row.make b);
-    form = λ b. form (row.make b) ∙ row.form b;
-    keeps = λ b k. keeps (row.make b) (row.keeps b k);
-    reads = λ left. ap (λ r. r >>= λ a. Ok (make a.0, a.1)) (row.reads left) ∙ made_twice row.make make (row.reads_rest left);
-  })
+  made_lead (To row) = To (record { Behind = row.Behind; all = row.all; rest = row.rest; reads_rest = row.reads_rest; make = λ b. make (row.make b); slot = row.slot; fits = row.fits; form = λ b. form (row.make b) ∙ row.form b; keeps = λ b k. keeps (row.make b) (row.keeps b k); phrase = row.phrase; reads = λ left. ap (λ r. r >>= λ a. Ok (make a.0, a.1)) (row.reads left) ∙ made_twice row.make make (row.reads_rest left) })
   made_lead (Nowhere none) = Nowhere (λ left. ap (λ r. r >>= λ a. Ok (make a.0, a.1)) (none left))
 
   abbrev pub made_of_leads : {names : ByName A} → Leads follow ka sa names → Leads follow known slots (made_of make names)

@@ -31,23 +31,16 @@ divisor_here = number_phrase (pos 1) highest (le_z_yes tt) (le_z_yes tt)
 natural_here : Phrase Anything all_known (λ n. natural n ∷ []) (next_natural highest)
 natural_here = natural_phrase highest (le_z_yes tt)
 
-a_thousand : Phrase Anything all_known (λ n. Number (pos 0) (pos 1000) (pos n) ∷ []) (next_natural (pos 1000))
-a_thousand = natural_phrase (pos 1000) (le_z_yes tt)
-
-a_million : Phrase Anything all_known (λ n. Number (pos 0) (pos 1000000) (pos n) ∷ []) (next_natural (pos 1000000))
-a_million = natural_phrase (pos 1000000) (le_z_yes tt)
-
-alone : Phrase Anything all_known (λ (x : Unit {0}). []) nothing
-alone = nothing_phrase
+-- For each thing: where its names lead, and that each of its forms is read. A last clause stands for every form that those above it leave, one by one.
 
 -- MAP
 abbrev function_leads : Leads Anything all_known function_slots function_names
 function_leads = name_lead (codes "add") Add (λ _. refl) (λ _ _. refl) number_here
     (name_lead (codes "mul") Mul (λ _. refl) (λ _ _. refl) number_here
-    (name_lead (codes "negate") (λ _. Negate) (λ _. refl) (λ _ _. refl) alone
+    (name_lead (codes "negate") (λ _. Negate) (λ _. refl) (λ _ _. refl) nothing_phrase
     (name_lead (codes "mod") Mod (λ _. refl) (λ _ _. refl) divisor_here
-    (name_lead (codes "length") (λ _. Length) (λ _. refl) (λ _ _. refl) alone
-    (name_lead (codes "self") (λ _. Itself) (λ _. refl) (λ _ _. refl) alone
+    (name_lead (codes "length") (λ _. Length) (λ _. refl) (λ _ _. refl) nothing_phrase
+    (name_lead (codes "self") (λ _. Itself) (λ _. refl) (λ _ _. refl) nothing_phrase
     no_leads)))))
 
 function_knows : (x : Function) → Knows Anything (by_name function_names) (function_slots x) x
@@ -64,7 +57,7 @@ condition_leads = name_lead (codes "less") Less (λ _. refl) (λ _ _. refl) numb
     (name_lead (codes "greater") Greater (λ _. refl) (λ _ _. refl) number_here
     (name_lead (codes "equals") Equals (λ _. refl) (λ _ _. refl) number_here
     (name_lead (codes "divisible") Divisible (λ _. refl) (λ _ _. refl) divisor_here
-    (name_lead (codes "empty") (λ _. Empty) (λ _. refl) (λ _ _. refl) alone
+    (name_lead (codes "empty") (λ _. Empty) (λ _. refl) (λ _ _. refl) nothing_phrase
     (name_lead (codes "starts") Starts (λ _. refl) (λ _ _. refl) word_phrase
     (name_lead (codes "longer") Longer (λ _. refl) (λ _ _. refl) natural_here
     no_leads))))))
@@ -80,12 +73,12 @@ condition_phrase = by_name_phrase condition_leads Empty refl (λ x _. condition_
 -- BASE
 abbrev base_leads : Leads Anything all_known base_slots base_names
 unfolding base_names
-base_leads = either_lead (codes "count") (codes "counting") (λ _. bases.Count) (λ _. refl) (λ _ _. refl) alone
-    (name_lead (codes "sum") (λ _. (bases.Own (OfNumbers only.Sum))) (λ _. refl) (λ _ _. refl) alone
-    (name_lead (codes "max") (λ _. (bases.Own (OfNumbers only.Max))) (λ _. refl) (λ _ _. refl) alone
-    (name_lead (codes "min") (λ _. (bases.Own (OfNumbers only.Min))) (λ _. refl) (λ _ _. refl) alone
-    (name_lead (codes "first") (λ _. bases.First) (λ _. refl) (λ _ _. refl) alone
-    (name_lead (codes "tolist") (λ _. bases.ToList) (λ _. refl) (λ _ _. refl) alone
+base_leads = either_lead (codes "count") (codes "counting") (λ _. bases.Count) (λ _. refl) (λ _ _. refl) nothing_phrase
+    (name_lead (codes "sum") (λ _. (bases.Own (OfNumbers only.Sum))) (λ _. refl) (λ _ _. refl) nothing_phrase
+    (name_lead (codes "max") (λ _. (bases.Own (OfNumbers only.Max))) (λ _. refl) (λ _ _. refl) nothing_phrase
+    (name_lead (codes "min") (λ _. (bases.Own (OfNumbers only.Min))) (λ _. refl) (λ _ _. refl) nothing_phrase
+    (name_lead (codes "first") (λ _. bases.First) (λ _. refl) (λ _ _. refl) nothing_phrase
+    (name_lead (codes "tolist") (λ _. bases.ToList) (λ _. refl) (λ _ _. refl) nothing_phrase
     (name_lead (codes "joining") (λ t. bases.Own (OfTexts t)) (λ _. refl) (λ _ _. refl) word_phrase
     no_leads))))))
 
@@ -141,11 +134,11 @@ summary_phrase version = by_name_phrase (summary_leads version) (summaries.Base 
 
 -- MERGE
 abbrev merge_leads : Leads Anything all_known merge_slots merge_names
-merge_leads = name_lead (codes "first") (λ _. merges.First) (λ _. refl) (λ _ _. refl) alone
-    (name_lead (codes "last") (λ _. merges.Last) (λ _. refl) (λ _ _. refl) alone
-    (name_lead (codes "sum") (λ _. merges.Sum) (λ _. refl) (λ _ _. refl) alone
-    (name_lead (codes "max") (λ _. merges.Max) (λ _. refl) (λ _ _. refl) alone
-    (name_lead (codes "min") (λ _. merges.Min) (λ _. refl) (λ _ _. refl) alone
+merge_leads = name_lead (codes "first") (λ _. merges.First) (λ _. refl) (λ _ _. refl) nothing_phrase
+    (name_lead (codes "last") (λ _. merges.Last) (λ _. refl) (λ _ _. refl) nothing_phrase
+    (name_lead (codes "sum") (λ _. merges.Sum) (λ _. refl) (λ _ _. refl) nothing_phrase
+    (name_lead (codes "max") (λ _. merges.Max) (λ _. refl) (λ _ _. refl) nothing_phrase
+    (name_lead (codes "min") (λ _. merges.Min) (λ _. refl) (λ _ _. refl) nothing_phrase
     no_leads))))
 
 merge_knows : (x : Merge) → Knows Anything (by_name merge_names) (merge_slots x) x
@@ -158,8 +151,8 @@ merge_phrase = by_name_phrase merge_leads merges.Sum refl (λ x _. merge_knows x
 
 -- what `flatmap` puts in an item's place
 abbrev expansion_leads : Leads Anything all_known expansion_slots expansion_names
-expansion_leads = name_lead (codes "repeat") Repeat (λ _. refl) (λ _ _. refl) a_thousand
-    (name_lead (codes "words") (λ _. Words) (λ _. refl) (λ _ _. refl) alone
+expansion_leads = name_lead (codes "repeat") Repeat (λ _. refl) (λ _ _. refl) (natural_phrase (pos 1000) (le_z_yes tt))
+    (name_lead (codes "words") (λ _. Words) (λ _. refl) (λ _ _. refl) nothing_phrase
     no_leads)
 
 expansion_knows : (x : Expansion) → Knows Anything (by_name expansion_names) (expansion_slots x) x
@@ -178,13 +171,13 @@ new_terminal_leads Two = name_lead (codes "tomapstrict") (λ p. ToMapStrict p.0 
 
 abbrev terminal_leads : (version : Version) → Leads AtEnd (terminal_known version) terminal_slots (terminal_names version)
 unfolding terminal_names collecting_names
-terminal_leads version = name_lead (codes "sum") (λ _. Own (OfNumbers totals.Sum)) (λ _. refl) (λ _ _. refl) (at_end alone)
-    (name_lead (codes "product") (λ _. Own (OfNumbers totals.Product)) (λ _. refl) (λ _ _. refl) (at_end alone)
-    (name_lead (codes "max") (λ _. Own (OfNumbers totals.Max)) (λ _. refl) (λ _ _. refl) (at_end alone)
-    (name_lead (codes "min") (λ _. Own (OfNumbers totals.Min)) (λ _. refl) (λ _ _. refl) (at_end alone)
-    (name_lead (codes "count") (λ _. Count) (λ _. refl) (λ _ _. refl) (at_end alone)
-    (name_lead (codes "findfirst") (λ _. FindFirst) (λ _. refl) (λ _ _. refl) (at_end alone)
-    (name_lead (codes "tolist") (λ _. ToList) (λ _. refl) (λ _ _. refl) (at_end alone)
+terminal_leads version = name_lead (codes "sum") (λ _. Own (OfNumbers totals.Sum)) (λ _. refl) (λ _ _. refl) (at_end nothing_phrase)
+    (name_lead (codes "product") (λ _. Own (OfNumbers totals.Product)) (λ _. refl) (λ _ _. refl) (at_end nothing_phrase)
+    (name_lead (codes "max") (λ _. Own (OfNumbers totals.Max)) (λ _. refl) (λ _ _. refl) (at_end nothing_phrase)
+    (name_lead (codes "min") (λ _. Own (OfNumbers totals.Min)) (λ _. refl) (λ _ _. refl) (at_end nothing_phrase)
+    (name_lead (codes "count") (λ _. Count) (λ _. refl) (λ _ _. refl) (at_end nothing_phrase)
+    (name_lead (codes "findfirst") (λ _. FindFirst) (λ _. refl) (λ _ _. refl) (at_end nothing_phrase)
+    (name_lead (codes "tolist") (λ _. ToList) (λ _. refl) (λ _ _. refl) (at_end nothing_phrase)
     (name_lead (codes "allmatch") AllMatch (λ _. refl) (λ _ _. refl) (at_end condition_phrase)
     (name_lead (codes "anymatch") AnyMatch (λ _. refl) (λ _ _. refl) (at_end condition_phrase)
     (name_lead (codes "nonematch") NoneMatch (λ _. refl) (λ _ _. refl) (at_end condition_phrase)
@@ -201,7 +194,7 @@ unfolding terminal_names collecting_names
 body_leads version = name_lead (codes "map") (λ f. body_lines.Stage (Map f)) (λ _. refl) (λ _ _. refl) (at_end function_phrase)
     (name_lead (codes "filter") (λ p. body_lines.Stage (Filter p)) (λ _. refl) (λ _ _. refl) (at_end condition_phrase)
     (name_lead (codes "flatmap") (λ e. body_lines.Stage (FlatMap e)) (λ _. refl) (λ _ _. refl) (at_end expansion_phrase)
-    (name_lead (codes "distinct") (λ _. body_lines.Stage (Barrier Distinct)) (λ _. refl) (λ _ _. refl) (at_end alone)
+    (name_lead (codes "distinct") (λ _. body_lines.Stage (Barrier Distinct)) (λ _. refl) (λ _ _. refl) (at_end nothing_phrase)
     (name_lead (codes "limit") (λ n. body_lines.Stage (Barrier (Limit n))) (λ _. refl) (λ _ _. refl) (at_end natural_here)
     (name_lead (codes "skip") (λ n. body_lines.Stage (Barrier (Skip n))) (λ _. refl) (λ _ _. refl) (at_end natural_here)
     (name_lead (codes "takewhile") (λ p. body_lines.Stage (Barrier (TakeWhile p))) (λ _. refl) (λ _ _. refl) (at_end condition_phrase)
@@ -230,7 +223,7 @@ abbrev origin_leads : Leads AtEnd all_known origin_slots origin_names
 origin_leads = name_lead (codes "range") (λ p. Range p.0 p.1) (λ _. refl) (λ _ _. refl) (at_end (both_phrase number_here number_here))
     (name_lead (codes "closed") (λ p. Closed p.0 p.1) (λ _. refl) (λ _ _. refl) (at_end (both_phrase number_here number_here))
     (name_lead (codes "numbers") Numbers (λ _. refl) (λ _ _. refl) all_numbers_phrase
-    (name_lead (codes "lines") Lines (λ _. refl) (λ _ _. refl) (at_end a_million)
+    (name_lead (codes "lines") Lines (λ _. refl) (λ _ _. refl) (at_end (natural_phrase (pos 1000000) (le_z_yes tt)))
     no_leads)))
 
 origin_knows : (x : Origin) → Knows AtEnd (by_name origin_names) (origin_slots x) x
