@@ -6,7 +6,6 @@ use Rattle.pipeline_language.specs.declared.line.Source.{Source}
 use Rattle.pipeline_language.specs.declared.line.Source.TheVariants as sources
 use Rattle.pipeline_language.specs.Content.{number_origin, number_stage, number_terminal, text_stage, text_terminal}
 use Rattle.pipeline_language.specs.declared.grammar.Line.TheVariants as body_lines
-use Rattle.pipeline_language.specs.declared.grammar.Line.{Line}
 use Rattle.pipeline_language.specs.Grammar as grammar
 use Rattle.pipeline_language.specs.Typed.{NumberStage, NumberTerminal}
 use Rattle.pipeline_language.specs.Syntax.{Function, Itself, Length, Map, Merge, Origin, Lines, TextKind, BodyLine, function_takes, merge_takes, value_kind}
@@ -17,7 +16,7 @@ Takes content takes thing (Some x) = (content x ≡ thing) × (takes thing ≡ t
 Takes content takes thing None = takes thing ≡ false
 
 abbrev pub NumberLine : Type 0
-NumberLine = Line NumberStage NumberTerminal
+NumberLine = grammar.Line NumberStage NumberTerminal
 
 abbrev pub number_line_content : NumberLine → BodyLine
 number_line_content line = grammar.line number_stage number_terminal line

@@ -5,64 +5,44 @@ use Rattle.pipeline_language.specs.declared.version.Version.{Version}
 use Rattle.pipeline_language.specs.declared.version.Version.TheVariants.{One, Two}
 use Rattle.pipeline_language.specs.Steps.{steps_up}
 use Rattle.pipeline_language.specs.Form.{Slot, Name, EitherName, Number, AnyWord, number, natural, divisor, Forms, all_known}
-pub use Rattle.pipeline_language.specs.declared.grammar.Barrier.TheVariants.{Distinct, Limit, Skip, TakeWhile, DropWhile}
+use Rattle.pipeline_language.specs.Grammar as grammar
+pub use Rattle.pipeline_language.specs.Grammar.{Distinct, Limit, Skip, TakeWhile, DropWhile, Less, Greater, Equals, Divisible, Empty, Starts, Longer, Expansion, Repeat, Words, Function, Add, Mul, Negate, Mod, Length, Itself, Plain, Within, Merge, OfNumbers, OfTexts, Map, Filter, FlatMap, Barrier, Count, FindFirst, ToList, AllMatch, AnyMatch, NoneMatch, GroupBy, Partition, ToMap, ToMapStrict, Teeing, Own}
 use Rattle.pipeline_language.specs.declared.grammar.Base.TheVariants as bases
-pub use Rattle.pipeline_language.specs.declared.grammar.Condition.TheVariants.{Less, Greater, Equals, Divisible, Empty, Starts, Longer}
-pub use Rattle.pipeline_language.specs.declared.grammar.Expansion.{Expansion}
-pub use Rattle.pipeline_language.specs.declared.grammar.Expansion.TheVariants.{Repeat, Words}
-pub use Rattle.pipeline_language.specs.declared.grammar.Function.{Function}
-pub use Rattle.pipeline_language.specs.declared.grammar.Function.TheVariants.{Add, Mul, Negate, Mod, Length, Itself}
 use Rattle.pipeline_language.specs.declared.grammar.Inner.TheVariants as inners
-pub use Rattle.pipeline_language.specs.declared.grammar.Joint.TheVariants.{Plain, Within}
 use Rattle.pipeline_language.specs.declared.grammar.Line.TheVariants as body_lines
-pub use Rattle.pipeline_language.specs.declared.grammar.Merge.{Merge}
 use Rattle.pipeline_language.specs.declared.grammar.Merge.TheVariants as merges
 use Rattle.pipeline_language.specs.declared.grammar.NumberOnly.TheVariants as only
 use Rattle.pipeline_language.specs.declared.grammar.NumberTotal.TheVariants as totals
-pub use Rattle.pipeline_language.specs.declared.grammar.OfKind.TheVariants.{OfNumbers, OfTexts}
-pub use Rattle.pipeline_language.specs.declared.grammar.Stage.TheVariants.{Map, Filter, FlatMap, Barrier}
 use Rattle.pipeline_language.specs.declared.grammar.Summary.TheVariants as summaries
-pub use Rattle.pipeline_language.specs.declared.grammar.Terminal.TheVariants.{Count, FindFirst, ToList, AllMatch, AnyMatch, NoneMatch, GroupBy, Partition, ToMap, ToMapStrict, Teeing, Own}
 use Rattle.pipeline_language.specs.declared.grammar.Barrier as barrier_types
-use Rattle.pipeline_language.specs.declared.grammar.Base as base_types
-use Rattle.pipeline_language.specs.declared.grammar.Condition as condition_types
-use Rattle.pipeline_language.specs.declared.grammar.Inner as inner_types
-use Rattle.pipeline_language.specs.declared.grammar.Joint as joint_types
-use Rattle.pipeline_language.specs.declared.grammar.Line as line_types
-use Rattle.pipeline_language.specs.declared.grammar.NumberOnly.{NumberOnly}
-use Rattle.pipeline_language.specs.declared.grammar.NumberTotal.{NumberTotal}
-use Rattle.pipeline_language.specs.declared.grammar.OfKind.{OfKind}
-use Rattle.pipeline_language.specs.declared.grammar.Stage as stage_types
-use Rattle.pipeline_language.specs.declared.grammar.Summary as summary_types
-use Rattle.pipeline_language.specs.declared.grammar.Terminal as terminal_types
 
 -- The things of a line are those that are read, and a text in them stands by its bytes.
 abbrev pub Condition : Type 0
-Condition = condition_types.Condition (List ℕ)
+Condition = grammar.Condition (List ℕ)
 
 -- what is made of items at once
 abbrev pub Base : Type 0
-Base = base_types.Base (OfKind NumberOnly (List ℕ))
+Base = grammar.Base (grammar.OfKind grammar.NumberOnly (List ℕ))
 
 -- what is made of them inside another collector
 abbrev pub Inner : Type 0
-Inner = inner_types.Inner (Function × Base) Condition Base
+Inner = grammar.Inner (Function × Base) Condition Base
 
 -- what is made of them
 abbrev pub Summary : Type 0
-Summary = summary_types.Summary Function (Function × Inner) Condition Base Inner
+Summary = grammar.Summary Function (Function × Inner) Condition Base Inner
 
 abbrev pub Barring : Type 0
 Barring = barrier_types.Barrier Condition
 
 abbrev pub Stage : Type 0
-Stage = stage_types.Stage Function Condition Expansion
+Stage = grammar.Stage Function Condition Expansion
 
 abbrev pub Joint : Type 0
-Joint = joint_types.Joint (List ℕ)
+Joint = grammar.Joint (List ℕ)
 
 abbrev pub Terminal : Type 0
-Terminal = terminal_types.Terminal Function Condition Summary (Function × Merge) (OfKind NumberTotal Joint)
+Terminal = grammar.Terminal Function Condition Summary (Function × Merge) (grammar.OfKind grammar.NumberTotal Joint)
 
 pub data Origin : Type 0 where
   Range : ℤ → ℤ → Origin
@@ -233,7 +213,7 @@ condition_takes kind (Longer n) = is_text kind
 condition_takes kind p = is_number kind
 
 -- what stands for one kind alone
-abbrev pub own_takes : {N T : Type 0} → Kind → OfKind N T → Bool
+abbrev pub own_takes : {N T : Type 0} → Kind → grammar.OfKind N T → Bool
 own_takes kind (OfNumbers x) = is_number kind
 own_takes kind (OfTexts x) = is_text kind
 
@@ -292,7 +272,7 @@ terminal_takes kind terminal = true
 
 -- A line of the body is a stage or the terminal: the names of both stand at its first place.
 abbrev pub BodyLine : Type 0
-BodyLine = line_types.Line Stage Terminal
+BodyLine = grammar.Line Stage Terminal
 
 abbrev pub body_slots : BodyLine → List Slot
 body_slots (body_lines.Stage stage) = stage_slots stage
