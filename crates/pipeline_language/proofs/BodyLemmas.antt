@@ -1,11 +1,11 @@
 -- The stage lines and the terminal line: what reading answers is what they are.
-use Rattle.std.proofs.Common.{◌≡◌, ◌⊎◌, ℕ, ◌+◌, List, [], ◌∷◌, ◌++◌, length, drop, Result, Ok, Err, refl, sym, ap, ◌∙◌, inl, inr, arith}
+use Rattle.std.proofs.Common.{◌≡◌, ℕ, ◌+◌, List, [], ◌∷◌, ◌++◌, length, drop, Result, Ok, Err, refl, sym, ap, ◌∙◌, inl, inr, arith}
 use Rattle.std.specs.Str.{is_utf8}
 use Rattle.std.proofs.lemmas.Bool.{cond_both, cond-true, cond-false, false_from_ne_true}
 use Rattle.std.proofs.lemmas.List.{append-nil, append_assoc, length-append}
 use Rattle.std.proofs.lemmas.Str.{is_utf8-from_IsUtf8, IsUtf8-from_is_utf8}
 use Rattle.file_words.specs.declared.fault.FileError.{FileError}
-use Rattle.file_words.specs.declared.fault.FileError.TheVariants.{BadText, MissingTerminal, AfterTerminal}
+use Rattle.file_words.specs.declared.fault.FileError.TheVariants.{BadText, AfterTerminal}
 use Rattle.file_words.specs.declared.fault.FileFault.{FileFault}
 use Rattle.pipeline_language.specs.Content.{Body}
 use Rattle.pipeline_language.specs.Form.{IsLineOf}

@@ -4,7 +4,7 @@ use Rattle.file_words.specs.declared.fault.FileError.{FileError}
 use Rattle.file_words.specs.declared.fault.FileError.TheVariants.{UnknownWord, BadArity, BadNumber, WrongKind}
 use Rattle.std.specs.Prelude.{true}
 use Rattle.file_words.specs.Words.{words_of}
-use Rattle.pipeline_language.specs.Form.{Slot, Name, EitherName, Number, AnyWord, NameFits, WordFits, NamesFit, WordsFit, Forms, AreWordsOf, IsLineOf, Tests, NoTest, Test, FirstFault, tests, WordsFault, LineFault}
+use Rattle.pipeline_language.specs.Form.{Slot, Name, EitherName, NameFits, WordFits, NamesFit, WordsFit, Forms, AreWordsOf, IsLineOf, Tests, NoTest, Test, FirstFault, tests, WordsFault, LineFault}
 
 -- a word that fits its place has the place's name
 pub name_of_word : (slot : Slot) (word : List ℕ) → WordFits slot word → NameFits slot word

@@ -1,6 +1,5 @@
 -- Words that may be any.
-use Rattle.std.proofs.Common.{◌≡◌, ℕ, Bool, List, [], ◌∷◌, ◌++◌, length, Result, Ok, refl, sym, ap, subst, ◌∙◌, inr, arith}
-use Rattle.std.proofs.lemmas.List.{append-nil}
+use Rattle.std.proofs.Common.{◌≡◌, ℕ, Bool, List, [], ◌∷◌, ◌++◌, length, Result, Ok, refl, ap, ◌∙◌, inr, arith}
 use Rattle.file_words.specs.declared.fault.FileError.{FileError}
 use Rattle.pipeline_language.specs.Form.{Slot, AnyWord, NamesFit, WordsFit, all_known}
 use Rattle.pipeline_language.specs.Syntax.{Plain, Within, Joint, joint_slots}

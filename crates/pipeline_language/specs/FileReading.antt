@@ -19,7 +19,7 @@ use Rattle.file_words.specs.Words.{lines_of}
 use Rattle.pipeline_language.specs.declared.grammar.Line.TheVariants as body_lines
 use Rattle.pipeline_language.specs.Syntax.{Origin, origins, text_count, Stage, BodyLine, NumberKind, TextKind, Coming, comes, after_stage, bodies, Program}
 use Rattle.pipeline_language.specs.Language.{most_bytes, first_line, from_origin, Means, HasFault}
-use Rattle.file_words.specs.WordReading.{◌>>=◌, Left}
+use Rattle.file_words.specs.WordReading.{◌>>=◌}
 use Rattle.pipeline_language.specs.Reading.{ReadAs, line_of}
 use Rattle.pipeline_language.specs.SyntaxReading.{body_of, origin_words}
 

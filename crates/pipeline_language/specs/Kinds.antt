@@ -8,7 +8,7 @@ use Rattle.pipeline_language.specs.Content.{number_origin, number_stage, number_
 use Rattle.pipeline_language.specs.declared.grammar.Line.TheVariants as body_lines
 use Rattle.pipeline_language.specs.Grammar as grammar
 use Rattle.pipeline_language.specs.Typed.{NumberStage, NumberTerminal}
-use Rattle.pipeline_language.specs.Syntax.{Function, Itself, Length, Map, Merge, Origin, Lines, TextKind, BodyLine, function_takes, merge_takes, value_kind}
+use Rattle.pipeline_language.specs.Syntax.{Function, Length, Map, Merge, Origin, Lines, TextKind, BodyLine, function_takes, merge_takes, value_kind}
 
 -- What is answered is the thing, where it takes the items, and else nothing.
 abbrev pub Takes : {X Y : Type 0} → (X → Y) → (Y → Bool) → Y → Option X → Type 0

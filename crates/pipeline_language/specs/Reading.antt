@@ -4,7 +4,7 @@ use Rattle.std.specs.Str.{is_utf8, bytes_eq}
 use Rattle.file_words.specs.declared.fault.FileError.{FileError}
 use Rattle.file_words.specs.declared.fault.FileError.TheVariants.{BadText, UnknownWord, WrongKind}
 use Rattle.file_words.specs.Words.{words_of}
-use Rattle.file_words.specs.WordReading.{◌>>=◌, Left, Reader, next_word, ended}
+use Rattle.file_words.specs.WordReading.{◌>>=◌, Reader, next_word, ended}
 use Rattle.pipeline_language.specs.Form.{Forms}
 
 -- nothing at all
