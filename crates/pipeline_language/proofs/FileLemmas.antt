@@ -326,19 +326,10 @@ some_reading file = by_answer (file_of file) (file_answer file)
     by_answer (Err fault) is = inr (fault, is)
 
 pub apart : (file : List ℕ) → HasMeaning file → IsFaulty file → ⊥
-apart file means has = clash (sym (means_is_read file means.0 means.1) ∙ fault_of_file_is_read file has.0 has.1)
-  where
-    clash : (let r : Result Program FileFault = Ok means.0 in r) ≡ Err has.0 → ⊥
-    clash e = cc
+apart file means has = cc (means_is_read file means.0 means.1, fault_of_file_is_read file has.0 has.1)
 
 pub one_meaning : (file : List ℕ) → AtMostOne (Means file)
-one_meaning file one other e f = same (sym (means_is_read file one e) ∙ means_is_read file other f)
-  where
-    same : (let r : Result Program FileFault = Ok one in r) ≡ Ok other → one ≡ other
-    same e = cc
+one_meaning file one other e f = cc (means_is_read file one e, means_is_read file other f)
 
 pub one_fault_of_file : (file : List ℕ) → AtMostOne (HasFault file)
-one_fault_of_file file one other e f = same (sym (fault_of_file_is_read file one e) ∙ fault_of_file_is_read file other f)
-  where
-    same : (let r : Result Program FileFault = Err one in r) ≡ Err other → one ≡ other
-    same e = cc
+one_fault_of_file file one other e f = cc (fault_of_file_is_read file one e, fault_of_file_is_read file other f)

@@ -24,12 +24,6 @@ abbrev pub AnswersLine : {X : Type 0} → Forms X → List ℕ → Result X File
 AnswersLine forms line (Ok x) = IsLineOf forms line x
 AnswersLine forms line (Err kind) = LineFault forms line kind
 
-unknown_is_not_arity : (kind : FileError) → kind ≡ UnknownWord → kind ≡ BadArity → ⊥
-unknown_is_not_arity kind e f = clash (sym e ∙ f)
-  where
-    clash : UnknownWord ≡ BadArity → ⊥
-    clash e = cc
-
 same_in_ok : {A : Type 0} (x y : A) → (let r : Result A FileError = Ok x in r) ≡ Ok y → x ≡ y
 same_in_ok x y e = cc
 
@@ -82,7 +76,7 @@ module _ {X : Type 0} (forms : Forms X) (read : Reader X) (phrase : Phrase AtEnd
   read_answer : (words : List (List ℕ)) (r : Result (X × Left) FileError) → read (record { words = words; good = true }) ≡ r → Found forms.known forms.slots words true r → AnswersWords forms words ((r >>= λ x. ended x.1.words x.1.good >>= λ _. Ok x.0) >>= fitting forms)
   read_answer words (Err kind) e (inl is) =
       subst (WordsFault forms words) (sym is)
-      (stops_at_names forms words (λ x known n. unknown_is_not_arity kind is (subst (Met [] (length (forms.slots x) ≡ length words)) e (met x known words n)).0))
+      (stops_at_names forms words (λ x known n. cc (is, (subst (Met [] (length (forms.slots x) ≡ length words)) e (met x known words n)).0)))
   read_answer words (Err kind) e (inr is) =
       subst (WordsFault forms words) (sym is.0)
       (stops_at_length forms words is.1.0 is.1.2 (names_from_end is.1.0 words (is.1.1 []))

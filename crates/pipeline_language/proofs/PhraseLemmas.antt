@@ -88,26 +88,20 @@ module _ {A B : Type 0} {ka : A → Bool} {kb : B → Bool} {sa : A → List Slo
   abbrev second : A × Left → Result ((A × B) × Left) FileError
   second a = rb a.1 >>= λ b. Ok ((a.0, b.0), b.1)
 
-  names_in : (a : A) (b : B) (more : List Slot) (words : List (List ℕ)) → NamesFit (sa a ++ (sb b ++ more)) words → NamesFit (pair_slots (a, b) ++ more) words
-  names_in a b more words n = subst (λ s. NamesFit s words) (sym (append_assoc (sa a) (sb b) more)) n
-
-  words_in : (a : A) (b : B) (more : List Slot) (words : List (List ℕ)) → WordsFit (sa a ++ (sb b ++ more)) words → WordsFit (pair_slots (a, b) ++ more) words
-  words_in a b more words n = subst (λ s. WordsFit s words) (sym (append_assoc (sa a) (sb b) more)) n
-
   second_found : (words : List (List ℕ)) (good : Bool) (a : A × Left) → Found ka sa words good (Ok a) → (r : Result (B × Left) FileError) → Found kb sb a.1.words a.1.good r → Found pair_known pair_slots words good (r >>= λ b. Ok ((a.0, b.0), b.1))
   second_found words good a f (Err kind) (inl e) = inl e
-  second_found words good a f (Err kind) (inr e) = inr (e.0, ((a.0, e.1.0), (λ more. names_in a.0 e.1.0 more words (f.1 (sb e.1.0 ++ more) (e.1.1 more))), and_from (ka a.0) (kb e.1.0) f.3 e.1.2))
+  second_found words good a f (Err kind) (inr e) = inr (e.0, ((a.0, e.1.0), (λ more. rw append_assoc (f.1 (sb e.1.0 ++ more) (e.1.1 more))), and_from (ka a.0) (kb e.1.0) f.3 e.1.2))
   second_found words good a f (Ok b) g = (
     omega (arith, f.0, g.0, length-append (sa a.0) (sb b.0)),
-    (λ more n. names_in a.0 b.0 more words (f.1 (sb b.0 ++ more) (g.1 more n))),
-    (λ t. let h = g.2 t in let k = f.2 h.0 in (k.0, λ more w. words_in a.0 b.0 more words (k.1 (sb b.0 ++ more) (h.1 more w)))),
+    (λ more n. rw append_assoc (f.1 (sb b.0 ++ more) (g.1 more n))),
+    (λ t. let h = g.2 t in let k = f.2 h.0 in (k.0, λ more w. rw append_assoc (k.1 (sb b.0 ++ more) (h.1 more w)))),
     and_from (ka a.0) (kb b.0) f.3 g.3,
   )
 
   first_found : (words : List (List ℕ)) (good : Bool) (r : Result (A × Left) FileError) → Found ka sa words good r → Found pair_known pair_slots words good (r >>= second)
   first_found words good (Err kind) (inl e) = inl e
   first_found words good (Err kind) (inr e) = let b = pb.some in
-      inr (e.0, ((e.1.0, b.0), (λ more. names_in e.1.0 b.0 more words (e.1.1 (sb b.0 ++ more))), and_from (ka e.1.0) (kb b.0) e.1.2 b.1))
+      inr (e.0, ((e.1.0, b.0), (λ more. rw append_assoc (e.1.1 (sb b.0 ++ more))), and_from (ka e.1.0) (kb b.0) e.1.2 b.1))
   first_found words good (Ok a) f = second_found words good a f (rb a.1) (pb.sound a.1.words a.1.good)
 
   first_met : (more : List Slot) (b : B) → kb b ≡ true → (enough : Type 0) (r : Result (A × Left) FileError) → Met (sb b ++ more) enough r → Met more enough (r >>= second)
