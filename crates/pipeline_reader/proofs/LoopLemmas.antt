@@ -1,8 +1,8 @@
 -- The loops over the lines of a file: what was read, and what is left.
-use Rattle.std.proofs.Common.{◌≡◌, ℕ, zero, suc, ◌+◌, ◌-◌, ◌<◌, Bool, true, false, List, [], ◌∷◌, ◌++◌, drop, map, Result, Ok, Err, refl, sym, ap, subst, ◌∙◌, arith}
+use Rattle.std.proofs.Common.{◌≡◌, ℕ, zero, suc, ◌+◌, ◌-◌, ◌<◌, true, List, [], ◌∷◌, ◌++◌, drop, map, Result, Ok, Err, refl, sym, ap, subst, ◌∙◌, arith}
 use Rattle.std.specs.Str.{is_utf8}
 use Rattle.std.proofs.lemmas.Bool.{cond-true}
-use Rattle.std.proofs.lemmas.List.{append-nil, append_assoc, map-append}
+use Rattle.std.proofs.lemmas.List.{map-append}
 use Rattle.file_words.specs.WordReading.{◌>>=◌}
 use Rattle.file_words.specs.declared.fault.FileError.TheVariants.{BadText, MissingTerminal}
 use Rattle.file_words.specs.declared.fault.FileFault.{FileFault}
@@ -18,7 +18,7 @@ use Rattle.pipeline_language.specs.Content.{Body, number_body, number_function, 
 use Rattle.pipeline_language.specs.declared.grammar.Line.TheVariants as body_lines
 use Rattle.pipeline_language.specs.declared.grammar.Function.TheVariants.{Length}
 use Rattle.pipeline_language.specs.declared.grammar.Stage.TheVariants.{Map}
-use Rattle.pipeline_language.specs.Syntax.{Stage, Terminal, BodyLine, Kind, NumberKind, TextKind, Coming, comes, kind_after, value_kind, after_stage}
+use Rattle.pipeline_language.specs.Syntax.{Stage, BodyLine, Kind, NumberKind, TextKind, Coming, comes, kind_after, value_kind, after_stage}
 use Rattle.pipeline_language.specs.FileReading.{Reads, Texts, texts_from, first_text, in_front, going_on, body_from, first_of}
 use Rattle.pipeline_language.proofs.BodyLemmas.{body_by_first, in_front_none, in_front_twice, in_front_of_none}
 
