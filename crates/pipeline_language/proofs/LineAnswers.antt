@@ -6,7 +6,7 @@ use Rattle.std.proofs.lemmas.Bool.{cond_both, cond-true, false≢true}
 use Rattle.std.proofs.lemmas.List.{append-nil}
 use Rattle.std.proofs.lemmas.Str.{is_utf8-from_IsUtf8, IsUtf8-from_is_utf8}
 use Rattle.file_words.specs.declared.fault.FileError.{FileError}
-use Rattle.file_words.specs.declared.fault.FileError.TheVariants.{BadText, UnknownWord, BadArity, WrongKind}
+use Rattle.file_words.specs.declared.fault.FileError.TheVariants.{BadText, WrongKind}
 use Rattle.file_words.specs.Words.{words_of}
 use Rattle.pipeline_language.specs.Form.{NamesFit, WordsFit, Forms, AreWordsOf, IsLineOf, WordsFault, LineFault}
 use Rattle.file_words.specs.WordReading.{◌>>=◌, Left, Reader, ended}
