@@ -1,5 +1,5 @@
 -- A file has one reading: what the reader answers is its meaning or its fault, and nothing else is.
-use Rattle.std.proofs.Common.{◌≡◌, ◌⊎◌, ℕ, zero, suc, ◌+◌, ◌<◌, ◌≤◌, true, false, List, [], ◌∷◌, ◌++◌, length, Result, Ok, Err, IfOk, IfErr, refl, sym, ap, subst, ◌∙◌, inl, inr, arith}
+use Rattle.std.proofs.Common.{◌≡◌, ◌⊎◌, ℕ, zero, suc, ◌+◌, ◌-◌, ◌<◌, ◌≤◌, true, false, List, [], ◌∷◌, ◌++◌, length, Result, Ok, Err, IfOk, IfErr, refl, sym, ap, subst, ◌∙◌, inl, inr, arith}
 use Rattle.std.specs.Prelude.{IsUtf8, nat_lt}
 use Rattle.std.specs.Str.{is_utf8, bytes_eq, chars}
 use Rattle.std.proofs.lemmas.Bool.{cond_both, cond-true, cond-false, le-ltb, lt-ltb, ltb-true, ltb-false, false≢true, false_from_ne_true}
@@ -18,14 +18,14 @@ use Rattle.file_words.specs.Words.{lines_of}
 use Rattle.pipeline_language.specs.Form.{IsLineOf}
 use Rattle.pipeline_language.specs.Syntax.{Origin, origins, text_count, Coming, bodies, Program}
 use Rattle.pipeline_language.specs.Content.{Body, program_of}
-use Rattle.pipeline_language.specs.Language.{first_line, VersionFault, Place, VersionPlace, SourcePlace, TextPlace, BodyPlace, EndPlace, LeadsTo, FaultOfNext, IsProgramOf, AreTexts, IsBeginningOfTexts, IsBeginningOf, IsFaultOfLines, from_origin, after_stages, Means, HasFault, most_bytes}
+use Rattle.pipeline_language.specs.Language.{first_line, VersionFault, Place, VersionPlace, SourcePlace, TextPlace, BodyPlace, EndPlace, LeadsTo, FaultOfNext, IsProgramOf, AreTexts, IsBeginningOfTexts, IsBeginningOf, IsFaultOfLines, from_origin, after_stages, Means, HasFault, AtMostOne, HasMeaning, IsFaulty, most_bytes}
 use Rattle.file_words.specs.WordReading.{◌>>=◌}
 use Rattle.pipeline_language.specs.Reading.{line_of}
 use Rattle.pipeline_language.specs.SyntaxReading.{body_of, origin_words}
-use Rattle.pipeline_language.specs.FileReading.{IfFault, Reads, Texts, with_texts, texts_from, from_texts, at_line, version_of, after_end, no_more, with_stages, body_from, from_source, program_from, file_of}
+use Rattle.pipeline_language.specs.FileReading.{IfFault, Reads, Texts, first_text, texts_from, from_texts, at_line, version_of, after_end, no_more, in_front, body_from, from_source, program_from, file_of}
 use Rattle.pipeline_language.proofs.LineAnswers.{AnswersLine, line_answer, line_is_read, fault_is_read, not_text}
 use Rattle.pipeline_language.proofs.SyntaxLemmas.{body_phrase, origin_phrase}
-use Rattle.pipeline_language.proofs.BodyLemmas.{AnswersBody, IsBodyOf, body_answer, body_is_read, stages_are_read, fault_is_told, end_fault_is}
+use Rattle.pipeline_language.proofs.BodyLemmas.{AnswersBody, IsBodyOf, LeadsInBody, body_answer, body_is_read, stages_are_read, line_first, end_fault_is, in_front_none, in_front_twice, in_front_of_none}
 
 -- what lines, and a file, have as their answer
 abbrev AnswersLines : List (List ℕ) → Result Program FileFault → Type 0
@@ -84,41 +84,49 @@ abbrev AnswersTexts : ℕ → ℕ → List (List ℕ) → Result Texts FileFault
 AnswersTexts count n lines (Ok texts) = (lines ≡ texts.0 ++ texts.1) × AreTexts texts.0 × (length texts.0 ≡ count)
 AnswersTexts count n lines (Err fault) = IsFaultOfTexts count n lines fault
 
-text_first : (count n : ℕ) (line : List ℕ) (lines : List (List ℕ)) → IsUtf8 line → (r : Result Texts FileFault) → AnswersTexts count (n + 1) lines r → AnswersTexts (suc count) n (line ∷ lines) (with_texts (line ∷ []) r)
+text_first : (count n : ℕ) (line : List ℕ) (lines : List (List ℕ)) → IsUtf8 line → (r : Result Texts FileFault) → AnswersTexts count (n + 1) lines r → AnswersTexts (suc count) n (line ∷ lines) (in_front (line ∷ []) r)
 text_first count n line lines is (Ok texts) h = (ap (λ l. line ∷ l) h.0, (is, h.1), omega (arith, h.2))
 text_first count n line lines is (Err fault) h = (line ∷ h.0, h.1, ap (λ l. line ∷ l) h.2, (is, h.3), omega (arith, h.4), omega (arith, h.5), h.6)
 
 texts_answer : (count n : ℕ) (lines : List (List ℕ)) → AnswersTexts count n lines (texts_from count n lines)
+unfolding first_text
 texts_answer zero n lines = (refl, tt, refl)
 texts_answer (suc count) n [] = ([], [], refl, tt, omega arith, omega arith, refl)
 texts_answer (suc count) n (line ∷ lines) =
-    cond_both (is_utf8 line) (with_texts (line ∷ []) (texts_from count (n + 1) lines)) (Err (record { line = n; kind = BadText })) (AnswersTexts (suc count) n (line ∷ lines))
+    cond_both (is_utf8 line) (Ok line) (Err (record { line = n; kind = BadText })) (λ r. AnswersTexts (suc count) n (line ∷ lines) (r >>= λ text. in_front (text ∷ []) (texts_from count (n + 1) lines)))
     (λ t. text_first count n line lines (IsUtf8-from_is_utf8 line t) (texts_from count (n + 1) lines) (texts_answer count (n + 1) lines))
     (λ t. ([], line ∷ lines, refl, tt, omega arith, omega arith, (not_text line t, refl)))
 
+-- texts that stand in front are read
+front_is_read : (texts : List (List ℕ)) (count n : ℕ) (left : List (List ℕ)) → AreTexts texts → texts_from (length texts + count) n (texts ++ left) ≡ in_front texts (texts_from count (n + length texts) left)
+unfolding first_text
+front_is_read [] count n left are =
+    let none : 0 + count ≡ count = omega arith in let same : n ≡ n + 0 = omega arith in
+    ap (λ k. texts_from k n left) none ∙ ap (λ m. texts_from count m left) same ∙ sym (in_front_none (texts_from count (n + 0) left))
+front_is_read (text ∷ texts) count n left are =
+    let more : length (text ∷ texts) + count ≡ suc (length texts + count) = omega arith in let same : (n + 1) + length texts ≡ n + length (text ∷ texts) = omega arith in
+    let rest : Result Texts FileFault = texts_from (length texts + count) (n + 1) (texts ++ left) in
+    ap (λ k. texts_from k n (text ∷ texts ++ left)) more
+    ∙ ap (λ r. r >>= λ t. in_front (t ∷ []) rest) (cond-true (is_utf8 text) (Ok text) (Err (record { line = n; kind = BadText })) (is_utf8-from_IsUtf8 text are.0))
+    ∙ ap (in_front (text ∷ [])) (front_is_read texts count (n + 1) left are.1)
+    ∙ in_front_twice (text ∷ []) texts (texts_from count ((n + 1) + length texts) left) ∙ ap (λ m. in_front (text ∷ texts) (texts_from count m left)) same
+
 texts_are_read : (texts : List (List ℕ)) (count n : ℕ) (left : List (List ℕ)) → AreTexts texts → length texts ≡ count → texts_from count n (texts ++ left) ≡ Ok (texts, left)
-texts_are_read [] zero n left are len = refl
-texts_are_read [] (suc count) n left are len = absurd (omega (arith, len))
-texts_are_read (text ∷ texts) zero n left are len = absurd (omega (arith, len))
-texts_are_read (text ∷ texts) (suc count) n left are len =
-    cond-true (is_utf8 text) (with_texts (text ∷ []) (texts_from count (n + 1) (texts ++ left))) (Err (record { line = n; kind = BadText })) (is_utf8-from_IsUtf8 text are.0)
-    ∙ ap (with_texts (text ∷ [])) (texts_are_read texts count (n + 1) left are.1 (omega (arith, len)))
+texts_are_read texts count n left are len =
+    let all : count ≡ length texts + 0 = omega (arith, len) in
+    ap (λ k. texts_from k n (texts ++ left)) all ∙ front_is_read texts 0 n left are ∙ in_front_of_none texts left
+
+no_text_is_read : (count n : ℕ) (left : List (List ℕ)) (kind : FileError) → FaultOfNext TextPlace left kind → texts_from (suc count) n left ≡ Err (record { line = n; kind = kind })
+unfolding first_text
+no_text_is_read count n [] kind here = ap (λ k. let r : Result Texts FileFault = Err (record { line = n; kind = k }) in r) (sym here)
+no_text_is_read count n (line ∷ left) kind here =
+    ap (λ r. r >>= λ t. in_front (t ∷ []) (texts_from count (n + 1) left)) (cond-false (is_utf8 line) (Ok line) (Err (record { line = n; kind = BadText })) (false_from_ne_true (is_utf8 line) (λ t. here.0 (IsUtf8-from_is_utf8 line t))))
+    ∙ ap (λ k. let r : Result Texts FileFault = Err (record { line = n; kind = k }) in r) (sym here.1)
 
 text_fault_is_told : (front : List (List ℕ)) (count n : ℕ) (left : List (List ℕ)) (kind : FileError) → AreTexts front → length front < count → FaultOfNext TextPlace left kind → texts_from count n (front ++ left) ≡ Err (record { line = n + length front; kind = kind })
-text_fault_is_told [] zero n left kind are less here = absurd (omega (arith, less))
-text_fault_is_told [] (suc count) n [] kind are less here =
-    let same : n ≡ n + 0 = omega arith in
-    ap (λ k. let r : Result Texts FileFault = Err (record { line = n; kind = k }) in r) (sym here) ∙ ap (λ m. let r : Result Texts FileFault = Err (record { line = m; kind = kind }) in r) same
-text_fault_is_told [] (suc count) n (line ∷ left) kind are less here =
-    let same : n ≡ n + 0 = omega arith in
-    cond-false (is_utf8 line) (with_texts (line ∷ []) (texts_from count (n + 1) left)) (Err (record { line = n; kind = BadText })) (false_from_ne_true (is_utf8 line) (λ t. here.0 (IsUtf8-from_is_utf8 line t)))
-    ∙ ap (λ k. let r : Result Texts FileFault = Err (record { line = n; kind = k }) in r) (sym here.1) ∙ ap (λ m. let r : Result Texts FileFault = Err (record { line = m; kind = kind }) in r) same
-text_fault_is_told (text ∷ front) zero n left kind are less here = absurd (omega (arith, less))
-text_fault_is_told (text ∷ front) (suc count) n left kind are less here =
-    let same : (n + 1) + length front ≡ n + length (text ∷ front) = omega arith in
-    cond-true (is_utf8 text) (with_texts (text ∷ []) (texts_from count (n + 1) (front ++ left))) (Err (record { line = n; kind = BadText })) (is_utf8-from_IsUtf8 text are.0)
-    ∙ ap (with_texts (text ∷ [])) (text_fault_is_told front count (n + 1) left kind are.1 (omega (arith, less)) here)
-    ∙ ap (λ m. let r : Result Texts FileFault = Err (record { line = m; kind = kind }) in r) same
+text_fault_is_told front count n left kind are less here =
+    let all : count ≡ length front + suc (count - (length front + 1)) = omega (arith, less) in
+    ap (λ k. texts_from k n (front ++ left)) all ∙ front_is_read front (suc (count - (length front + 1))) n left are ∙ ap (in_front front) (no_text_is_read (count - (length front + 1)) (n + length front) left kind here)
 
 -- the program of a source, its texts and a body
 abbrev made : Origin → List (List ℕ) → Body → Program
@@ -141,23 +149,19 @@ program_lines version line origin is texts are number lines body h = record {
   terminal = h.terminal;
 }
 
+leads_behind : (version : Version) (line : List ℕ) (origin : Origin) → IsLineOf origins line origin → (texts : List (List ℕ)) → AreTexts texts → length texts ≡ text_count origin → (front : List (List ℕ)) (place : Place) → LeadsInBody (from_origin version origin) front place → LeadsTo (head version line (texts ++ front)) place
+leads_behind version line origin is texts are number front (BodyPlace next) h = record { version = version; origin_line = line; source = origin; lines_read = texts; stage_lines = front; steps = h.0; whole = refl; origin = is; texts = are; number = number; stages = h.1; comes = h.2 }
+leads_behind version line origin is texts are number front EndPlace h = (made origin texts h.0, program_lines version line origin is texts are number front h.0 h.1)
+leads_behind version line origin is texts are number front place h = absurd h
+
 after_texts : (version : Version) (line : List ℕ) (origin : Origin) → IsLineOf origins line origin → (texts : List (List ℕ)) → AreTexts texts → length texts ≡ text_count origin → (lines : List (List ℕ)) (r : Result Body FileFault) → AnswersBody (from_origin version origin) (3 + length texts) lines r → AnswersLines (head version line (texts ++ lines)) (r >>= λ body. Ok (made origin texts body))
 after_texts version line origin is texts are number lines (Ok body) h = program_lines version line origin is texts are number lines body h
-after_texts version line origin is texts are number lines (Err fault) (inl h) = record {
+after_texts version line origin is texts are number lines (Err fault) h = record {
   before = head version line (texts ++ h.front);
   left = h.left;
-  place = BodyPlace (after_stages (from_origin version origin) h.steps);
+  place = h.place;
   whole = ap (λ l. head version line (texts ++ l)) h.whole ∙ ap (head version line) (sym (append_assoc texts h.front h.left));
-  leads = record { version = version; origin_line = line; source = origin; lines_read = texts; stage_lines = h.front; steps = h.steps; whole = refl; origin = is; texts = are; number = number; stages = h.stages; comes = refl };
-  line = omega (arith, h.line, length-append texts h.front);
-  here = h.here;
-}
-after_texts version line origin is texts are number lines (Err fault) (inr h) = record {
-  before = head version line (texts ++ h.front);
-  left = h.left;
-  place = EndPlace;
-  whole = ap (λ l. head version line (texts ++ l)) h.whole ∙ ap (head version line) (sym (append_assoc texts h.front h.left));
-  leads = (made origin texts h.body, program_lines version line origin is texts are number h.front h.body h.is);
+  leads = leads_behind version line origin is texts are number h.front h.place h.leads;
   line = omega (arith, h.line, length-append texts h.front);
   here = h.here;
 }
@@ -249,7 +253,7 @@ same_parts n kind fault line same = ap (λ m. let f : FileFault = record { line 
 left_fault : (coming : Coming) (n : ℕ) (left : List (List ℕ)) (fault : FileFault) → fault.line ≡ n → FaultOfNext (BodyPlace coming) left fault.kind → body_from coming n left ≡ Err fault
 left_fault coming n [] fault line here = ap Err (same_parts n MissingTerminal fault line here)
 left_fault coming n (first ∷ left) fault line here =
-    fault_is_told coming n first left fault.kind (fault_is_read (bodies coming) (body_of coming.version) (body_phrase coming.version) first fault.kind here) ∙ ap Err (same_parts n fault.kind fault line refl)
+    line_first coming n first left (Err fault.kind) (fault_is_read (bodies coming) (body_of coming.version) (body_phrase coming.version) first fault.kind here) ∙ ap Err (same_parts n fault.kind fault line refl)
 
 at_body : (before left : List (List ℕ)) (place : Coming) (fault : FileFault) → IsBeginningOf before place → fault.line ≡ length before + 1 → FaultOfNext (BodyPlace place) left fault.kind → program_from (before ++ left) ≡ Err fault
 at_body before left place fault is line here =
@@ -261,7 +265,7 @@ at_body before left place fault is line here =
     ∙ behind_texts is.version is.origin_line is.source is.origin is.lines_read is.texts is.number (is.stage_lines ++ left)
     ∙ ap (λ r. r >>= λ body. Ok (made is.source is.lines_read body))
     (stages_are_read is.stage_lines is.steps coming n left is.stages
-    ∙ ap (with_stages is.steps) (left_fault (after_stages coming is.steps) (n + length is.stage_lines) left fault number (subst (λ p. FaultOfNext (BodyPlace p) left fault.kind) is.comes here)))
+    ∙ ap (in_front is.steps) (left_fault (after_stages coming is.steps) (n + length is.stage_lines) left fault number (subst (λ p. FaultOfNext (BodyPlace p) left fault.kind) is.comes here)))
 
 at_text : (before left : List (List ℕ)) (fault : FileFault) → IsBeginningOfTexts before → fault.line ≡ length before + 1 → FaultOfNext TextPlace left fault.kind → program_from (before ++ left) ≡ Err fault
 at_text before left fault is line here =
@@ -314,27 +318,18 @@ reads_fault file (Err NoMemory) is = tt
 reads_fault file (Err (Fault fault)) is = subst (AnswersFile file) is (file_answer file)
 
 -- One reading, and no other.
-by_answer : (file : List ℕ) (r : Result Program FileFault) → AnswersFile file r → ((program : Program) × Means file program) ⊎ ((fault : FileFault) × HasFault file fault)
-by_answer file (Ok program) is = inl (program, is)
-by_answer file (Err fault) is = inr (fault, is)
+pub some_reading : (file : List ℕ) → HasMeaning file ⊎ IsFaulty file
+some_reading file = by_answer (file_of file) (file_answer file)
+  where
+    by_answer : (r : Result Program FileFault) → AnswersFile file r → HasMeaning file ⊎ IsFaulty file
+    by_answer (Ok program) is = inl (program, is)
+    by_answer (Err fault) is = inr (fault, is)
 
-pub some_reading : (file : List ℕ) → ((program : Program) × Means file program) ⊎ ((fault : FileFault) × HasFault file fault)
-some_reading file = by_answer file (file_of file) (file_answer file)
+pub apart : (file : List ℕ) → HasMeaning file → IsFaulty file → ⊥
+apart file means has = cc (means_is_read file means.0 means.1, fault_of_file_is_read file has.0 has.1)
 
-ok_or_err : (r : Result Program FileFault) (program : Program) (fault : FileFault) → r ≡ Ok program → r ≡ Err fault → ⊥
-ok_or_err r program fault e f = cc
+pub one_meaning : (file : List ℕ) → AtMostOne (Means file)
+one_meaning file one other e f = cc (means_is_read file one e, means_is_read file other f)
 
-same_ok : (r : Result Program FileFault) (one other : Program) → r ≡ Ok one → r ≡ Ok other → one ≡ other
-same_ok r one other e f = cc
-
-same_err : (r : Result Program FileFault) (one other : FileFault) → r ≡ Err one → r ≡ Err other → one ≡ other
-same_err r one other e f = cc
-
-pub apart : (file : List ℕ) (program : Program) (fault : FileFault) → Means file program → HasFault file fault → ⊥
-apart file program fault is has = ok_or_err (file_of file) program fault (means_is_read file program is) (fault_of_file_is_read file fault has)
-
-pub one_meaning : (file : List ℕ) (one other : Program) → Means file one → Means file other → one ≡ other
-one_meaning file one other e f = same_ok (file_of file) one other (means_is_read file one e) (means_is_read file other f)
-
-pub one_fault_of_file : (file : List ℕ) (one other : FileFault) → HasFault file one → HasFault file other → one ≡ other
-one_fault_of_file file one other e f = same_err (file_of file) one other (fault_of_file_is_read file one e) (fault_of_file_is_read file other f)
+pub one_fault_of_file : (file : List ℕ) → AtMostOne (HasFault file)
+one_fault_of_file file one other e f = cc (fault_of_file_is_read file one e, fault_of_file_is_read file other f)

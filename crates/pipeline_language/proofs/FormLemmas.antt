@@ -4,14 +4,13 @@ use Rattle.file_words.specs.declared.fault.FileError.{FileError}
 use Rattle.file_words.specs.declared.fault.FileError.TheVariants.{UnknownWord, BadArity, BadNumber, WrongKind}
 use Rattle.std.specs.Prelude.{true}
 use Rattle.file_words.specs.Words.{words_of}
-use Rattle.pipeline_language.specs.Form.{Slot, Name, EitherName, Number, AnyWord, NameFits, WordFits, NamesFit, WordsFit, Forms, AreWordsOf, IsLineOf, Tests, NoTest, Test, FirstFault, tests, WordsFault, LineFault}
+use Rattle.pipeline_language.specs.Form.{Slot, Name, EitherName, NameFits, WordFits, NamesFit, WordsFit, Forms, AreWordsOf, IsLineOf, Tests, NoTest, Test, FirstFault, tests, WordsFault, LineFault}
 
 -- a word that fits its place has the place's name
 pub name_of_word : (slot : Slot) (word : List ℕ) → WordFits slot word → NameFits slot word
 name_of_word (Name name) word fits = fits
 name_of_word (EitherName name other) word fits = fits
-name_of_word (Number low high n) word fits = tt
-name_of_word (AnyWord text) word fits = tt
+name_of_word slot word fits = tt
 
 pub names_of_words : (slots : List Slot) (words : List (List ℕ)) → WordsFit slots words → NamesFit slots words
 names_of_words [] [] fits = tt
@@ -59,31 +58,25 @@ one_line_fault forms line j k (inr f) (inr g) = one_fault (tests forms (words_of
 
 -- Where each test stops.
 module _ {X : Type 0} (forms : Forms X) (words : List (List ℕ)) where
-  -- the version knows x, whose names stand in their places
-  abbrev Named : X → Type 0
-  Named x = (forms.known x ≡ true) × NamesFit (forms.slots x) words
-
   pub stops_at_names : ((x : X) → forms.known x ≡ true → NamesFit (forms.slots x) words → ⊥) → WordsFault forms words UnknownWord
   stops_at_names none = inl (refl, λ x was test. none x test.0 test.1)
 
   pub stops_at_length : (x : X) → forms.known x ≡ true → NamesFit (forms.slots x) words → ((x : X) → forms.known x ≡ true → NamesFit (forms.slots x) words → length (forms.slots x) ≡ length words → ⊥) → WordsFault forms words BadArity
   stops_at_length x known fits none =
-      let names : Named x = (known, fits) in
-      inr ((x, tt, names), inl (refl, λ x was test. none x was.1.0 was.1.1 test))
+      inr ((x, tt, (known, fits)), inl (refl, λ x was test. none x was.1.0 was.1.1 test))
 
   pub stops_at_numbers : (x : X) → forms.known x ≡ true → NamesFit (forms.slots x) words → length (forms.slots x) ≡ length words → ((x : X) → forms.known x ≡ true → WordsFit (forms.slots x) words → ⊥) → WordsFault forms words BadNumber
   stops_at_numbers x known fits len none =
-      let names : Named x = (known, fits) in
-      inr ((x, tt, names), inr ((x, (tt, names), len), inl (refl, λ x was test. none x was.0.1.0 test)))
+      inr ((x, tt, (known, fits)), inr ((x, (tt, (known, fits)), len), inl (refl, λ x was test. none x was.0.1.0 test)))
 
   pub stops_at_kind : (x : X) → forms.known x ≡ true → WordsFit (forms.slots x) words → ((x : X) → forms.known x ≡ true → WordsFit (forms.slots x) words → forms.takes_kind x ≡ true → ⊥) → WordsFault forms words WrongKind
   stops_at_kind x known fits none =
-      let names : Named x = (known, names_of_words (forms.slots x) words fits) in
+      let names : (forms.known x ≡ true) × NamesFit (forms.slots x) words = (known, names_of_words (forms.slots x) words fits) in
       let len : length (forms.slots x) ≡ length words = length_of_words (forms.slots x) words fits in
       inr ((x, tt, names), inr ((x, (tt, names), len), inr ((x, ((tt, names), len), fits), inl (refl, λ x was test. none x was.0.0.1.0 was.1 test))))
 
   pub stops_at_limits : (x : X) → forms.known x ≡ true → WordsFit (forms.slots x) words → forms.takes_kind x ≡ true → ((x : X) → forms.known x ≡ true → WordsFit (forms.slots x) words → forms.takes_kind x ≡ true → forms.in_limits x ≡ true → ⊥) → WordsFault forms words forms.limit_fault
   stops_at_limits x known fits kind none =
-      let names : Named x = (known, names_of_words (forms.slots x) words fits) in
+      let names : (forms.known x ≡ true) × NamesFit (forms.slots x) words = (known, names_of_words (forms.slots x) words fits) in
       let len : length (forms.slots x) ≡ length words = length_of_words (forms.slots x) words fits in
       inr ((x, tt, names), inr ((x, (tt, names), len), inr ((x, ((tt, names), len), fits), inr ((x, (((tt, names), len), fits), kind), inl (refl, λ x was test. none x was.0.0.0.1.0 was.0.1 was.1 test)))))

@@ -1,18 +1,18 @@
 -- A line has the answer that reading gives: the thing of the line, or its fault.
-use Rattle.std.proofs.Common.{◌≡◌, ℕ, Bool, true, false, List, [], ◌∷◌, ◌++◌, length, Result, Ok, Err, refl, sym, ap, subst, ◌∙◌, inl, inr, arith}
+use Rattle.std.proofs.Common.{◌≡◌, ℕ, suc, Bool, true, false, List, [], ◌∷◌, ◌++◌, length, Result, Ok, Err, refl, sym, ap, subst, ◌∙◌, inl, inr, arith}
 use Rattle.std.specs.Prelude.{IsUtf8}
 use Rattle.std.specs.Str.{is_utf8}
 use Rattle.std.proofs.lemmas.Bool.{cond_both, cond-true, false≢true}
 use Rattle.std.proofs.lemmas.List.{append-nil}
 use Rattle.std.proofs.lemmas.Str.{is_utf8-from_IsUtf8, IsUtf8-from_is_utf8}
 use Rattle.file_words.specs.declared.fault.FileError.{FileError}
-use Rattle.file_words.specs.declared.fault.FileError.TheVariants.{BadText, UnknownWord, BadArity, WrongKind}
+use Rattle.file_words.specs.declared.fault.FileError.TheVariants.{BadText, WrongKind}
 use Rattle.file_words.specs.Words.{words_of}
 use Rattle.pipeline_language.specs.Form.{NamesFit, WordsFit, Forms, AreWordsOf, IsLineOf, WordsFault, LineFault}
 use Rattle.file_words.specs.WordReading.{◌>>=◌, Left, Reader, ended}
 use Rattle.pipeline_language.specs.Reading.{whole, fitting, line_of}
 use Rattle.pipeline_language.proofs.FormLemmas.{stops_at_names, stops_at_length, stops_at_numbers, stops_at_kind, stops_at_limits, line_or_fault, one_line_fault}
-use Rattle.pipeline_language.proofs.PhraseLemmas.{AtEnd, Phrase, Found, NotUnknown, Enough}
+use Rattle.pipeline_language.proofs.PhraseLemmas.{AtEnd, Phrase, Found, Met}
 
 -- the thing that the words spell, or their fault
 abbrev pub AnswersWords : {X : Type 0} → Forms X → List (List ℕ) → Result X FileError → Type 0
@@ -24,15 +24,6 @@ abbrev pub AnswersLine : {X : Type 0} → Forms X → List ℕ → Result X File
 AnswersLine forms line (Ok x) = IsLineOf forms line x
 AnswersLine forms line (Err kind) = LineFault forms line kind
 
-unknown_is_not_arity : (kind : FileError) → kind ≡ UnknownWord → kind ≡ BadArity → ⊥
-unknown_is_not_arity kind e f = clash (sym e ∙ f)
-  where
-    clash : UnknownWord ≡ BadArity → ⊥
-    clash e = cc
-
-err_is_not_ok : {A : Type 0} (kind : FileError) (x : A) → Err kind ≡ Ok x → ⊥
-err_is_not_ok kind x e = cc
-
 same_in_ok : {A : Type 0} (x y : A) → (let r : Result A FileError = Ok x in r) ≡ Ok y → x ≡ y
 same_in_ok x y e = cc
 
@@ -40,15 +31,13 @@ pub not_text : (line : List ℕ) → is_utf8 line ≡ false → IsUtf8 line → 
 not_text line untrue text = false≢true (sym untrue ∙ is_utf8-from_IsUtf8 line text)
 
 module _ {X : Type 0} (forms : Forms X) (read : Reader X) (phrase : Phrase AtEnd forms.known forms.slots read) where
-  names_at_end : (x : X) (words : List (List ℕ)) → NamesFit (forms.slots x) words → NamesFit (forms.slots x ++ []) words
-  names_at_end x words n = subst (λ s. NamesFit s words) (sym (append-nil (forms.slots x))) n
-
   names_from_end : (x : X) (words : List (List ℕ)) → NamesFit (forms.slots x ++ []) words → NamesFit (forms.slots x) words
   names_from_end x words n = subst (λ s. NamesFit s words) (append-nil (forms.slots x)) n
 
-  -- as many words as the form has are enough
-  enough : (x : X) → forms.known x ≡ true → (words : List (List ℕ)) → NamesFit (forms.slots x) words → length (forms.slots x) ≡ length words → Enough [] (read (record { words = words; good = true }))
-  enough x known words n len = (phrase.knows x known).count [] refl words true (names_at_end x words n) (ap length (append-nil (forms.slots x)) ∙ len)
+  -- what is known of a thing whose names fit
+  met : (x : X) → forms.known x ≡ true → (words : List (List ℕ)) → NamesFit (forms.slots x) words → Met [] (length (forms.slots x) ≡ length words) (read (record { words = words; good = true }))
+  met x known words =
+      subst (λ s. NamesFit s words → Met [] (length s ≡ length words) (read (record { words = words; good = true }))) (append-nil (forms.slots x)) ((phrase.knows x known).met [] refl words true)
 
   nothing_left : (rest : List (List ℕ)) → WordsFit [] rest → rest ≡ []
   nothing_left [] w = refl
@@ -82,17 +71,16 @@ module _ {X : Type 0} (forms : Forms X) (read : Reader X) (phrase : Phrase AtEnd
       false≢true (ap (λ p. p.1.good) (same_in_ok a b (sym e ∙ spelled y known words w))))
   left_answer words x (word ∷ left) good e f =
       stops_at_length forms words x f.3 (names_from_end x words (f.1 [] tt))
-      (λ y known n len. let k = enough y known words n len in let a : X × Left = (x, record { words = word ∷ left; good = good }) in let b : X × Left = (k.0, k.1) in
-      omega (arith, k.3, ap (λ p. length p.1.words) (same_in_ok a b (sym e ∙ k.2))))
+      (λ y known n len. let none : suc (length left) ≡ 0 = (subst (Met [] (length (forms.slots y) ≡ length words)) e (met y known words n)).1 len in omega (arith, none))
 
   read_answer : (words : List (List ℕ)) (r : Result (X × Left) FileError) → read (record { words = words; good = true }) ≡ r → Found forms.known forms.slots words true r → AnswersWords forms words ((r >>= λ x. ended x.1.words x.1.good >>= λ _. Ok x.0) >>= fitting forms)
   read_answer words (Err kind) e (inl is) =
       subst (WordsFault forms words) (sym is)
-      (stops_at_names forms words (λ x known n. unknown_is_not_arity kind is (subst (NotUnknown []) e ((phrase.knows x known).names [] refl words true (names_at_end x words n)))))
+      (stops_at_names forms words (λ x known n. cc (is, (subst (Met [] (length (forms.slots x) ≡ length words)) e (met x known words n)).0)))
   read_answer words (Err kind) e (inr is) =
       subst (WordsFault forms words) (sym is.0)
       (stops_at_length forms words is.1.0 is.1.2 (names_from_end is.1.0 words (is.1.1 []))
-      (λ y known n len. let k = enough y known words n len in err_is_not_ok kind (k.0, k.1) (sym e ∙ k.2)))
+      (λ y known n len. (subst (Met [] (length (forms.slots y) ≡ length words)) e (met y known words n)).1 len))
   read_answer words (Ok x) e f = left_answer words x.0 x.1.words x.1.good e f
 
   words_answer : (words : List (List ℕ)) → AnswersWords forms words (whole read words >>= fitting forms)

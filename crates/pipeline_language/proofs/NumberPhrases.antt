@@ -11,7 +11,7 @@ use Rattle.pipeline_language.specs.Form.{Slot, Number, number, NamesFit, WordsFi
 use Rattle.file_words.specs.Words.{lowest, highest}
 use Rattle.file_words.specs.WordReading.{◌>>=◌, Left, next_word, next_number, next_natural, number_at, number_of, numbers_from, with_first, all_numbers}
 use Rattle.file_words.proofs.NumberLemmas.{number_of_number, number_is, fits_bounds, bounds_fit}
-use Rattle.pipeline_language.proofs.PhraseLemmas.{Anything, AtEnd, Found, NotUnknown, Enough, Spelled, Phrase, none_left}
+use Rattle.pipeline_language.proofs.PhraseLemmas.{Anything, AtEnd, Found, Met, Spelled, Phrase, at_end_knows, met_made}
 
 le_true : (a b : ℤ) → a ≤ℤ b → int_le a b ≡ true
 le_true a b h = by_test (int_le a b) h.le
@@ -41,18 +41,11 @@ module _ (low high : ℤ) (above : lowest ≤ℤ low) (below : high ≤ℤ highe
   number_sound [] good = inr (refl, (low, (λ more. tt), refl))
   number_sound (word ∷ words) good = found_at word words good (number_of word) refl
 
-  number_names : (n : ℤ) (more : List Slot) → Anything more → (words : List (List ℕ)) (good : Bool) → NamesFit (in_range n ++ more) words → NotUnknown more (next_number low high (record { words = words; good = good }))
+  number_met : (n : ℤ) (more : List Slot) → Anything more → (words : List (List ℕ)) (good : Bool) → NamesFit (in_range n ++ more) words → Met more (length (in_range n ++ more) ≡ length words) (next_number low high (record { words = words; good = good }))
   unfolding next_number next_word
-  number_names n more f [] good k = refl
-  number_names n more f (word ∷ words) good k = subst (NamesFit more) (sym (words_at words good (number_of word))) k.1
-
-  number_count : (n : ℤ) (more : List Slot) → Anything more → (words : List (List ℕ)) (good : Bool) → NamesFit (in_range n ++ more) words → length (in_range n ++ more) ≡ length words → Enough more (next_number low high (record { words = words; good = good }))
-  unfolding next_number next_word
-  number_count n more f [] good k len = absurd (omega (arith, len))
-  number_count n more f (word ∷ words) good k len =
-      let r = number_at low high (record { words = words; good = good }) (number_of word) in
-      let same : r.1.words ≡ words = words_at words good (number_of word) in
-      (r.0, r.1, refl, omega (arith, len, ap length same), subst (NamesFit more) (sym same) k.1)
+  number_met n more f [] good k = (refl, λ len. absurd (omega (arith, len)))
+  number_met n more f (word ∷ words) good k =
+      let same = words_at words good (number_of word) in (subst (NamesFit more) (sym same) k.1, λ len. omega (arith, len, ap length same))
 
   number_spelled : (n : ℤ) (more : List Slot) → Anything more → (words : List (List ℕ)) (good : Bool) → WordsFit (in_range n ++ more) words → Spelled more n good (next_number low high (record { words = words; good = good }))
   unfolding next_number next_word
@@ -67,10 +60,7 @@ module _ (low high : ℤ) (above : lowest ≤ℤ low) (below : high ≤ℤ highe
       (words, ap (λ r. let found : Result (ℤ × Left) FileError = Ok r in found) at, w.1)
 
   pub number_phrase : Phrase Anything all_known in_range (next_number low high)
-  number_phrase = record {
-    sound = number_sound;
-    knows = λ n _. record { names = number_names n; count = number_count n; spelled = number_spelled n };
-  }
+  number_phrase = record { some = (low, refl); sound = number_sound; knows = λ n _. record { met = number_met n; spelled = number_spelled n } }
 
 -- a number of a range that has no negative ones
 module _ (high : ℤ) (below : high ≤ℤ highest) where
@@ -95,17 +85,13 @@ module _ (high : ℤ) (below : high ≤ℤ highest) where
   natural_found words good (Ok r) f =
       (f.0, (λ more k. same_names r.0 (pos (unsigned_abs r.0)) more words (f.1 more k)), (λ t. let h = f.2 t in (h.0, λ more w. as_natural r.0 more words (h.1 more w))), refl)
 
-  natural_not_unknown : (more : List Slot) (r : Result (ℤ × Left) FileError) → NotUnknown more r → NotUnknown more (r >>= λ n. let found : Result (ℕ × Left) FileError = Ok (unsigned_abs n.0, n.1) in found)
-  natural_not_unknown more (Err kind) k = k
-  natural_not_unknown more (Ok r) k = k
-
   pub natural_phrase : Phrase Anything all_known natural_slots (next_natural high)
   unfolding next_natural
   natural_phrase = record {
+    some = (0, refl);
     sound = λ words good. natural_found words good (next_number (pos 0) high (record { words = words; good = good })) (any_number.sound words good);
     knows = λ n _. let k = any_number.knows (pos n) refl in record {
-      names = λ more f words good m. natural_not_unknown more (next_number (pos 0) high (record { words = words; good = good })) (k.names more f words good m);
-      count = λ more f words good m len. let h = k.count more f words good m len in (unsigned_abs h.0, h.1, ap (λ r. r >>= λ n. Ok (unsigned_abs n.0, n.1)) h.2, h.3, h.4);
+      met = λ more f words good m. met_made more (length (natural_slots n ++ more) ≡ length words) unsigned_abs (next_number (pos 0) high (record { words = words; good = good })) (k.met more f words good m);
       spelled = λ more f words good w. let h = k.spelled more f words good w in (h.0, ap (λ r. r >>= λ n. Ok (unsigned_abs n.0, n.1)) h.1, h.2);
     };
   }
@@ -137,7 +123,7 @@ none_after : (words : List (List ℕ)) (good : Bool) → (numbers_from words goo
 none_after [] good = refl
 none_after (word ∷ words) good = none_first words good (number_of word) (none_after words)
 
-all_read : (ns : List ℤ) (words : List (List ℕ)) (good : Bool) → WordsFit (number_list ns ++ []) words → numbers_from words good ≡ (ns, record { words = []; good = good })
+all_read : (ns : List ℤ) (words : List (List ℕ)) (good : Bool) → WordsFit (number_list ns) words → numbers_from words good ≡ (ns, record { words = []; good = good })
 all_read [] [] good w = refl
 all_read [] (word ∷ words) good w = absurd w
 all_read (n ∷ ns) [] good w = absurd w
@@ -148,14 +134,8 @@ all_read (n ∷ ns) (word ∷ words) good w =
 pub all_numbers_phrase : Phrase AtEnd all_known number_list all_numbers
 unfolding all_numbers
 all_numbers_phrase = record {
+  some = ([], refl);
   sound = all_found;
-  knows = λ ns _. record {
-    names = λ more f words good k. subst (NamesFit more) (sym (none_after words good)) (none_left more);
-    count = λ more f words good k len.
-        let r = numbers_from words good in
-        (r.0, r.1, refl, ap length (none_after words good) ∙ ap length (sym f), subst (NamesFit more) (sym (none_after words good)) (none_left more));
-    spelled = λ more f words good w.
-        let fits : WordsFit (number_list ns ++ []) words = subst (λ m. WordsFit (number_list ns ++ m) words) f w in
-        ([], ap (λ r. let found : Result (List ℤ × Left) FileError = Ok r in found) (all_read ns words good fits), subst (λ m. WordsFit m []) (sym f) tt);
-  };
+  knows = λ ns _. at_end_knows (λ words good k. (tt, λ len. ap length (none_after words good)))
+      (λ words good w. ([], ap (λ r. let found : Result (List ℤ × Left) FileError = Ok r in found) (all_read ns words good w), tt));
 }

@@ -18,18 +18,13 @@ use Rattle.pipeline_language.specs.declared.pipeline.TextTest.{TextTest}
 use Rattle.pipeline_language.specs.declared.pipeline.TextTest.TheVariants as text_tests
 use Rattle.pipeline_language.specs.declared.pipeline.TextMerge.{TextMerge}
 use Rattle.pipeline_language.specs.declared.pipeline.TextMerge.TheVariants as text_merges
-use Rattle.pipeline_language.specs.declared.grammar.Base.TheVariants as bases
-use Rattle.pipeline_language.specs.declared.grammar.Inner.TheVariants as inners
 use Rattle.pipeline_language.specs.declared.grammar.Merge.TheVariants as merges
-use Rattle.pipeline_language.specs.declared.grammar.NumberOnly.TheVariants as only
-use Rattle.pipeline_language.specs.declared.grammar.NumberTotal.TheVariants as totals
-use Rattle.pipeline_language.specs.declared.grammar.Summary.TheVariants as summaries
 use Rattle.pipeline_language.specs.Grammar as grammar
 use Rattle.pipeline_language.specs.LineContent.{as_read, text_content, joint_content}
 use Rattle.pipeline_language.specs.Typed.{NumberStage, TextStage, NumberBase, NumberInner, NumberSummary, TextBase, TextInner, TextSummary, TextValue, NumberTerminal, TextTerminal}
 use Rattle.pipeline_language.specs.declared.pipeline.Mapped.{Mapped}
 use Rattle.pipeline_language.specs.declared.pipeline.Mapped.TheVariants as values
-use Rattle.pipeline_language.specs.Syntax.{Add, AllMatch, AnyMatch, Barrier, Count, Distinct, Divisible, DropWhile, Empty, Equals, Filter, FindFirst, FlatMap, Function, Greater, GroupBy, Itself, Length, Less, Limit, Longer, Map, Merge, Mod, Mul, Negate, NoneMatch, OfNumbers, OfTexts, Own, Partition, Plain, Repeat, Skip, Starts, TakeWhile, Teeing, ToList, ToMap, ToMapStrict, Within, Words, Condition, Base, Inner, Summary, Stage, Terminal, Origin, Range, Closed, Numbers, Lines, Program}
+use Rattle.pipeline_language.specs.Syntax.{Add, Divisible, Empty, Equals, Function, Greater, Itself, Length, Less, Longer, Map, Merge, Mod, Mul, Negate, OfNumbers, OfTexts, Repeat, Starts, Condition, Base, Inner, Summary, Stage, Terminal, Origin, Range, Closed, Numbers, Lines, Program}
 
 abbrev pub number_origin : NumberSource → Origin
 number_origin (sources.Range a b) = Range a b

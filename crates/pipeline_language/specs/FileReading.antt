@@ -1,5 +1,5 @@
 -- Reading a file, line by line.
-use Rattle.std.specs.Prelude.{◌≡◌, ℕ, zero, suc, ◌+◌, List, [], ◌∷◌, ◌++◌, length, nat_lt, Result, Ok, Err, if◌then◌else◌}
+use Rattle.std.specs.Prelude.{◌≡◌, ℕ, zero, suc, ◌+◌, List, [], ◌∷◌, ◌++◌, drop, length, nat_lt, Result, Ok, Err, if◌then◌else◌}
 use Rattle.std.specs.Str.{is_utf8, bytes_eq}
 use Rattle.file_words.specs.declared.fault.FileError.{FileError}
 use Rattle.file_words.specs.declared.fault.FileError.TheVariants.{BadText, TooLarge, BadVersion, MissingTerminal, AfterTerminal}
@@ -12,13 +12,14 @@ use Rattle.pipeline_language.specs.declared.version.Version.{Version}
 use Rattle.pipeline_language.specs.declared.version.Version.TheVariants.{One, Two}
 use Rattle.pipeline_language.specs.declared.kinds.TextLine.{TextLine}
 use Rattle.pipeline_language.specs.declared.line.Source.{Source}
-use Rattle.pipeline_language.specs.Content.{Body}
+use Rattle.pipeline_language.specs.declared.pipeline.Pipeline.{Pipeline}
+use Rattle.pipeline_language.specs.Content.{Body, program_of}
 use Rattle.pipeline_language.specs.Kinds.{NumberLine, number_line_content, text_line_content, source_content}
 use Rattle.file_words.specs.Words.{lines_of}
 use Rattle.pipeline_language.specs.declared.grammar.Line.TheVariants as body_lines
 use Rattle.pipeline_language.specs.Syntax.{Origin, origins, text_count, Stage, BodyLine, NumberKind, TextKind, Coming, comes, after_stage, bodies, Program}
-use Rattle.pipeline_language.specs.Language.{most_bytes, first_line, from_origin}
-use Rattle.file_words.specs.WordReading.{◌>>=◌, Left}
+use Rattle.pipeline_language.specs.Language.{most_bytes, first_line, from_origin, Means, HasFault}
+use Rattle.file_words.specs.WordReading.{◌>>=◌}
 use Rattle.pipeline_language.specs.Reading.{ReadAs, line_of}
 use Rattle.pipeline_language.specs.SyntaxReading.{body_of, origin_words}
 
@@ -39,20 +40,12 @@ unfoldable pub no_more : ℕ → List (List ℕ) → Result (Unit {0}) FileFault
 no_more n [] = Ok tt
 no_more n (line ∷ lines) = Err (record { line = n; kind = after_end line })
 
-abbrev pub with_stages : List Stage → Result Body FileFault → Result Body FileFault
-with_stages stages (Ok body) = Ok (stages ++ body.0, body.1)
-with_stages stages (Err fault) = Err fault
+-- items in front of those that are read
+abbrev pub in_front : {A B : Type 0} → List A → Result (List A × B) FileFault → Result (List A × B) FileFault
+in_front items (Ok more) = Ok (items ++ more.0, more.1)
+in_front items (Err fault) = Err fault
 
-abbrev pub after_line : BodyLine → Result (Unit {0}) FileFault → (Stage → Result Body FileFault) → Result Body FileFault
-after_line (body_lines.Stage stage) ending rest = with_stages (stage ∷ []) (rest stage)
-after_line (body_lines.Terminal terminal) ending rest = ending >>= λ _. let body : Body = ([], terminal) in Ok body
-
--- The lines of a body, to which something comes, and of which the first has number n.
-abbrev pub body_from : Coming → ℕ → List (List ℕ) → Result Body FileFault
-body_from coming n [] = Err (record { line = n; kind = MissingTerminal })
-body_from coming n (line ∷ lines) = at_line n (line_of (bodies coming) (body_of coming.version) line) >>= λ b. after_line b (no_more (n + 1) lines) (λ stage. body_from (after_stage coming stage) (n + 1) lines)
-
--- the first of them alone, behind which nothing may stand where it is the terminal
+-- The first line of a body, to which something comes, and which has number n. Nothing may stand behind it where it is the terminal.
 abbrev pub ending_with : BodyLine → Result (Unit {0}) FileFault → Result BodyLine FileFault
 ending_with (body_lines.Stage stage) ending = Ok (body_lines.Stage stage)
 ending_with (body_lines.Terminal terminal) ending = ending >>= λ _. Ok (body_lines.Terminal terminal)
@@ -61,23 +54,27 @@ unfoldable pub first_of : Coming → ℕ → List (List ℕ) → Result BodyLine
 first_of coming n [] = Err (record { line = n; kind = MissingTerminal })
 first_of coming n (line ∷ lines) = at_line n (line_of (bodies coming) (body_of coming.version) line) >>= λ b. ending_with b (no_more (n + 1) lines)
 
--- so many texts, of which the first has number n, and what is left of the lines
-abbrev pub Texts : Type 0
-Texts = List (List ℕ) × List (List ℕ)
+-- the lines of a body
+abbrev pub going_on : BodyLine → (Stage → Result Body FileFault) → Result Body FileFault
+going_on (body_lines.Stage stage) rest = in_front (stage ∷ []) (rest stage)
+going_on (body_lines.Terminal terminal) rest = Ok ([], terminal)
 
-abbrev pub with_texts : List (List ℕ) → Result Texts FileFault → Result Texts FileFault
-with_texts texts (Ok more) = Ok (texts ++ more.0, more.1)
-with_texts texts (Err fault) = Err fault
+abbrev pub body_from : Coming → ℕ → List (List ℕ) → Result Body FileFault
+body_from coming n [] = Err (record { line = n; kind = MissingTerminal })
+body_from coming n (line ∷ lines) = first_of coming n (line ∷ lines) >>= λ b. going_on b (λ stage. body_from (after_stage coming stage) (n + 1) lines)
 
-abbrev pub texts_from : ℕ → ℕ → List (List ℕ) → Result Texts FileFault
-texts_from zero n lines = Ok ([], lines)
-texts_from (suc count) n [] = Err (record { line = n; kind = MissingTerminal })
-texts_from (suc count) n (line ∷ lines) = if is_utf8 line then with_texts (line ∷ []) (texts_from count (n + 1) lines) else Err (record { line = n; kind = BadText })
-
--- the first of them
+-- the first text, which has number n
 unfoldable pub first_text : ℕ → List (List ℕ) → Result (List ℕ) FileFault
 first_text n [] = Err (record { line = n; kind = MissingTerminal })
 first_text n (line ∷ lines) = if is_utf8 line then Ok line else Err (record { line = n; kind = BadText })
+
+-- so many texts, and what is left of the lines
+abbrev pub Texts : Type 0
+Texts = List (List ℕ) × List (List ℕ)
+
+abbrev pub texts_from : ℕ → ℕ → List (List ℕ) → Result Texts FileFault
+texts_from zero n lines = Ok ([], lines)
+texts_from (suc count) n lines = first_text n lines >>= λ text. in_front (text ∷ []) (texts_from count (n + 1) (drop 1 lines))
 
 -- the lines from the texts on, from the source on, and all of them
 abbrev pub from_texts : Version → Origin → List (List ℕ) → Result Program FileFault
@@ -101,7 +98,14 @@ Reads content (Ok x) read = read ≡ Ok (content x)
 Reads content (Err errors.NoMemory) read = Unit {0}
 Reads content (Err (errors.Fault fault)) read = read ≡ Err fault
 
--- the same of one line
+-- What a file means is read; its fault is told.
+abbrev pub ReadsMeaning : List ℕ → Result Pipeline ReadError → Type 0
+ReadsMeaning file result = (program : Program) → Means file program → Reads program_of result (Ok program)
+
+abbrev pub TellsFault : List ℕ → Result Pipeline ReadError → Type 0
+TellsFault file result = (fault : FileFault) → HasFault file fault → Reads program_of result (Err fault)
+
+-- what a function returned of one line, by its content
 abbrev pub LineReads : {X Y : Type 0} → (X → Y) → Result X LineError → Result Y FileError → Type 0
 LineReads content (Ok x) read = read ≡ Ok (content x)
 LineReads content (Err line_errors.NoMemory) read = Unit {0}
@@ -117,12 +121,6 @@ ReadsNumberLine version before line result = ReadAs number_line_content (line_of
 
 abbrev pub ReadsTextLine : Version → ℕ → List ℕ → Result TextLine FileError → Type 0
 ReadsTextLine version before line result = ReadAs text_line_content (line_of (bodies (comes version TextKind before)) (body_of version) line) result
-
--- the same of the words of a line, with what is left of them
-abbrev pub LineGets : {X Y : Type 0} → (X → Y) → Result (Y × Left) FileError → Result X LineError → Left → Type 0
-LineGets content read (Ok x) left = read ≡ Ok (content x, left)
-LineGets content read (Err line_errors.NoMemory) left = Unit {0}
-LineGets content read (Err (line_errors.Fault kind)) left = read ≡ Err kind
 
 -- a fact on the fault, where the error is one
 abbrev pub IfFault : (FileFault → Type 0) → ReadError → Type 0

@@ -26,15 +26,13 @@ divisor n = Number (pos 1) highest n
 abbrev pub NameFits : Slot → List ℕ → Type 0
 NameFits (Name name) word = word ≡ name
 NameFits (EitherName name other) word = (word ≡ name) ⊎ (word ≡ other)
-NameFits (Number low high n) word = Unit {0}
-NameFits (AnyWord text) word = Unit {0}
+NameFits slot word = Unit {0}
 
 -- a number stands by its one text, which has no leading 0 and no `+`
 abbrev pub WordFits : Slot → List ℕ → Type 0
-WordFits (Name name) word = word ≡ name
-WordFits (EitherName name other) word = (word ≡ name) ⊎ (word ≡ other)
 WordFits (Number low high n) word = (low ≤ℤ n) × (n ≤ℤ high) × (word ≡ signed_decimal n)
 WordFits (AnyWord text) word = word ≡ text
+WordFits name word = NameFits name word
 
 -- as far as the words go, the form's names stand in their places
 abbrev pub NamesFit : List Slot → List (List ℕ) → Type 0

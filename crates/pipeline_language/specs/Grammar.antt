@@ -1,24 +1,31 @@
 -- Things of a line with what they are made of replaced.
 use Rattle.pipeline_language.specs.declared.grammar.Barrier as barriers
-use Rattle.pipeline_language.specs.declared.grammar.Barrier.TheVariants.{Distinct, Limit, Skip, TakeWhile, DropWhile}
-use Rattle.pipeline_language.specs.declared.grammar.Base.{Base}
+pub use Rattle.pipeline_language.specs.declared.grammar.Barrier.TheVariants.{Distinct, Limit, Skip, TakeWhile, DropWhile}
+pub use Rattle.pipeline_language.specs.declared.grammar.Base.{Base}
 use Rattle.pipeline_language.specs.declared.grammar.Base.TheVariants as bases
-use Rattle.pipeline_language.specs.declared.grammar.Condition.{Condition}
-use Rattle.pipeline_language.specs.declared.grammar.Condition.TheVariants.{Less, Greater, Equals, Divisible, Empty, Starts, Longer}
-use Rattle.pipeline_language.specs.declared.grammar.Inner.{Inner}
+pub use Rattle.pipeline_language.specs.declared.grammar.Condition.{Condition}
+pub use Rattle.pipeline_language.specs.declared.grammar.Condition.TheVariants.{Less, Greater, Equals, Divisible, Empty, Starts, Longer}
+pub use Rattle.pipeline_language.specs.declared.grammar.Expansion.{Expansion}
+pub use Rattle.pipeline_language.specs.declared.grammar.Expansion.TheVariants.{Repeat, Words}
+pub use Rattle.pipeline_language.specs.declared.grammar.Function.{Function}
+pub use Rattle.pipeline_language.specs.declared.grammar.Function.TheVariants.{Add, Mul, Negate, Mod, Length, Itself}
+pub use Rattle.pipeline_language.specs.declared.grammar.Inner.{Inner}
 use Rattle.pipeline_language.specs.declared.grammar.Inner.TheVariants as inners
-use Rattle.pipeline_language.specs.declared.grammar.Joint.{Joint}
-use Rattle.pipeline_language.specs.declared.grammar.Joint.TheVariants.{Plain, Within}
-use Rattle.pipeline_language.specs.declared.grammar.Line.{Line}
+pub use Rattle.pipeline_language.specs.declared.grammar.Joint.{Joint}
+pub use Rattle.pipeline_language.specs.declared.grammar.Joint.TheVariants.{Plain, Within}
+pub use Rattle.pipeline_language.specs.declared.grammar.Line.{Line}
 use Rattle.pipeline_language.specs.declared.grammar.Line.TheVariants as lines
-use Rattle.pipeline_language.specs.declared.grammar.OfKind.{OfKind}
-use Rattle.pipeline_language.specs.declared.grammar.OfKind.TheVariants.{OfNumbers, OfTexts}
-use Rattle.pipeline_language.specs.declared.grammar.Stage.{Stage}
-use Rattle.pipeline_language.specs.declared.grammar.Stage.TheVariants.{Map, Filter, FlatMap, Barrier}
-use Rattle.pipeline_language.specs.declared.grammar.Summary.{Summary}
+pub use Rattle.pipeline_language.specs.declared.grammar.Merge.{Merge}
+pub use Rattle.pipeline_language.specs.declared.grammar.NumberOnly.{NumberOnly}
+pub use Rattle.pipeline_language.specs.declared.grammar.NumberTotal.{NumberTotal}
+pub use Rattle.pipeline_language.specs.declared.grammar.OfKind.{OfKind}
+pub use Rattle.pipeline_language.specs.declared.grammar.OfKind.TheVariants.{OfNumbers, OfTexts}
+pub use Rattle.pipeline_language.specs.declared.grammar.Stage.{Stage}
+pub use Rattle.pipeline_language.specs.declared.grammar.Stage.TheVariants.{Map, Filter, FlatMap, Barrier}
+pub use Rattle.pipeline_language.specs.declared.grammar.Summary.{Summary}
 use Rattle.pipeline_language.specs.declared.grammar.Summary.TheVariants as summaries
-use Rattle.pipeline_language.specs.declared.grammar.Terminal.{Terminal}
-use Rattle.pipeline_language.specs.declared.grammar.Terminal.TheVariants.{Count, FindFirst, ToList, AllMatch, AnyMatch, NoneMatch, GroupBy, Partition, ToMap, ToMapStrict, Teeing, Own}
+pub use Rattle.pipeline_language.specs.declared.grammar.Terminal.{Terminal}
+pub use Rattle.pipeline_language.specs.declared.grammar.Terminal.TheVariants.{Count, FindFirst, ToList, AllMatch, AnyMatch, NoneMatch, GroupBy, Partition, ToMap, ToMapStrict, Teeing, Own}
 
 abbrev pub of_kind : {N M T U : Type 0} → (N → M) → (T → U) → OfKind N T → OfKind M U
 of_kind number text (OfNumbers x) = OfNumbers (number x)

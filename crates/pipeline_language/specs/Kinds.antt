@@ -1,25 +1,22 @@
 -- Which things of a line the items take.
-use Rattle.std.specs.Prelude.{◌≡◌, Bool, true, false, ◌&&◌, Result, Ok, Err}
-use Rattle.file_words.specs.declared.fault.FileError.{FileError}
-use Rattle.file_words.specs.declared.fault.FileError.TheVariants.{WrongKind}
+use Rattle.std.specs.Prelude.{◌≡◌, Bool, true, false, ◌&&◌, Option, Some, None}
 use Rattle.pipeline_language.specs.declared.kinds.TextLine.{TextLine}
 use Rattle.pipeline_language.specs.declared.kinds.TextLine.TheVariants as text_lines
 use Rattle.pipeline_language.specs.declared.line.Source.{Source}
 use Rattle.pipeline_language.specs.declared.line.Source.TheVariants as sources
 use Rattle.pipeline_language.specs.Content.{number_origin, number_stage, number_terminal, text_stage, text_terminal}
 use Rattle.pipeline_language.specs.declared.grammar.Line.TheVariants as body_lines
-use Rattle.pipeline_language.specs.declared.grammar.Line.{Line}
 use Rattle.pipeline_language.specs.Grammar as grammar
 use Rattle.pipeline_language.specs.Typed.{NumberStage, NumberTerminal}
-use Rattle.pipeline_language.specs.Syntax.{Function, Itself, Length, Map, Merge, Origin, Lines, TextKind, BodyLine, function_takes, merge_takes, value_kind}
+use Rattle.pipeline_language.specs.Syntax.{Function, Length, Map, Merge, Origin, Lines, TextKind, BodyLine, function_takes, merge_takes, value_kind}
 
--- What is answered is the thing, where it takes the items, and else that it doesn't.
-abbrev pub Takes : {X Y : Type 0} → (X → Y) → (Y → Bool) → Y → Result X FileError → Type 0
-Takes content takes thing (Ok x) = (content x ≡ thing) × (takes thing ≡ true)
-Takes content takes thing (Err e) = (e ≡ WrongKind) × (takes thing ≡ false)
+-- What is answered is the thing, where it takes the items, and else nothing.
+abbrev pub Takes : {X Y : Type 0} → (X → Y) → (Y → Bool) → Y → Option X → Type 0
+Takes content takes thing (Some x) = (content x ≡ thing) × (takes thing ≡ true)
+Takes content takes thing None = takes thing ≡ false
 
 abbrev pub NumberLine : Type 0
-NumberLine = Line NumberStage NumberTerminal
+NumberLine = grammar.Line NumberStage NumberTerminal
 
 abbrev pub number_line_content : NumberLine → BodyLine
 number_line_content line = grammar.line number_stage number_terminal line

@@ -110,10 +110,8 @@ FaultAt EndPlace line kind = ((IsUtf8 line → ⊥) × (kind ≡ BadText)) ⊎ (
 -- the fault of a file that ends where a line has to come
 abbrev pub FaultAtEnd : Place → FileError → Type 0
 FaultAtEnd VersionPlace kind = kind ≡ BadVersion
-FaultAtEnd SourcePlace kind = kind ≡ MissingTerminal
-FaultAtEnd TextPlace kind = kind ≡ MissingTerminal
-FaultAtEnd (BodyPlace coming) kind = kind ≡ MissingTerminal
 FaultAtEnd EndPlace kind = ⊥
+FaultAtEnd place kind = kind ≡ MissingTerminal
 
 -- What comes next has the fault: the first of the lines left, or their want.
 abbrev pub FaultOfNext : Place → List (List ℕ) → FileError → Type 0
@@ -138,3 +136,14 @@ Means file program = (length file ≤ most_bytes) × IsProgramOf (lines_of file)
 abbrev pub HasFault : List ℕ → FileFault → Type 0
 HasFault file fault = ((most_bytes < length file) × (fault ≡ record { line = 0; kind = TooLarge }))
     ⊎ ((length file ≤ most_bytes) × IsFaultOfLines (lines_of file) fault)
+
+-- There is one at most.
+abbrev pub AtMostOne : {X : Type 0} → (X → Type 0) → Type 0
+AtMostOne {X} P = (one other : X) → P one → P other → one ≡ other
+
+-- The file means something; it has a fault.
+abbrev pub HasMeaning : List ℕ → Type 0
+HasMeaning file = (program : Program) × Means file program
+
+abbrev pub IsFaulty : List ℕ → Type 0
+IsFaulty file = (fault : FileFault) × HasFault file fault

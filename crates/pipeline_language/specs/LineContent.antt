@@ -1,20 +1,5 @@
 -- What a line says, by its content.
 use Rattle.std.specs.Prelude.{ℕ, List}
-use Rattle.pipeline_language.specs.declared.grammar.Base as bases
-use Rattle.pipeline_language.specs.declared.grammar.Condition as conditions
-use Rattle.pipeline_language.specs.declared.grammar.Expansion.{Expansion}
-use Rattle.pipeline_language.specs.declared.grammar.Function.{Function}
-use Rattle.pipeline_language.specs.declared.grammar.Inner as inners
-use Rattle.pipeline_language.specs.declared.grammar.Joint as joints
-use Rattle.pipeline_language.specs.declared.grammar.Line as lines
-use Rattle.pipeline_language.specs.declared.grammar.Line.TheVariants as body_lines
-use Rattle.pipeline_language.specs.declared.grammar.Merge.{Merge}
-use Rattle.pipeline_language.specs.declared.grammar.NumberOnly.{NumberOnly}
-use Rattle.pipeline_language.specs.declared.grammar.NumberTotal.{NumberTotal}
-use Rattle.pipeline_language.specs.declared.grammar.OfKind.{OfKind}
-use Rattle.pipeline_language.specs.declared.grammar.Stage as stages
-use Rattle.pipeline_language.specs.declared.grammar.Summary as summaries
-use Rattle.pipeline_language.specs.declared.grammar.Terminal as terminals
 use Rattle.pipeline_language.specs.declared.grammar.Barrier as barriers
 use Rattle.pipeline_language.specs.Grammar as grammar
 use Rattle.pipeline_language.specs.Typed.{Text}
@@ -27,50 +12,44 @@ as_read x = x
 abbrev pub text_content : Text → List ℕ
 text_content text = text.now
 
-abbrev pub condition_content : conditions.Condition Text → Condition
+abbrev pub condition_content : grammar.Condition Text → Condition
 condition_content p = grammar.condition text_content p
 
 abbrev pub LentBase : Type 0
-LentBase = bases.Base (OfKind NumberOnly Text)
+LentBase = grammar.Base (grammar.OfKind grammar.NumberOnly Text)
 
 abbrev pub base_content : LentBase → Base
 base_content b = grammar.base (grammar.of_kind as_read text_content) b
 
 abbrev pub LentInner : Type 0
-LentInner = inners.Inner (Function × LentBase) (conditions.Condition Text) LentBase
+LentInner = grammar.Inner (grammar.Function × LentBase) (grammar.Condition Text) LentBase
 
 abbrev pub inner_content : LentInner → Inner
 inner_content inner = grammar.inner (λ m. (m.0, base_content m.1)) condition_content base_content inner
 
 abbrev pub LentSummary : Type 0
-LentSummary = summaries.Summary Function (Function × LentInner) (conditions.Condition Text) LentBase LentInner
+LentSummary = grammar.Summary grammar.Function (grammar.Function × LentInner) (grammar.Condition Text) LentBase LentInner
 
 abbrev pub summary_content : LentSummary → Summary
 summary_content summary = grammar.summary as_read (λ m. (m.0, inner_content m.1)) condition_content base_content inner_content summary
 
-abbrev pub barrier_content : barriers.Barrier (conditions.Condition Text) → Barring
+abbrev pub barrier_content : barriers.Barrier (grammar.Condition Text) → Barring
 barrier_content barrier = grammar.barrier condition_content barrier
 
 abbrev pub LentStage : Type 0
-LentStage = stages.Stage Function (conditions.Condition Text) Expansion
+LentStage = grammar.Stage grammar.Function (grammar.Condition Text) grammar.Expansion
 
 abbrev pub stage_content : LentStage → Stage
 stage_content stage = grammar.stage as_read condition_content as_read stage
 
-abbrev pub joint_content : joints.Joint Text → Joint
+abbrev pub joint_content : grammar.Joint Text → Joint
 joint_content joint = grammar.joint text_content joint
 
 abbrev pub LentTerminal : Type 0
-LentTerminal = terminals.Terminal Function (conditions.Condition Text) LentSummary (Function × Merge) (OfKind NumberTotal (joints.Joint Text))
+LentTerminal = grammar.Terminal grammar.Function (grammar.Condition Text) LentSummary (grammar.Function × grammar.Merge) (grammar.OfKind grammar.NumberTotal (grammar.Joint Text))
 
 abbrev pub terminal_content : LentTerminal → Terminal
 terminal_content terminal = grammar.terminal as_read condition_content summary_content as_read (grammar.of_kind as_read joint_content) terminal
 
-abbrev pub body_line_content : lines.Line LentStage LentTerminal → BodyLine
+abbrev pub body_line_content : grammar.Line LentStage LentTerminal → BodyLine
 body_line_content line = grammar.line stage_content terminal_content line
-
-abbrev pub stage_line_content : LentStage → BodyLine
-stage_line_content stage = body_line_content (body_lines.Stage stage)
-
-abbrev pub terminal_line_content : LentTerminal → BodyLine
-terminal_line_content terminal = body_line_content (body_lines.Terminal terminal)

@@ -1,10 +1,10 @@
 -- Things of a line, read by their names, and whole lines.
-use Rattle.std.specs.Prelude.{◌≡◌, ℕ, true, List, Option, Some, None, Result, Ok, Err, if◌then◌else◌}
+use Rattle.std.specs.Prelude.{◌≡◌, ℕ, true, List, Result, Ok, Err, if◌then◌else◌}
 use Rattle.std.specs.Str.{is_utf8, bytes_eq}
 use Rattle.file_words.specs.declared.fault.FileError.{FileError}
 use Rattle.file_words.specs.declared.fault.FileError.TheVariants.{BadText, UnknownWord, WrongKind}
 use Rattle.file_words.specs.Words.{words_of}
-use Rattle.file_words.specs.WordReading.{◌>>=◌, Left, Reader, next_word, ended}
+use Rattle.file_words.specs.WordReading.{◌>>=◌, Reader, next_word, ended}
 use Rattle.pipeline_language.specs.Form.{Forms}
 
 -- nothing at all
@@ -32,14 +32,7 @@ unknown found left = Err UnknownWord
 abbrev pub by_name : {X : Type 0} → ByName X → Reader X
 by_name names left = next_word left >>= λ w. names w.0 w.1
 
--- What a function that reads answers, by its content, with what it leaves, where what is read has a name of its own; behind any
--- other name nothing is read yet.
-abbrev pub GetsNamed : {X Y : Type 0} → (X → Y) → (ByName Y → ByName Y) → List ℕ → Left → Result (Option X) FileError → Left → Type 0
-GetsNamed {X} {Y} content names found read (Ok (Some x)) left = (others : ByName Y) → names others found read ≡ Ok (content x, left)
-GetsNamed {X} {Y} content names found read (Ok None) left = (others : ByName Y) → names others found read ≡ others found left
-GetsNamed {X} {Y} content names found read (Err e) left = (others : ByName Y) → names others found read ≡ Err e
-
--- The same of all there is.
+-- What a function that reads answers, by its content, where nothing is left.
 abbrev pub ReadAs : {X Y : Type 0} → (X → Y) → Result Y FileError → Result X FileError → Type 0
 ReadAs content read (Ok x) = read ≡ Ok (content x)
 ReadAs content read (Err e) = read ≡ Err e
@@ -52,10 +45,6 @@ whole read words = read (record { words = words; good = true }) >>= λ x. ended 
 abbrev pub fitting : {X : Type 0} → Forms X → X → Result X FileError
 fitting forms x = if forms.takes_kind x then (if forms.in_limits x then Ok x else Err forms.limit_fault) else Err WrongKind
 
--- all the words of a line, with the kinds and the limits
-abbrev pub form_of : {X : Type 0} → Forms X → Reader X → List (List ℕ) → Result X FileError
-form_of forms read words = whole read words >>= fitting forms
-
 -- a line
 unfoldable pub line_of : {X : Type 0} → Forms X → Reader X → List ℕ → Result X FileError
-line_of forms read line = if is_utf8 line then form_of forms read (words_of line) else Err BadText
+line_of forms read line = if is_utf8 line then whole read (words_of line) >>= fitting forms else Err BadText

@@ -5,64 +5,44 @@ use Rattle.pipeline_language.specs.declared.version.Version.{Version}
 use Rattle.pipeline_language.specs.declared.version.Version.TheVariants.{One, Two}
 use Rattle.pipeline_language.specs.Steps.{steps_up}
 use Rattle.pipeline_language.specs.Form.{Slot, Name, EitherName, Number, AnyWord, number, natural, divisor, Forms, all_known}
-pub use Rattle.pipeline_language.specs.declared.grammar.Barrier.TheVariants.{Distinct, Limit, Skip, TakeWhile, DropWhile}
+use Rattle.pipeline_language.specs.Grammar as grammar
+pub use Rattle.pipeline_language.specs.Grammar.{Distinct, Limit, Skip, TakeWhile, DropWhile, Less, Greater, Equals, Divisible, Empty, Starts, Longer, Expansion, Repeat, Words, Function, Add, Mul, Negate, Mod, Length, Itself, Plain, Within, Merge, OfNumbers, OfTexts, Map, Filter, FlatMap, Barrier, Count, FindFirst, ToList, AllMatch, AnyMatch, NoneMatch, GroupBy, Partition, ToMap, ToMapStrict, Teeing, Own}
 use Rattle.pipeline_language.specs.declared.grammar.Base.TheVariants as bases
-pub use Rattle.pipeline_language.specs.declared.grammar.Condition.TheVariants.{Less, Greater, Equals, Divisible, Empty, Starts, Longer}
-pub use Rattle.pipeline_language.specs.declared.grammar.Expansion.{Expansion}
-pub use Rattle.pipeline_language.specs.declared.grammar.Expansion.TheVariants.{Repeat, Words}
-pub use Rattle.pipeline_language.specs.declared.grammar.Function.{Function}
-pub use Rattle.pipeline_language.specs.declared.grammar.Function.TheVariants.{Add, Mul, Negate, Mod, Length, Itself}
 use Rattle.pipeline_language.specs.declared.grammar.Inner.TheVariants as inners
-pub use Rattle.pipeline_language.specs.declared.grammar.Joint.TheVariants.{Plain, Within}
 use Rattle.pipeline_language.specs.declared.grammar.Line.TheVariants as body_lines
-pub use Rattle.pipeline_language.specs.declared.grammar.Merge.{Merge}
 use Rattle.pipeline_language.specs.declared.grammar.Merge.TheVariants as merges
 use Rattle.pipeline_language.specs.declared.grammar.NumberOnly.TheVariants as only
 use Rattle.pipeline_language.specs.declared.grammar.NumberTotal.TheVariants as totals
-pub use Rattle.pipeline_language.specs.declared.grammar.OfKind.TheVariants.{OfNumbers, OfTexts}
-pub use Rattle.pipeline_language.specs.declared.grammar.Stage.TheVariants.{Map, Filter, FlatMap, Barrier}
 use Rattle.pipeline_language.specs.declared.grammar.Summary.TheVariants as summaries
-pub use Rattle.pipeline_language.specs.declared.grammar.Terminal.TheVariants.{Count, FindFirst, ToList, AllMatch, AnyMatch, NoneMatch, GroupBy, Partition, ToMap, ToMapStrict, Teeing, Own}
 use Rattle.pipeline_language.specs.declared.grammar.Barrier as barrier_types
-use Rattle.pipeline_language.specs.declared.grammar.Base as base_types
-use Rattle.pipeline_language.specs.declared.grammar.Condition as condition_types
-use Rattle.pipeline_language.specs.declared.grammar.Inner as inner_types
-use Rattle.pipeline_language.specs.declared.grammar.Joint as joint_types
-use Rattle.pipeline_language.specs.declared.grammar.Line as line_types
-use Rattle.pipeline_language.specs.declared.grammar.NumberOnly.{NumberOnly}
-use Rattle.pipeline_language.specs.declared.grammar.NumberTotal.{NumberTotal}
-use Rattle.pipeline_language.specs.declared.grammar.OfKind.{OfKind}
-use Rattle.pipeline_language.specs.declared.grammar.Stage as stage_types
-use Rattle.pipeline_language.specs.declared.grammar.Summary as summary_types
-use Rattle.pipeline_language.specs.declared.grammar.Terminal as terminal_types
 
 -- The things of a line are those that are read, and a text in them stands by its bytes.
 abbrev pub Condition : Type 0
-Condition = condition_types.Condition (List ℕ)
+Condition = grammar.Condition (List ℕ)
 
 -- what is made of items at once
 abbrev pub Base : Type 0
-Base = base_types.Base (OfKind NumberOnly (List ℕ))
+Base = grammar.Base (grammar.OfKind grammar.NumberOnly (List ℕ))
 
 -- what is made of them inside another collector
 abbrev pub Inner : Type 0
-Inner = inner_types.Inner (Function × Base) Condition Base
+Inner = grammar.Inner (Function × Base) Condition Base
 
 -- what is made of them
 abbrev pub Summary : Type 0
-Summary = summary_types.Summary Function (Function × Inner) Condition Base Inner
+Summary = grammar.Summary Function (Function × Inner) Condition Base Inner
 
 abbrev pub Barring : Type 0
 Barring = barrier_types.Barrier Condition
 
 abbrev pub Stage : Type 0
-Stage = stage_types.Stage Function Condition Expansion
+Stage = grammar.Stage Function Condition Expansion
 
 abbrev pub Joint : Type 0
-Joint = joint_types.Joint (List ℕ)
+Joint = grammar.Joint (List ℕ)
 
 abbrev pub Terminal : Type 0
-Terminal = terminal_types.Terminal Function Condition Summary (Function × Merge) (OfKind NumberTotal Joint)
+Terminal = grammar.Terminal Function Condition Summary (Function × Merge) (grammar.OfKind grammar.NumberTotal Joint)
 
 pub data Origin : Type 0 where
   Range : ℤ → ℤ → Origin
@@ -172,8 +152,7 @@ most_items = 4611686018427387904
 abbrev pub is_short : Origin → Bool
 is_short (Range a b) = nat_le (steps_up (b -ℤ a)) most_items
 is_short (Closed a b) = nat_le (steps_up ((b +ℤ pos 1) -ℤ a)) most_items
-is_short (Numbers ns) = true
-is_short (Lines n) = true
+is_short origin = true
 
 abbrev pub origins : Forms Origin
 origins = record { slots = origin_slots; known = all_known; takes_kind = λ _. true; in_limits = is_short; limit_fault = RangeTooLong }
@@ -185,9 +164,7 @@ has_new_names Two = true
 
 abbrev pub summary_known : Version → Summary → Bool
 summary_known version (summaries.Base base) = true
-summary_known version (summaries.Mapping (f, inner)) = has_new_names version
-summary_known version (summaries.Filtering p inner) = has_new_names version
-summary_known version (summaries.GroupBy f inner) = has_new_names version
+summary_known version summary = has_new_names version
 
 abbrev pub terminal_known : Version → Terminal → Bool
 terminal_known version (GroupBy f summary) = summary_known version summary
@@ -211,46 +188,32 @@ is_text TextKind = true
 
 -- the kind of a source's items, and how many lines of text follow it
 abbrev pub origin_kind : Origin → Kind
-origin_kind (Range a b) = NumberKind
-origin_kind (Closed a b) = NumberKind
-origin_kind (Numbers ns) = NumberKind
 origin_kind (Lines n) = TextKind
+origin_kind origin = NumberKind
 
 abbrev pub text_count : Origin → ℕ
-text_count (Range a b) = 0
-text_count (Closed a b) = 0
-text_count (Numbers ns) = 0
 text_count (Lines n) = n
+text_count origin = 0
 
 -- The function takes items of the kind.
 abbrev pub function_takes : Kind → Function → Bool
-function_takes kind (Add n) = is_number kind
-function_takes kind (Mul n) = is_number kind
-function_takes kind Negate = is_number kind
-function_takes kind (Mod n) = is_number kind
 function_takes kind Length = is_text kind
 function_takes kind Itself = true
+function_takes kind f = is_number kind
 
 -- the kind of its values
 abbrev pub value_kind : Kind → Function → Kind
-value_kind kind (Add n) = NumberKind
-value_kind kind (Mul n) = NumberKind
-value_kind kind Negate = NumberKind
-value_kind kind (Mod n) = NumberKind
-value_kind kind Length = NumberKind
 value_kind kind Itself = kind
+value_kind kind f = NumberKind
 
 abbrev pub condition_takes : Kind → Condition → Bool
-condition_takes kind (Less n) = is_number kind
-condition_takes kind (Greater n) = is_number kind
-condition_takes kind (Equals n) = is_number kind
-condition_takes kind (Divisible n) = is_number kind
 condition_takes kind Empty = is_text kind
 condition_takes kind (Starts front) = is_text kind
 condition_takes kind (Longer n) = is_text kind
+condition_takes kind p = is_number kind
 
 -- what stands for one kind alone
-abbrev pub own_takes : {N T : Type 0} → Kind → OfKind N T → Bool
+abbrev pub own_takes : {N T : Type 0} → Kind → grammar.OfKind N T → Bool
 own_takes kind (OfNumbers x) = is_number kind
 own_takes kind (OfTexts x) = is_text kind
 
@@ -273,9 +236,7 @@ summary_takes kind (summaries.GroupBy f inner) = function_takes kind f && inner_
 abbrev pub merge_takes : Kind → Merge → Bool
 merge_takes kind merges.First = true
 merge_takes kind merges.Last = true
-merge_takes kind merges.Sum = is_number kind
-merge_takes kind merges.Max = is_number kind
-merge_takes kind merges.Min = is_number kind
+merge_takes kind merge = is_number kind
 
 abbrev pub expansion_takes : Kind → Expansion → Bool
 expansion_takes kind (Repeat n) = true
@@ -311,7 +272,7 @@ terminal_takes kind terminal = true
 
 -- A line of the body is a stage or the terminal: the names of both stand at its first place.
 abbrev pub BodyLine : Type 0
-BodyLine = line_types.Line Stage Terminal
+BodyLine = grammar.Line Stage Terminal
 
 abbrev pub body_slots : BodyLine → List Slot
 body_slots (body_lines.Stage stage) = stage_slots stage

@@ -11,7 +11,7 @@ use Rattle.pipeline_language.specs.declared.grammar.Merge.TheVariants as merges
 use Rattle.pipeline_language.specs.declared.grammar.NumberOnly.TheVariants as only
 use Rattle.pipeline_language.specs.declared.grammar.NumberTotal.TheVariants as totals
 use Rattle.pipeline_language.specs.declared.grammar.Summary.TheVariants as summaries
-use Rattle.pipeline_language.specs.Syntax.{Add, AllMatch, AnyMatch, Barrier, Count, Distinct, Divisible, DropWhile, Empty, Equals, Expansion, Filter, FindFirst, FlatMap, Function, Greater, GroupBy, Itself, Length, Less, Limit, Longer, Map, Merge, Mod, Mul, Negate, NoneMatch, OfNumbers, OfTexts, Own, Partition, Plain, Repeat, Skip, Starts, TakeWhile, Teeing, ToList, ToMap, ToMapStrict, Within, Words, Condition, Base, Inner, Summary, Joint, Origin, Range, Closed, Numbers, Lines, BodyLine}
+use Rattle.pipeline_language.specs.Syntax.{Add, AllMatch, AnyMatch, Barrier, Count, Distinct, Divisible, DropWhile, Empty, Equals, Expansion, Filter, FindFirst, FlatMap, Function, Greater, GroupBy, Itself, Length, Less, Limit, Longer, Map, Merge, Mod, Mul, Negate, NoneMatch, OfNumbers, OfTexts, Own, Partition, Plain, Repeat, Skip, Starts, TakeWhile, Teeing, ToList, ToMap, ToMapStrict, Within, Words, Condition, Base, Inner, Summary, Joint, Terminal, Origin, Range, Closed, Numbers, Lines, BodyLine}
 use Rattle.file_words.specs.WordReading.{◌>>=◌, Left, is_done, Reader, next_word, next_number, next_natural, all_numbers}
 use Rattle.pipeline_language.specs.Reading.{ByName, named, made_of, unknown, by_name, nothing, both}
 
@@ -76,18 +76,15 @@ unfoldable pub inner_of : Reader Inner
 inner_of = by_name inner_names
 
 -- COLL
-abbrev pub nesting_summary_names : ByName Summary
-nesting_summary_names = named (codes "mapping") summaries.Mapping (both function_of inner_of)
+unfoldable pub summary_names : Version → ByName Summary
+summary_names One = made_of summaries.Base base_names
+summary_names Two = named (codes "mapping") summaries.Mapping (both function_of inner_of)
     (named (codes "filtering") (λ p. summaries.Filtering p.0 p.1) (both condition_of inner_of)
     (named (codes "groupby") (λ p. summaries.GroupBy p.0 p.1) (both function_of inner_of)
     (made_of summaries.Base base_names)))
 
-unfoldable pub nesting_summary_of : Reader Summary
-nesting_summary_of = by_name nesting_summary_names
-
-abbrev pub summary_of : Version → Reader Summary
-summary_of One left = base_of left >>= λ base. Ok (summaries.Base base.0, base.1)
-summary_of Two left = nesting_summary_of left
+unfoldable pub summary_of : Version → Reader Summary
+summary_of version = by_name (summary_names version)
 
 -- MERGE
 abbrev pub merge_names : ByName Merge
@@ -118,39 +115,36 @@ joint_after between left = if is_done left.words then (let found : Joint × Left
 unfoldable pub joint_of : Reader Joint
 joint_of left = next_word left >>= λ between. joint_after between.0 between.1
 
--- The names of terminals that the first version has not; before them those of terminals with collectors or maps, of those
--- with a test or texts between, and of those that stand alone. Before them all stand the names of stages.
-unfoldable pub new_terminal_names : Version → ByName BodyLine
+-- The names of terminals that the first version has not; before them those of terminals with collectors or maps, and all others.
+unfoldable pub new_terminal_names : Version → ByName Terminal
 new_terminal_names One = unknown
-new_terminal_names Two = named (codes "tomapstrict") (λ p. body_lines.Terminal (ToMapStrict p.0 p.1)) (both function_of function_of)
+new_terminal_names Two = named (codes "tomapstrict") (λ p. ToMapStrict p.0 p.1) (both function_of function_of)
     unknown
 
-unfoldable pub collecting_names : Version → ByName BodyLine
-collecting_names version = named (codes "groupby") (λ p. body_lines.Terminal (GroupBy p.0 p.1)) (both function_of (summary_of version))
-    (named (codes "partition") (λ p. body_lines.Terminal (Partition p.0 p.1)) (both condition_of (summary_of version))
-    (named (codes "tomap") (λ p. body_lines.Terminal (ToMap p.0 p.1)) (both function_of (both function_of merge_of))
-    (named (codes "teeing") (λ p. body_lines.Terminal (Teeing p.0 p.1)) (both (summary_of version) (summary_of version))
+unfoldable pub collecting_names : Version → ByName Terminal
+collecting_names version = named (codes "groupby") (λ p. GroupBy p.0 p.1) (both function_of (summary_of version))
+    (named (codes "partition") (λ p. Partition p.0 p.1) (both condition_of (summary_of version))
+    (named (codes "tomap") (λ p. ToMap p.0 p.1) (both function_of (both function_of merge_of))
+    (named (codes "teeing") (λ p. Teeing p.0 p.1) (both (summary_of version) (summary_of version))
     (new_terminal_names version))))
 
-unfoldable pub asking_names : Version → ByName BodyLine
-asking_names version = named (codes "allmatch") (λ p. body_lines.Terminal (AllMatch p)) condition_of
-    (named (codes "anymatch") (λ p. body_lines.Terminal (AnyMatch p)) condition_of
-    (named (codes "nonematch") (λ p. body_lines.Terminal (NoneMatch p)) condition_of
-    (named (codes "joining") (λ j. body_lines.Terminal (Own (OfTexts j))) joint_of
-    (collecting_names version))))
+unfoldable pub terminal_names : Version → ByName Terminal
+terminal_names version = named (codes "sum") (λ _. Own (OfNumbers totals.Sum)) nothing
+    (named (codes "product") (λ _. Own (OfNumbers totals.Product)) nothing
+    (named (codes "max") (λ _. Own (OfNumbers totals.Max)) nothing
+    (named (codes "min") (λ _. Own (OfNumbers totals.Min)) nothing
+    (named (codes "count") (λ _. Count) nothing
+    (named (codes "findfirst") (λ _. FindFirst) nothing
+    (named (codes "tolist") (λ _. ToList) nothing
+    (named (codes "allmatch") AllMatch condition_of
+    (named (codes "anymatch") AnyMatch condition_of
+    (named (codes "nonematch") NoneMatch condition_of
+    (named (codes "joining") (λ j. Own (OfTexts j)) joint_of
+    (collecting_names version)))))))))))
 
-unfoldable pub terminal_names : Version → ByName BodyLine
-terminal_names version = named (codes "sum") (λ _. body_lines.Terminal (Own (OfNumbers totals.Sum))) nothing
-    (named (codes "product") (λ _. body_lines.Terminal (Own (OfNumbers totals.Product))) nothing
-    (named (codes "max") (λ _. body_lines.Terminal (Own (OfNumbers totals.Max))) nothing
-    (named (codes "min") (λ _. body_lines.Terminal (Own (OfNumbers totals.Min))) nothing
-    (named (codes "count") (λ _. body_lines.Terminal Count) nothing
-    (named (codes "findfirst") (λ _. body_lines.Terminal FindFirst) nothing
-    (named (codes "tolist") (λ _. body_lines.Terminal ToList) nothing
-    (asking_names version)))))))
-
-unfoldable pub stage_names : ByName BodyLine → ByName BodyLine
-stage_names others = named (codes "map") (λ f. body_lines.Stage (Map f)) function_of
+-- The names of stages, and then those of terminals.
+abbrev pub body_names : Version → ByName BodyLine
+body_names version = named (codes "map") (λ f. body_lines.Stage (Map f)) function_of
     (named (codes "filter") (λ p. body_lines.Stage (Filter p)) condition_of
     (named (codes "flatmap") (λ e. body_lines.Stage (FlatMap e)) expansion_of
     (named (codes "distinct") (λ _. body_lines.Stage (Barrier Distinct)) nothing
@@ -158,10 +152,7 @@ stage_names others = named (codes "map") (λ f. body_lines.Stage (Map f)) functi
     (named (codes "skip") (λ n. body_lines.Stage (Barrier (Skip n))) any_natural
     (named (codes "takewhile") (λ p. body_lines.Stage (Barrier (TakeWhile p))) condition_of
     (named (codes "dropwhile") (λ p. body_lines.Stage (Barrier (DropWhile p))) condition_of
-    others)))))))
-
-abbrev pub body_names : Version → ByName BodyLine
-body_names version = stage_names (terminal_names version)
+    (made_of body_lines.Terminal (terminal_names version)))))))))
 
 unfoldable pub body_of : Version → Reader BodyLine
 body_of version = by_name (body_names version)

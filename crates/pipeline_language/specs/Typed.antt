@@ -1,16 +1,7 @@
 -- The things of a line over numbers, and over texts that are lent from a file.
 use Rattle.std.specs.Prelude.{ℕ, List}
 use Rattle.std.specs.Borrow.{Bor}
-use Rattle.pipeline_language.specs.declared.grammar.Base.{Base}
-use Rattle.pipeline_language.specs.declared.grammar.Expansion.{Expansion}
-use Rattle.pipeline_language.specs.declared.grammar.Inner.{Inner}
-use Rattle.pipeline_language.specs.declared.grammar.Joint.{Joint}
-use Rattle.pipeline_language.specs.declared.grammar.Merge.{Merge}
-use Rattle.pipeline_language.specs.declared.grammar.NumberOnly.{NumberOnly}
-use Rattle.pipeline_language.specs.declared.grammar.NumberTotal.{NumberTotal}
-use Rattle.pipeline_language.specs.declared.grammar.Stage.{Stage}
-use Rattle.pipeline_language.specs.declared.grammar.Summary.{Summary}
-use Rattle.pipeline_language.specs.declared.grammar.Terminal.{Terminal}
+use Rattle.pipeline_language.specs.Grammar.{Base, Expansion, Inner, Joint, Merge, NumberOnly, NumberTotal, Stage, Summary, Terminal}
 use Rattle.pipeline_language.specs.declared.pipeline.Mapped.{Mapped}
 use Rattle.pipeline_language.specs.declared.pipeline.NumberFunction.{NumberFunction}
 use Rattle.pipeline_language.specs.declared.pipeline.NumberTest.{NumberTest}

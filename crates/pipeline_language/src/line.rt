@@ -2,14 +2,12 @@
 
 ghost use Rattle.std.specs.Prelude.{◌≡◌};
 ghost use Rattle.file_words.specs.Pieces.{piece_bytes};
-ghost use Rattle.file_words.specs.Words.{words_of};
-ghost use Rattle.pipeline_language.specs.FileReading.{LineGets, ReadsNumberLine, ReadsSource, ReadsTextLine, version_of};
-ghost use Rattle.pipeline_language.specs.Kinds.{number_line_content, source_content, text_line_content};
-ghost use Rattle.pipeline_language.specs.Reading.{ReadAs, form_of};
-ghost use Rattle.pipeline_language.specs.Syntax.{NumberKind, TextKind, bodies, comes};
-ghost use Rattle.pipeline_language.specs.SyntaxReading.{body_of, origin_words};
+ghost use Rattle.pipeline_language.specs.FileReading.{LineReads, ReadsNumberLine, ReadsSource, ReadsTextLine, version_of};
+ghost use Rattle.pipeline_language.specs.Kinds.{source_content};
+ghost use Rattle.pipeline_language.specs.SyntaxReading.{origin_words};
 
-use crate::kinds::{NumberLine, TextLine, number_line, text_line};
+use crate::grammar::Line;
+use crate::kinds::{MOST_STAGES, NumberLine, TextLine, number_line, text_line};
 use crate::pipeline::NumberSource;
 use crate::syntax::read_line;
 use crate::version::Version;
@@ -54,7 +52,7 @@ pub fn read_source(alloc: Global, line: Piece<'_>) -> Result<Source, LineError>
 /// The words of a source.
 #[tactic(auto, unfolding(crate::specs::SyntaxReading::origin_words))]
 fn read_source_words(alloc: Global, words: &mut Words<'_>) -> Result<Source, LineError>
-    ensures { LineGets source_content (origin_words words.old) result words.new }
+    ensures { LineReads (λ source. (source_content source, words.new)) result (origin_words words.old) }
 {
     match words.any()? {
         "range" => Ok(Source::Numbers(NumberSource::Range(
@@ -80,20 +78,12 @@ pub fn read_text_line<'a>(
 ) -> Result<TextLine<'a>, FileError>
     ensures { ReadsTextLine version before (piece_bytes line.entry) result }
 {
-    read_text_words(version, line.text()?, before)
-}
-
-/// All the words of such a line.
-fn read_text_words<'a>(
-    version: Version,
-    line: &'a str,
-    before: usize,
-) -> Result<TextLine<'a>, FileError>
-    ensures { ReadAs text_line_content (form_of (bodies (comes version TextKind before)) (body_of version) (words_of line.now)) result }
-{
-    match read_line(version, line) {
-        Ok(line) => text_line(line, before),
-        Err(e) => Err(e),
+    match text_line(read_line(version, line.text()?)?) {
+        None => Err(FileError::WrongKind),
+        Some(TextLine::Stage(_) | TextLine::Lengths) if before >= MOST_STAGES => {
+            Err(FileError::TooManyStages)
+        }
+        Some(line) => Ok(line),
     }
 }
 
@@ -106,15 +96,9 @@ pub fn read_number_line(
 ) -> Result<NumberLine, FileError>
     ensures { ReadsNumberLine version before (piece_bytes line.entry) result }
 {
-    read_number_words(version, line.text()?, before)
-}
-
-/// All the words of such a line.
-fn read_number_words(version: Version, line: &str, before: usize) -> Result<NumberLine, FileError>
-    ensures { ReadAs number_line_content (form_of (bodies (comes version NumberKind before)) (body_of version) (words_of line.now)) result }
-{
-    match read_line(version, line) {
-        Ok(line) => number_line(line, before),
-        Err(e) => Err(e),
+    match number_line(read_line(version, line.text()?)?) {
+        None => Err(FileError::WrongKind),
+        Some(Line::Stage(_)) if before >= MOST_STAGES => Err(FileError::TooManyStages),
+        Some(line) => Ok(line),
     }
 }

@@ -1,10 +1,10 @@
 //! What a line says, name by name, before the kind of the items is asked for.
 
 ghost use Rattle.std.specs.Prelude.{Result};
-ghost use Rattle.pipeline_language.specs.LineContent.{as_read, base_content, body_line_content, condition_content, inner_content, joint_content, stage_line_content, summary_content, terminal_line_content};
+ghost use Rattle.pipeline_language.specs.LineContent.{as_read, base_content, body_line_content, condition_content, inner_content, joint_content, summary_content, terminal_content};
 ghost use Rattle.file_words.specs.WordReading.{GetsAs};
-ghost use Rattle.pipeline_language.specs.Reading.{GetsNamed, ReadAs, whole};
-ghost use Rattle.pipeline_language.specs.SyntaxReading.{asking_names, base_names, base_of, body_of, collecting_names, condition_of, expansion_of, function_of, inner_of, joint_of, merge_of, nesting_summary_of, new_terminal_names, stage_names, summary_of, terminal_names};
+ghost use Rattle.pipeline_language.specs.Reading.{ReadAs, whole};
+ghost use Rattle.pipeline_language.specs.SyntaxReading.{base_names, base_of, body_of, collecting_names, condition_of, expansion_of, function_of, inner_of, joint_of, merge_of, new_terminal_names, summary_of, terminal_names};
 ghost use Rattle.file_words.specs.Words.{words_of};
 
 use crate::grammar::{
@@ -107,26 +107,20 @@ fn read_inner<'a>(words: &mut Words<'a>) -> Result<AnyInner<'a>, FileError>
     }
 }
 
+#[tactic(auto, unfolding(crate::specs::SyntaxReading::summary_of, crate::specs::SyntaxReading::summary_names))]
 fn read_summary<'a>(version: Version, words: &mut Words<'a>) -> Result<AnySummary<'a>, FileError>
     ensures { GetsAs summary_content (summary_of version words.old) result words.new }
 {
-    match version {
-        Version::One => Ok(Summary::Base(read_base(words)?)),
-        Version::Two => read_nesting_summary(words),
-    }
-}
-
-/// A collector that may stand around another.
-#[tactic(auto, unfolding(crate::specs::SyntaxReading::nesting_summary_of))]
-fn read_nesting_summary<'a>(words: &mut Words<'a>) -> Result<AnySummary<'a>, FileError>
-    ensures { GetsAs summary_content (nesting_summary_of words.old) result words.new }
-{
-    match words.any()? {
-        "mapping" => Ok(Summary::Mapping((read_function(words)?, read_inner(words)?))),
-        "filtering" => Ok(Summary::Filtering(read_condition(words)?, read_inner(words)?)),
-        "groupby" => Ok(Summary::GroupBy(read_function(words)?, read_inner(words)?)),
-        name => Ok(Summary::Base(base_named(name, words)?)),
-    }
+    let name = words.any()?;
+    Ok(match (version, name) {
+        (Version::Two, "mapping") => Summary::Mapping((read_function(words)?, read_inner(words)?)),
+        (Version::Two, "filtering") => Summary::Filtering(
+            read_condition(words)?,
+            read_inner(words)?,
+        ),
+        (Version::Two, "groupby") => Summary::GroupBy(read_function(words)?, read_inner(words)?),
+        _ => Summary::Base(base_named(name, words)?),
+    })
 }
 
 #[tactic(auto, unfolding(crate::specs::SyntaxReading::merge_of))]
@@ -160,11 +154,9 @@ pub(crate) fn read_line<'a>(version: Version, line: &'a str) -> Result<BodyLine<
     ensures { ReadAs body_line_content (whole (body_of version) (words_of line.now)) result }
 {
     let mut words = Words::new(line);
-    match (read_body(version, &mut words), words.end()) {
-        (Ok(body), Ok(())) => Ok(body),
-        (Ok(_), Err(e)) => Err(e),
-        (Err(e), _) => Err(e),
-    }
+    let line = read_body(version, &mut words)?;
+    words.end()?;
+    Ok(line)
 }
 
 /// A line after the source: a stage, or the terminal.
@@ -173,22 +165,7 @@ fn read_body<'a>(version: Version, words: &mut Words<'a>) -> Result<BodyLine<'a>
     ensures { GetsAs body_line_content (body_of version words.old) result words.new }
 {
     let name = words.any()?;
-    match read_stage(name, words) {
-        Ok(Some(stage)) => Ok(Line::Stage(stage)),
-        Ok(None) => match read_terminal(version, name, words) {
-            Ok(terminal) => Ok(Line::Terminal(terminal)),
-            Err(e) => Err(e),
-        },
-        Err(e) => Err(e),
-    }
-}
-
-/// A stage, behind its name, and none behind any other name.
-#[tactic(auto, unfolding(crate::specs::SyntaxReading::stage_names))]
-fn read_stage<'a>(name: &str, words: &mut Words<'a>) -> Result<Option<AnyStage<'a>>, FileError>
-    ensures { GetsNamed stage_line_content stage_names name.now words.old result words.new }
-{
-    Ok(Some(match name {
+    Ok(Line::Stage(match name {
         "map" => Stage::Map(read_function(words)?),
         "filter" => Stage::Filter(read_condition(words)?),
         "flatmap" => Stage::FlatMap(read_expansion(words)?),
@@ -197,7 +174,7 @@ fn read_stage<'a>(name: &str, words: &mut Words<'a>) -> Result<Option<AnyStage<'
         "skip" => Stage::Barrier(Barrier::Skip(words.natural(i64::MAX)?)),
         "takewhile" => Stage::Barrier(Barrier::TakeWhile(read_condition(words)?)),
         "dropwhile" => Stage::Barrier(Barrier::DropWhile(read_condition(words)?)),
-        _ => return Ok(None),
+        _ => return Ok(Line::Terminal(read_terminal(version, name, words)?)),
     }))
 }
 
@@ -208,36 +185,22 @@ fn read_terminal<'a>(
     name: &str,
     words: &mut Words<'a>,
 ) -> Result<AnyTerminal<'a>, FileError>
-    ensures { GetsAs terminal_line_content (terminal_names version name.now words.old) result words.new }
+    ensures { GetsAs terminal_content (terminal_names version name.now words.old) result words.new }
 {
-    match name {
-        "sum" => Ok(Terminal::Own(OfKind::OfNumbers(NumberTotal::Sum))),
-        "product" => Ok(Terminal::Own(OfKind::OfNumbers(NumberTotal::Product))),
-        "max" => Ok(Terminal::Own(OfKind::OfNumbers(NumberTotal::Max))),
-        "min" => Ok(Terminal::Own(OfKind::OfNumbers(NumberTotal::Min))),
-        "count" => Ok(Terminal::Count),
-        "findfirst" => Ok(Terminal::FindFirst),
-        "tolist" => Ok(Terminal::ToList),
-        _ => read_asking_terminal(version, name, words),
-    }
-}
-
-/// A terminal that does not stand alone, behind its name.
-#[tactic(auto, unfolding(crate::specs::SyntaxReading::asking_names))]
-fn read_asking_terminal<'a>(
-    version: Version,
-    name: &str,
-    words: &mut Words<'a>,
-) -> Result<AnyTerminal<'a>, FileError>
-    ensures { GetsAs terminal_line_content (asking_names version name.now words.old) result words.new }
-{
-    match name {
-        "allmatch" => Ok(Terminal::AllMatch(read_condition(words)?)),
-        "anymatch" => Ok(Terminal::AnyMatch(read_condition(words)?)),
-        "nonematch" => Ok(Terminal::NoneMatch(read_condition(words)?)),
-        "joining" => Ok(Terminal::Own(OfKind::OfTexts(read_joint(words)?))),
-        _ => read_collecting_terminal(version, name, words),
-    }
+    Ok(match name {
+        "sum" => Terminal::Own(OfKind::OfNumbers(NumberTotal::Sum)),
+        "product" => Terminal::Own(OfKind::OfNumbers(NumberTotal::Product)),
+        "max" => Terminal::Own(OfKind::OfNumbers(NumberTotal::Max)),
+        "min" => Terminal::Own(OfKind::OfNumbers(NumberTotal::Min)),
+        "count" => Terminal::Count,
+        "findfirst" => Terminal::FindFirst,
+        "tolist" => Terminal::ToList,
+        "allmatch" => Terminal::AllMatch(read_condition(words)?),
+        "anymatch" => Terminal::AnyMatch(read_condition(words)?),
+        "nonematch" => Terminal::NoneMatch(read_condition(words)?),
+        "joining" => Terminal::Own(OfKind::OfTexts(read_joint(words)?)),
+        _ => return read_collecting_terminal(version, name, words),
+    })
 }
 
 /// A terminal with a collector or a map, behind its name.
@@ -247,24 +210,20 @@ fn read_collecting_terminal<'a>(
     name: &str,
     words: &mut Words<'a>,
 ) -> Result<AnyTerminal<'a>, FileError>
-    ensures { GetsAs terminal_line_content (collecting_names version name.now words.old) result words.new }
+    ensures { GetsAs terminal_content (collecting_names version name.now words.old) result words.new }
 {
-    match name {
-        "groupby" => Ok(Terminal::GroupBy(read_function(words)?, read_summary(version, words)?)),
-        "partition" => Ok(Terminal::Partition(
-            read_condition(words)?,
-            read_summary(version, words)?,
-        )),
-        "tomap" => Ok(Terminal::ToMap(
-            read_function(words)?,
-            (read_function(words)?, read_merge(words)?),
-        )),
-        "teeing" => Ok(Terminal::Teeing(
-            read_summary(version, words)?,
-            read_summary(version, words)?,
-        )),
-        _ => read_new_terminal(version, name, words),
-    }
+    Ok(match name {
+        "groupby" => Terminal::GroupBy(read_function(words)?, read_summary(version, words)?),
+        "partition" => Terminal::Partition(read_condition(words)?, read_summary(version, words)?),
+        "tomap" => {
+            Terminal::ToMap(
+                read_function(words)?,
+                (read_function(words)?, read_merge(words)?),
+            )
+        }
+        "teeing" => Terminal::Teeing(read_summary(version, words)?, read_summary(version, words)?),
+        _ => return read_new_terminal(version, name, words),
+    })
 }
 
 /// A terminal that the first version has not, behind its name.
@@ -274,7 +233,7 @@ fn read_new_terminal<'a>(
     name: &str,
     words: &mut Words<'a>,
 ) -> Result<AnyTerminal<'a>, FileError>
-    ensures { GetsAs terminal_line_content (new_terminal_names version name.now words.old) result words.new }
+    ensures { GetsAs terminal_content (new_terminal_names version name.now words.old) result words.new }
 {
     match (version, name) {
         (Version::Two, "tomapstrict") => Ok(Terminal::ToMapStrict(

@@ -238,7 +238,8 @@ pub struct TextMerging {
 impl TextMerging {
     pub fn of(merge: TextMerge) -> TextMerging
         ensures merge { result.merge ≡ merge }
-        ensures associative { IsAssociative (λ _. ⊤) (⟦<TextMerging as Operator<&'static str>>⟧.join result) }
+        ensures associative { IsAssociative (λ _. ⊤)
+            (⟦<TextMerging as Operator<&'static str>>⟧.join result) }
     {
         TextMerging { merge }
     }

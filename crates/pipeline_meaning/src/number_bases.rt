@@ -118,7 +118,8 @@ impl Summarizes for NumberBaseCollector {
 /// The collector of a base of numbers.
 pub fn number_base(alloc: Global, base: NumberBase) -> NumberBaseCollector
     ensures ready { ⟦<NumberBaseCollector as Collector>⟧.ready result }
-    ensures summary { (l : List ℤ) → ⟦<NumberBaseCollector as Summarizes>⟧.summary result l ≡ number_base_text base l }
+    ensures summary { (l : List ℤ) → ⟦<NumberBaseCollector as Summarizes>⟧.summary result l
+        ≡ number_base_text base l }
 {
     let chosen = match base {
         NumberBase::Count => Left(Left(Counting::new())),

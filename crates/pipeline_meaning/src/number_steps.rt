@@ -66,9 +66,12 @@ impl NumberSteps {
     /// The stages up to the first barrier, as one stage, and how many they are.
     pub fn front_of(alloc: Global, stages: &[NumberStage]) -> Result<(NumberSteps, usize), NoMemory>
         ensures within { IfOk result (λ r. r.1 ≤ length stages.now) }
-        ensures means { IfOk result (λ r. (l : List ℤ) → flat_map (⟦<NumberSteps as Stage>⟧.expand r.0) l ≡ number_stages (take r.1 stages.now) l) }
-        ensures barrier { IfOk result (λ r. r.1 < length stages.now → HoldsAt (λ stage. IsTrue (is_barrier_stage stage)) stages.now r.1) }
-        ensures size { IfOk result (λ r. IsTrue (list_all is_map_stage (take r.1 stages.now)) → (size : Option ℕ) → ⟦<NumberSteps as Stage>⟧.size_after r.0 size ≡ size) }
+        ensures means { IfOk result (λ r. (l : List ℤ) →
+            flat_map (⟦<NumberSteps as Stage>⟧.expand r.0) l ≡ number_stages (take r.1 stages.now) l) }
+        ensures barrier { IfOk result (λ r. r.1 < length stages.now →
+            HoldsAt (λ stage. IsTrue (is_barrier_stage stage)) stages.now r.1) }
+        ensures size { IfOk result (λ r. IsTrue (list_all is_map_stage (take r.1 stages.now)) →
+            (size : Option ℕ) → ⟦<NumberSteps as Stage>⟧.size_after r.0 size ≡ size) }
     {
         let mut front = NumberSteps {
             alloc,
@@ -85,7 +88,8 @@ impl NumberSteps {
 
     /// Puts a stage behind the others. Says whether it did: it doesn't put a stage that looks at more than one item.
     pub fn put(&mut self, stage: &NumberStage) -> Result<bool, NoMemory>
-        ensures { IfOk result (λ is_put. MatchBool is_put (Follows stage.now self.old self.new) (IsTrue (is_barrier_stage stage.now) × (self.new ≡ self.old))) }
+        ensures { IfOk result (λ is_put. MatchBool is_put (Follows stage.now self.old self.new)
+            (IsTrue (is_barrier_stage stage.now) × (self.new ≡ self.old))) }
     {
         match *stage {
             NumberStage::Map(function) => {

@@ -125,7 +125,8 @@ impl Summarizes for NumberSummaryCollector {
 /// The collector of numbers inside another.
 pub fn number_inner(alloc: Global, inner: NumberInner) -> NumberInnerCollector
     ensures ready { ⟦<NumberInnerCollector as Collector>⟧.ready result }
-    ensures summary { (l : List ℤ) → ⟦<NumberInnerCollector as Summarizes>⟧.summary result l ≡ number_inner_text inner l }
+    ensures summary { (l : List ℤ) → ⟦<NumberInnerCollector as Summarizes>⟧.summary result l
+        ≡ number_inner_text inner l }
 {
     let (step, base) = match inner {
         NumberInner::Base(base) => (Adapting::Nothing, base),
@@ -144,7 +145,8 @@ pub fn number_summary(
     summary: NumberSummary,
 ) -> NumberSummaryCollector
     ensures ready { ⟦<NumberSummaryCollector as Collector>⟧.ready result }
-    ensures summary { (l : List ℤ) → ⟦<NumberSummaryCollector as Summarizes>⟧.summary result l ≡ number_summary_text summary l }
+    ensures summary { (l : List ℤ) → ⟦<NumberSummaryCollector as Summarizes>⟧.summary result l
+        ≡ number_summary_text summary l }
 {
     let (step, inner) = match summary {
         NumberSummary::Base(base) => (Adapting::Nothing, NumberInner::Base(base)),

@@ -116,7 +116,8 @@ impl<'a> Summarizes for TextBaseCollector<'a> {
 /// The collector of a base of texts.
 pub fn text_base<'a>(alloc: Global, base: TextBase<'a>) -> TextBaseCollector<'a>
     ensures ready { ⟦<TextBaseCollector<'a> as Collector>⟧.ready result }
-    ensures summary { (l : List (List ℕ)) → ⟦<TextBaseCollector<'a> as Summarizes>⟧.summary result l ≡ text_base_text base.entry l }
+    ensures summary { (l : List (List ℕ)) → ⟦<TextBaseCollector<'a> as Summarizes>⟧.summary result l
+        ≡ text_base_text base.entry l }
 {
     let chosen = match base {
         TextBase::Count => Left(Left(Counting::new())),

@@ -126,7 +126,8 @@ impl<'a> Summarizes for TextInnerCollector<'a> {
 /// The collector of texts inside another.
 pub fn text_inner<'a>(alloc: Global, inner: TextInner<'a>) -> TextInnerCollector<'a>
     ensures ready { ⟦<TextInnerCollector<'a> as Collector>⟧.ready result }
-    ensures summary { (l : List (List ℕ)) → ⟦<TextInnerCollector<'a> as Summarizes>⟧.summary result l ≡ text_inner_text inner.entry l }
+    ensures summary { (l : List (List ℕ)) → ⟦<TextInnerCollector<'a> as Summarizes>⟧.summary result l
+        ≡ text_inner_text inner.entry l }
 {
     let (step, base) = match inner {
         TextInner::Base(base) | TextInner::Mapping(Mapped::Itself(base)) => (
@@ -146,7 +147,8 @@ pub fn text_inner<'a>(alloc: Global, inner: TextInner<'a>) -> TextInnerCollector
 /// The collector of the lengths of texts.
 pub fn text_lengths<'a>(alloc: Global, inner: NumberInner) -> TextInnerCollector<'a>
     ensures ready { ⟦<TextInnerCollector<'a> as Collector>⟧.ready result }
-    ensures summary { (l : List (List ℕ)) → ⟦<TextInnerCollector<'a> as Summarizes>⟧.summary result l ≡ number_inner_text inner (map text_length l) }
+    ensures summary { (l : List (List ℕ)) → ⟦<TextInnerCollector<'a> as Summarizes>⟧.summary result l
+        ≡ number_inner_text inner (map text_length l) }
 {
     let chosen = Right(MappingTo::new(Length, number_inner(alloc, inner)));
     TextInnerCollector { chosen }

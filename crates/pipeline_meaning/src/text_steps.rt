@@ -66,9 +66,12 @@ impl<'a> TextSteps<'a> {
         stages: &[TextStage<'a>],
     ) -> Result<(TextSteps<'a>, usize), NoMemory>
         ensures within { IfOk result (λ r. r.1 ≤ length stages.now) }
-        ensures means { IfOk result (λ r. (l : List (List ℕ)) → flat_map (⟦<TextSteps<'static> as Stage>⟧.expand r.0) l ≡ text_stages (take r.1 stages.now) l) }
-        ensures barrier { IfOk result (λ r. r.1 < length stages.now → HoldsAt (λ stage. IsTrue (is_barrier_stage stage)) stages.now r.1) }
-        ensures size { IfOk result (λ r. IsTrue (list_all is_map_stage (take r.1 stages.now)) → (size : Option ℕ) → ⟦<TextSteps<'static> as Stage>⟧.size_after r.0 size ≡ size) }
+        ensures means { IfOk result (λ r. (l : List (List ℕ)) →
+            flat_map (⟦<TextSteps<'static> as Stage>⟧.expand r.0) l ≡ text_stages (take r.1 stages.now) l) }
+        ensures barrier { IfOk result (λ r. r.1 < length stages.now →
+            HoldsAt (λ stage. IsTrue (is_barrier_stage stage)) stages.now r.1) }
+        ensures size { IfOk result (λ r. IsTrue (list_all is_map_stage (take r.1 stages.now)) →
+            (size : Option ℕ) → ⟦<TextSteps<'static> as Stage>⟧.size_after r.0 size ≡ size) }
     {
         let mut front = TextSteps {
             steps: Vec::new(alloc),
@@ -83,7 +86,8 @@ impl<'a> TextSteps<'a> {
 
     /// Puts a stage behind the others. Says whether it did: it doesn't put a stage that looks at more than one item.
     pub fn put(&mut self, stage: &TextStage<'a>) -> Result<bool, NoMemory>
-        ensures { IfOk result (λ is_put. MatchBool is_put (Follows stage.now self.old self.new) (IsTrue (is_barrier_stage stage.now) × (self.new ≡ self.old))) }
+        ensures { IfOk result (λ is_put. MatchBool is_put (Follows stage.now self.old self.new)
+            (IsTrue (is_barrier_stage stage.now) × (self.new ≡ self.old))) }
     {
         match TextStep::of(stage) {
             Some(step) => {

@@ -137,7 +137,8 @@ fn text_groups<'a>(
     inner: TextInner<'a>,
 ) -> TextGroups<'a>
     ensures ready { ⟦<TextGroups<'a> as Collector>⟧.ready result }
-    ensures summary { (l : List (List ℕ)) → ⟦<TextGroups<'a> as Summarizes>⟧.summary result l ≡ text_groups_text key (text_inner_text inner.entry) l }
+    ensures summary { (l : List (List ℕ)) → ⟦<TextGroups<'a> as Summarizes>⟧.summary result l
+        ≡ text_groups_text key (text_inner_text inner.entry) l }
 {
     let inner = text_inner(alloc, inner);
     match key {
@@ -153,7 +154,8 @@ pub fn text_summary<'a>(
     summary: TextSummary<'a>,
 ) -> TextSummaryCollector<'a>
     ensures ready { ⟦<TextSummaryCollector<'a> as Collector>⟧.ready result }
-    ensures summary { (l : List (List ℕ)) → ⟦<TextSummaryCollector<'a> as Summarizes>⟧.summary result l ≡ text_summary_text summary.entry l }
+    ensures summary { (l : List (List ℕ)) → ⟦<TextSummaryCollector<'a> as Summarizes>⟧.summary result l
+        ≡ text_summary_text summary.entry l }
 {
     let (step, inner) = match summary {
         TextSummary::Base(base) => (Adapting::Nothing, text_inner(alloc, TextInner::Base(base))),

@@ -3,12 +3,11 @@
 ghost use Rattle.std.specs.Prelude.{◌≡◌, ◌<◌, ◌+◌, ◌-◌, ◌^◌, IfErr, IfOk, OnOk, map, drop, length, Ok, Err};
 ghost use Rattle.file_words.specs.Pieces.{piece_bytes};
 ghost use Rattle.file_words.specs.Words.{lines_of};
-ghost use Rattle.file_words.specs.declared.fault.FileFault.{FileFault};
 ghost use Rattle.pipeline_language.specs.Content.{number_body, program_of, text_body};
-ghost use Rattle.pipeline_language.specs.FileReading.{IfFault, Reads, after_end, body_from, file_of, first_of, first_text, no_more, program_from, texts_from};
+ghost use Rattle.pipeline_language.specs.FileReading.{IfFault, Reads, ReadsMeaning, TellsFault, after_end, body_from, file_of, first_of, first_text, no_more, program_from, texts_from};
 ghost use Rattle.pipeline_language.specs.Kinds.{number_line_content, text_line_content};
 ghost use Rattle.pipeline_language.specs.Language.{HasFault, Means};
-ghost use Rattle.pipeline_language.specs.Syntax.{NumberKind, Program, TextKind, comes};
+ghost use Rattle.pipeline_language.specs.Syntax.{NumberKind, TextKind, comes};
 
 use file_words::{FileError, FileFault, LineError, Lines, Piece, ReadError, first_of_text};
 use pipeline_language::{
@@ -27,8 +26,8 @@ pub fn read_pipeline(alloc: Global, file: &[u8]) -> Result<Pipeline<'_>, ReadErr
     ensures fault { IfErr result (IfFault (HasFault file.now)) }
 
     // What a file means is read, and its fault is told, unless memory runs out.
-    ensures read { (program : Program) → Means file.now program → Reads program_of result (Ok program) }
-    ensures told { (fault : FileFault) → HasFault file.now fault → Reads program_of result (Err fault) }
+    ensures read { ReadsMeaning file.now result }
+    ensures told { TellsFault file.now result }
 {
     read_bytes(alloc, file)
 }

@@ -40,7 +40,8 @@ pub fn write_result<C: Summarizes>(
 ) -> Result<(), NoMemory>
 where
     C::Out: Written,
-    ensures { (l : List C.Item.Content) → C.gives _collector.now l made.now → OnOk result (string_bytes out.new ≡ string_bytes out.old ++ C.summary _collector.now l) }
+    ensures { (l : List C.Item.Content) → C.gives _collector.now l made.now →
+        OnOk result (string_bytes out.new ≡ string_bytes out.old ++ C.summary _collector.now l) }
 {
     made.write_to(out)
 }
@@ -57,7 +58,8 @@ where
     D::Out: Written,
     ensures key { result.key ≡ key }
     ensures downstream { result.downstream ≡ downstream }
-    ensures summary { (l : List D.Item.Content) → ⟦<GroupingBy<K, D, S> as Summarizes>⟧.summary result l ≡ groups_text K.Out.spelling K.Out.same (K.image key) (D.summary downstream) l }
+    ensures summary { (l : List D.Item.Content) → ⟦<GroupingBy<K, D, S> as Summarizes>⟧.summary result l
+        ≡ groups_text K.Out.spelling K.Out.same (K.image key) (D.summary downstream) l }
 {
     GroupingBy::with_hasher(alloc, key, downstream, hashes)
 }
