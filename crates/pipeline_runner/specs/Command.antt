@@ -4,7 +4,7 @@ use Rattle.std.specs.Io.KnownBytes.{Appends}
 use Rattle.file_words.specs.declared.fault.FileFault.{FileFault}
 use Rattle.pipeline_language.specs.Language.{HasFault}
 use Rattle.pipeline_runner.specs.CommandLine.{AsksForHelp, NamesFile}
-use Rattle.pipeline_runner.specs.Run.{OutputOf, RepeatsKey}
+use Rattle.pipeline_runner.specs.Run.{OutputOf}
 
 -- The words name a file, the opener may give an input for that name, and what the input holds, where it is known, has the property.
 pub record OnFile {I : Type 0} (opens : List ℕ → Option I → Type 0) (remaining : I → Option (List ℕ)) (words : List (List ℕ))
@@ -26,7 +26,3 @@ ShowsHelp words old new = AsksForHelp words × ((text : List ℕ) × Appends old
 -- the file has a fault
 abbrev pub IsFaulty : List ℕ → Type 0
 IsFaulty file = (fault : FileFault) × HasFault file fault
-
--- the file's value is a repeated key
-abbrev pub Repeats : List ℕ → Type 0
-Repeats file = (key : List ℕ) × RepeatsKey file key

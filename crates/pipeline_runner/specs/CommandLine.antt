@@ -1,10 +1,10 @@
 -- The command line: the program's arguments, and what the words of a line say.
-use Rattle.std.specs.Prelude.{◌≡◌, ◌≢◌, ℕ, pos, List, [], ◌∷◌, Some, true, is_some, codes}
-use Rattle.std.specs.Str.Parse.{IsNumeral, digits_value, without_leading_plus}
+use Rattle.std.specs.Prelude.{◌≡◌, ◌≢◌, ℕ, pos, List, [], Option, None, Some, true, codes}
+use Rattle.std.specs.Str.Parse.{digits_value, without_leading_plus}
 use Rattle.clap.specs.Kinds.{IsAmong}
 use Rattle.clap.specs.Simple.{on_top}
-use Rattle.clap.specs.Values.{IsSignedIn, IsUnsignedIn}
-use Rattle.clap.specs.Words.{App, Rule, fault_of, first_of, first_value, found_of, matches_of, new_app, new_rule, one_text, with_rule, without_minus}
+use Rattle.clap.specs.Values.{IsUnsignedIn}
+use Rattle.clap.specs.Words.{App, Rule, fault_of, first_of, first_value, found_of, matches_of, new_app, new_rule, with_rule}
 use Rattle.clap.specs.declared.builder.action.ArgAction.TheVariants.{Set}
 use Rattle.clap.specs.declared.builder.value_parser.ValueParser.TheVariants.{Signed, Unsigned}
 use Rattle.clap.specs.declared.error.kind.ErrorKind.{ErrorKind}
@@ -15,23 +15,21 @@ use Rattle.clap.specs.declared.parser.matches.ArgMatches.{ArgMatches}
 abbrev pub file_rule : Rule
 file_rule = record (new_rule (codes "FILE")) { action = Some Set; required = true }
 
--- a number from 1 to 64, which is 4 where none is given
+-- a number from 1 to 64
 abbrev pub workers_rule : Rule
 workers_rule = record (new_rule (codes "workers")) {
   long = Some (codes "workers");
   action = Some Set;
   value_names = 1;
-  defaults = codes "4" ∷ [];
   parser = Some (Signed (pos 1) (pos 64));
 }
 
--- a number from 0 to 2^62, which is 0 where none is given
+-- a number from 0 to 2^62
 abbrev pub target_rule : Rule
 target_rule = record (new_rule (codes "target")) {
   long = Some (codes "target");
   action = Some Set;
   value_names = 1;
-  defaults = codes "0" ∷ [];
   parser = Some (Unsigned 0 4611686018427387904);
 }
 
@@ -58,17 +56,11 @@ pub record NamesFile (words : List (List ℕ)) (name : List ℕ) : Type 0 where
   pub faultless : fault_of program words ≡ []
   pub named : first_of (codes "FILE") (matches_of program words) ≡ Some name
 
--- What a line was read into: a file's name, and two numbers in their ranges.
-pub record IsLine (matches : ArgMatches) : Type 0 where
-  pub file : is_some (first_value (found_of matches) (codes "FILE")) ≡ true
-  pub workers : (text : List ℕ) × (one_text (found_of matches) (codes "workers") ≡ Some (without_minus text)) × IsSignedIn (pos 1) (pos 64) text
-  pub target : (text : List ℕ) × (one_text (found_of matches) (codes "target") ≡ Some text) × IsUnsignedIn 0 4611686018427387904 text
-
--- the file's name is this
+-- the file's name that a line was read with
 abbrev pub HasName : ArgMatches → List ℕ → Type 0
 HasName matches name = first_value (found_of matches) (codes "FILE") ≡ Some name
 
--- the text of the option, which a line gives or is the default, writes this number
-abbrev pub HasNumber : ArgMatches → List ℕ → ℕ → Type 0
-HasNumber matches option number = (text : List ℕ) × (one_text (found_of matches) option ≡ Some text)
-    × IsNumeral 10 (without_leading_plus text) × (number ≡ digits_value 10 (without_leading_plus text))
+-- The number of an option: the default where a line doesn't have the option, and else that of its text, where it lies in the range.
+abbrev pub IsNumberOf : Option (List ℕ) → (default low high : ℕ) → ℕ → Type 0
+IsNumberOf None default low high number = number ≡ default
+IsNumberOf (Some text) default low high number = IsUnsignedIn low high text → number ≡ digits_value 10 (without_leading_plus text)

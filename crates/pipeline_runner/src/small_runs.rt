@@ -6,7 +6,7 @@ ghost use Rattle.pipeline_value.specs.Ranges.{PipelineFits};
 ghost use Rattle.pipeline_runner.specs.Leaves.{source_count};
 
 use crate::runner::Settings;
-use pipeline_language::{NumberBody, NumberStage, Pipeline, TextBody, TextEnd, TextStage};
+use pipeline_language::{Pipeline, Stage, TextBody, TextEnd};
 use pipeline_value::source_size;
 
 /// The most steps of a small run, where a step is an item at a stage or at the terminal. On one worker so many take from 0.4 milliseconds, for
@@ -25,15 +25,12 @@ pub(crate) fn settings_for(pipeline: &Pipeline, wanted: &Settings) -> Settings
     ensures large { 2 ^ 18 < source_count pipeline.now → result ≡ wanted.now }
     ensures leaves { split_target (source_count pipeline.now) result.workers result.target ≡ split_target (source_count pipeline.now) wanted.now.workers wanted.now.target }
 {
-    if wanted.target > 0 {
-        return *wanted;
-    }
-    let Some(items) = small_source(pipeline) else {
-        return *wanted;
-    };
-    Settings {
-        workers: 1,
-        target: (items / (4 * u64::from(wanted.workers))).max(1),
+    match small_source(pipeline) {
+        Some(items) if wanted.target == 0 => Settings {
+            workers: 1,
+            target: (items / (4 * u64::from(wanted.workers))).max(1),
+        },
+        _ => *wanted,
     }
 }
 
@@ -44,41 +41,32 @@ fn small_source(pipeline: &Pipeline) -> Option<u64>
     ensures few { IfSome result (λ items. items ≤ 2 ^ 18) }
 {
     let (items, stages) = match pipeline {
-        Pipeline::Numbers(source, body) => (source_size(source), number_stages(body)?),
+        Pipeline::Numbers(source, body) => (source_size(source), stage_count(&body.stages)?),
         Pipeline::Texts(texts, body) => (texts.len() as u64, text_stages(body)?),
     };
     let steps = items.saturating_mul(stages.saturating_add(1));
-    if steps <= FEW_STEPS {
-        Some(items)
-    } else {
-        None
+    (steps <= FEW_STEPS).then_some(items)
+}
+
+/// The number of the stages over texts, and of those over numbers behind them, where none makes several items of one.
+fn text_stages(body: &TextBody) -> Option<u64> {
+    let stages = stage_count(&body.stages)?;
+    match &body.end {
+        TextEnd::Terminal(_) => Some(stages),
+        TextEnd::Lengths(numbers) => {
+            Some(
+                stages
+                    .saturating_add(1)
+                    .saturating_add(stage_count(&numbers.stages)?),
+            )
+        }
     }
 }
 
 /// The number of the stages, where none makes several items of one.
-fn number_stages(body: &NumberBody) -> Option<u64> {
-    for stage in &body.stages {
-        if let NumberStage::FlatMap(_) = stage {
-            return None;
-        }
-    }
-    Some(body.stages.len() as u64)
-}
-
-/// The same of texts, and of the numbers behind them.
-fn text_stages(body: &TextBody) -> Option<u64> {
-    for stage in &body.stages {
-        if let TextStage::FlatMap(_) = stage {
-            return None;
-        }
-    }
-    let stages = body.stages.len() as u64;
-    match &body.end {
-        TextEnd::Terminal(_) => Some(stages),
-        TextEnd::Lengths(numbers) => Some(
-            stages
-                .saturating_add(1)
-                .saturating_add(number_stages(numbers)?),
-        ),
-    }
+fn stage_count<F, P, E>(stages: &[Stage<F, P, E>]) -> Option<u64> {
+    let has_repeat = stages
+        .iter()
+        .any(|stage| matches!(stage, Stage::FlatMap(_)));
+    (!has_repeat).then_some(stages.len() as u64)
 }

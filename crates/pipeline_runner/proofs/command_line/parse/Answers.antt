@@ -1,33 +1,19 @@
-use Rattle.std.proofs.Common.{◌≡◌, ◌∙◌, ap, map, refl, rules, subst}
+use Rattle.std.proofs.Common.{◌≡◌, ◌∙◌, ap, ap₂, map, refl, subst, true}
 use Rattle.std.proofs.lemmas.Result.{IfOk-weaker}
-use Rattle.clap.specs.Simple.{app_of}
-use Rattle.clap.specs.Words.{FailsBy, fault_of, is_simple, matches_of}
-use Rattle.clap.specs.Faults.{is_simple_and_free}
+use Rattle.clap.specs.Simple.{app_of_fields, on_top}
+use Rattle.clap.specs.Words.{FailsBy, app_of, fault_of, is_simple, is_simple_and_free, matches_of, with_rule}
 use Rattle.pipeline_runner.specs.CommandLine.{bare_program, program}
-use Rattle.pipeline_runner.proofs.DefaultLemmas.{bare_made, program_line, program_made}
 use Rattle.pipeline_runner.proofs.command_line.parse.Goals as goal
 
-pub returns-clause-line : goal.returns-clause-line
-returns-clause-line g c =
-    IfOk-weaker c.try_get_matches_from.result _ _
-    (λ m parsed. program_line c.no_binary_name.result c.in_ok-arg.field-0 c.in_ok-arg-2.field-0 c.in_ok-arg-3.field-0 c.file.result c.workers.result c.target.result m
-    c.in_ok-arg.ensures c.in_ok-arg-2.ensures c.in_ok-arg-3.ensures (search rules) (search rules) (search rules) (search rules)
-    c.file.ensures c.workers.ensures c.target.ensures parsed)
-    c.try_get_matches_from.ensures.parsed
-
-pub returns-clause-found : goal.returns-clause-found
-returns-clause-found g c =
-    let bare : app_of c.no_binary_name.result ≡ bare_program = bare_made c.new.result c.about.result c.after_help.result c.no_binary_name.result _ _ c.new.ensures.app c.about.ensures c.after_help.ensures c.no_binary_name.ensures in
-    let made : app_of c.in_ok-arg-3.field-0 ≡ program = program_made c.no_binary_name.result c.in_ok-arg.field-0 c.in_ok-arg-2.field-0 c.in_ok-arg-3.field-0 c.file.result c.workers.result c.target.result
-    c.in_ok-arg.ensures c.in_ok-arg-2.ensures c.in_ok-arg-3.ensures bare c.file.ensures c.workers.ensures c.target.ensures in
-    IfOk-weaker c.try_get_matches_from.result _ _
-    (λ m has. (has (ap is_simple made ∙ refl)).0 ∙ ap (λ a. matches_of a (map g.S.AsStr.text c.args.words.now)) made)
-    c.try_get_matches_from.ensures.matches
-
-pub returns-clause-fails : goal.returns-clause-fails
-returns-clause-fails g c =
-    let bare : app_of c.no_binary_name.result ≡ bare_program = bare_made c.new.result c.about.result c.after_help.result c.no_binary_name.result _ _ c.new.ensures.app c.about.ensures c.after_help.ensures c.no_binary_name.ensures in
-    let made : app_of c.in_ok-arg-3.field-0 ≡ program = program_made c.no_binary_name.result c.in_ok-arg.field-0 c.in_ok-arg-2.field-0 c.in_ok-arg-3.field-0 c.file.result c.workers.result c.target.result
-    c.in_ok-arg.ensures c.in_ok-arg-2.ensures c.in_ok-arg-3.ensures bare c.file.ensures c.workers.ensures c.target.ensures in
-    subst (λ a. FailsBy (fault_of a (map g.S.AsStr.text c.args.words.now)) c.try_get_matches_from.result) made
-    (c.try_get_matches_from.ensures.kinds (ap is_simple_and_free made ∙ refl))
+pub returns : goal.returns
+returns g c =
+    let words = map g.S.AsStr.text c.args.words.now in
+    let bare : app_of c.no_binary_name.result ≡ bare_program =
+    ap app_of_fields c.no_binary_name.ensures ∙ ap (on_top (λ s. record s { no_binary_name = true })) (ap app_of_fields c.after_help.ensures ∙ ap app_of_fields c.about.ensures ∙ c.new.ensures.app) in
+    let first = c.in_ok-arg.ensures.shape c.file.ensures.local ∙ ap₂ with_rule bare c.file.ensures.rule in
+    let second = c.in_ok-arg-2.ensures.shape c.workers.ensures.local ∙ ap₂ with_rule first c.workers.ensures.rule in
+    let made : app_of c.in_ok-arg-3.field-0 ≡ program = c.in_ok-arg-3.ensures.shape c.target.ensures.local ∙ ap₂ with_rule second c.target.ensures.rule in
+    record {
+      found = IfOk-weaker c.try_get_matches_from.result _ _ (λ m has. (has (ap is_simple made ∙ refl)).0 ∙ ap (λ a. matches_of a words) made) c.try_get_matches_from.ensures.matches;
+      fails = subst (λ a. FailsBy (fault_of a words) c.try_get_matches_from.result) made (c.try_get_matches_from.ensures.kinds (ap is_simple_and_free made ∙ refl));
+    }

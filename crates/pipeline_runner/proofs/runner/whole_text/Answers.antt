@@ -1,7 +1,7 @@
 use Rattle.std.proofs.lemmas.Result.{err_from_is_err_and}
 use Rattle.std.proofs.Common.{◌∙◌}
 use Rattle.pipeline_value.specs.FitLaws.{fits}
-use Rattle.pipeline_runner.proofs.RunLemmas.{value_passed_on}
+use Rattle.pipeline_runner.proofs.RunLemmas.{value_told}
 use Rattle.pipeline_runner.proofs.runner.whole_text.Goals as goal
 
 pub pipeline_value-requires-clause-fits : goal.pipeline_value-requires-clause-fits
@@ -13,7 +13,7 @@ settings_for-workers-requires-clause-fits g c = fits c.args.file.now c.in_ok-pip
 pub returns-in_err-text-clause-errors : goal.returns-in_err-text-clause-errors
 returns-in_err-text-clause-errors g c =
     let p = err_from_is_err_and c.from_residual-in_err-text.result c.from_residual-in_err-text.ensures.1 in
-    value_passed_on c.args.file.now c.in_ok-pipeline.pipeline c.in_err-text.field-0.0 _ c.from_residual-in_err-text.result c.in_ok-pipeline.ensures.meaning c.in_err-text.ensures p.2 p.1
+    rw (p.1, p.2) (value_told c.args.file.now c.in_ok-pipeline.pipeline c.in_err-text.field-0.0 c.in_ok-pipeline.ensures.meaning c.in_err-text.ensures)
 
 pub returns-clause-text : goal.returns-clause-text
 returns-clause-text g c = (c.in_ok-pipeline.pipeline, c.in_ok-text.text, c.in_ok-pipeline.ensures.meaning, c.in_ok-text.ensures, c.in_ok-into_segments.ensures ∙ c.in_ok-push_str.ensures)
