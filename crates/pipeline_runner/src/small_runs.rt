@@ -23,7 +23,8 @@ pub(crate) fn settings_for(pipeline: &Pipeline, wanted: &Settings) -> Settings
     ensures target { result.target ≤ 2 ^ 62 }
     ensures chosen { wanted.now.target ≢ 0 → result ≡ wanted.now }
     ensures large { 2 ^ 18 < source_count pipeline.now → result ≡ wanted.now }
-    ensures leaves { split_target (source_count pipeline.now) result.workers result.target ≡ split_target (source_count pipeline.now) wanted.now.workers wanted.now.target }
+    ensures leaves { split_target (source_count pipeline.now) result.workers result.target
+        ≡ split_target (source_count pipeline.now) wanted.now.workers wanted.now.target }
 {
     match small_source(pipeline) {
         Some(items) if wanted.target == 0 => Settings {
@@ -50,17 +51,11 @@ fn small_source(pipeline: &Pipeline) -> Option<u64>
 
 /// The number of the stages over texts, and of those over numbers behind them, where none makes several items of one.
 fn text_stages(body: &TextBody) -> Option<u64> {
-    let stages = stage_count(&body.stages)?;
-    match &body.end {
-        TextEnd::Terminal(_) => Some(stages),
-        TextEnd::Lengths(numbers) => {
-            Some(
-                stages
-                    .saturating_add(1)
-                    .saturating_add(stage_count(&numbers.stages)?),
-            )
-        }
-    }
+    let behind = match &body.end {
+        TextEnd::Terminal(_) => 0,
+        TextEnd::Lengths(numbers) => stage_count(&numbers.stages)?.saturating_add(1),
+    };
+    Some(stage_count(&body.stages)?.saturating_add(behind))
 }
 
 /// The number of the stages, where none makes several items of one.
