@@ -78,6 +78,24 @@ fn keep_each<T: Value + Drop, C: Collector<Item = T>>(
     collector.accumulate_all_owned(&mut portion.kept, items)
 }
 
+/// Keeps what a block of items that is lent comes to.
+fn keep_lent<T: Value + Drop, C: Collector<Item = T>>(
+    collector: &C,
+    portion: &mut Portion<C::Acc>,
+    items: &[T],
+    counting: u64,
+) -> Result<(), NoMemory>
+    requires collector { C.ready collector.now }
+    requires room { portion.old.count + counting < 2 ^ 64 }
+    ensures values { All T.is_value (map T.content items.now) }
+    ensures content { OnOk result (C.content collector.now portion.new.kept ≡ fold (C.add collector.now) (C.content collector.now portion.old.kept) (map T.content items.now)) }
+    ensures count { portion.new.count ≡ portion.old.count + counting }
+{
+    are_values(items);
+    portion.count += counting;
+    collector.accumulate_all(&mut portion.kept, items)
+}
+
 /// A container with its demand, which takes items until they are enough.
 #[derive(Drop)]
 pub(crate) struct Keeper<'a, D, C, A> {
@@ -122,6 +140,16 @@ impl<T: Value + Drop, D: Demand<T>, C: Collector<Item = T>> Sink<T> for Keeper<'
         items.truncate(taken);
         keep_each(self.collector, &mut self.portion, items, counting)?;
         Ok(())
+    }
+
+    fn take_lent(&mut self, items: &[T]) -> Result<bool, NoMemory> {
+        if is_enough(self.need, self.portion.count) {
+            return Ok(true);
+        }
+        let (taken, counting) = front_of(self.demand, self.need, self.portion.count, items);
+        let (front, _) = items.split_at(taken);
+        keep_lent(self.collector, &mut self.portion, front, counting)?;
+        Ok(true)
     }
 
     fn is_full(&self) -> bool {

@@ -1,5 +1,5 @@
 //! A leaf's items go to a sink, a stretch at a time.
-ghost use Rattle.std.specs.Prelude.{◌<◌, flat_map, length, MatchBool, OnOk, IfOk};
+ghost use Rattle.std.specs.Prelude.{◌≡◌, ◌<◌, flat_map, length, MatchBool, OnOk, IfOk, IfNone, IfSome};
 ghost use Rattle.leaf_board.specs.Statuses.{SameFrom, StaysSeat};
 ghost use Rattle.leaf_reading.specs.Stretches.{TakesOn};
 
@@ -192,6 +192,33 @@ fn feed_growing<S: Spliterator, G: Stage<In = S::Item>, K: Sink<G::Out>>(
     }
 }
 
+/// Feeds a block of a source's items to a sink where they lie, and says whether more may make a difference: nothing where the source, the
+/// stage or the sink can't do so, and then all is as it was.
+fn feed_lent<S: Spliterator, G: Stage<In = S::Item>, K: Sink<G::Out>>(
+    stage: &G,
+    source: &mut S,
+    sink: &mut K,
+) -> Result<Option<bool>, NoMemory>
+    requires sink { K.ready sink.old }
+    ensures same { IfOk result (λ fed. IfNone fed ((source.new ≡ source.old) × (sink.new ≡ sink.old))) }
+    ensures taken { IfOk result (λ fed. IfSome fed (λ _. TakesOn K.takes (flat_map (G.expand stage.now)) (S.items source.old) sink.old (S.items source.new) sink.new)) }
+    ensures ready { OnOk result (K.ready sink.new) }
+    ensures more { IfOk result (λ fed. IfSome fed (λ more. MatchBool more (length (S.items source.new) < length (S.items source.old)) (K.takes sink.new (flat_map (G.expand stage.now) (S.items source.new)) sink.new))) }
+{
+    let Some((items, rest)) = source.lent_block(STRETCH as usize) else {
+        return Ok(None);
+    };
+    let Some(images) = stage.lent_block(items) else {
+        return Ok(None);
+    };
+    if !sink.take_lent(images)? {
+        return Ok(None);
+    }
+    let is_more = !items.is_empty();
+    *source = rest;
+    Ok(Some(is_more))
+}
+
 /// Feeds a stretch of what the source covers to a sink, as the stage prefers it. Says whether more may make a difference.
 fn feed_stretch<S: Spliterator, G: Stage<In = S::Item>, K: Sink<G::Out>>(
     stage: &G,
@@ -206,6 +233,9 @@ fn feed_stretch<S: Spliterator, G: Stage<In = S::Item>, K: Sink<G::Out>>(
     ensures ready { OnOk result (K.ready sink.new) }
     ensures more { IfOk result (λ more. MatchBool more (length (S.items source.new) < length (S.items source.old)) (K.takes sink.new (flat_map (G.expand stage.now) (S.items source.new)) sink.new)) }
 {
+    if let Some(more) = feed_lent(stage, source, sink)? {
+        return Ok(more);
+    }
     if !stage.prefers_blocks() {
         feed_items(stage, source, sink)
     } else if is_first {

@@ -80,6 +80,11 @@ impl<'a, T: OrderedValue + Clone> Spliterator for SliceSplit<'a, T> {
         Ok(())
     }
 
+    fn lent_block(&self, most: usize) -> Option<(&[T], SliceSplit<'a, T>)> {
+        let (block, rest) = self.items.split_at(most.min(self.items.len()));
+        Some((block, SliceSplit { items: rest }))
+    }
+
     fn try_split(&mut self) -> Option<SliceSplit<'a, T>> {
         let half = self.items.len() / 2;
         if half == 0 {

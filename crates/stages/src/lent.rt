@@ -77,6 +77,10 @@ impl<A: Stage> Stage for &A {
         (**self).feed_all(items, sink)
     }
 
+    fn lent_block<'a>(&self, items: &'a [A::In]) -> Option<&'a [A::Out]> {
+        (**self).lent_block(items)
+    }
+
     fn operation(&self) -> Operation {
         (**self).operation()
     }

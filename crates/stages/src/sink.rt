@@ -1,5 +1,5 @@
 //! Where a stage's items go, one after another.
-ghost use Rattle.std.specs.Prelude.{◌≡◌, List, [], ◌∷◌, ◌++◌, IsTrue, OnOk, OnErr, flat_map, map, refl, ⊤};
+ghost use Rattle.std.specs.Prelude.{◌≡◌, List, [], ◌∷◌, ◌++◌, IsTrue, IfOk, MatchBool, OnOk, OnErr, flat_map, map, refl, ⊤};
 ghost use Rattle.std.proofs.Common.{◌∙◌, sym, subst, append-nil};
 ghost use Rattle.stages.specs.Appends.{Appends, Grows, append-none, append-append, grows-later};
 ghost use Rattle.stages.specs.Passing.{passes-both};
@@ -40,6 +40,15 @@ pub trait Sink<T: Value> {
             self.take(item)?;
         }
         Ok(())
+    }
+
+    /// Takes a block of items, in order, where they lie, and says whether it did: a sink that has to own what it takes doesn't.
+    fn take_lent(&mut self, _items: &[T]) -> Result<bool, NoMemory>
+        requires { ready self.old }
+        ensures taken { IfOk result (λ took. MatchBool took (takes self.old (map T.content _items.now) self.new) (self.new ≡ self.old)) }
+        ensures spoilt { OnErr result (spoils self.old self.new) }
+    {
+        Ok(false)
     }
 
     /// Whether no item makes a difference any more.

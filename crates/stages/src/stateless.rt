@@ -215,6 +215,10 @@ impl<T: OrderedValue + Drop> Stage for Nothing<T> {
         sink.take_all(items)
     }
 
+    fn lent_block<'a>(&self, items: &'a [T]) -> Option<&'a [T]> {
+        Some(items)
+    }
+
     fn operation(&self) -> Operation {
         Operation::Map
     }
