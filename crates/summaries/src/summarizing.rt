@@ -1,5 +1,5 @@
 //! Count, sum, least and greatest in one pass.
-ghost use Rattle.std.specs.Prelude.{◌≡◌, Some, map};
+ghost use Rattle.std.specs.Prelude.{◌≡◌, ◌++◌, IfOk, Some, fold, length, map};
 ghost use Rattle.std.specs.Int.{int_min, int_max};
 ghost use Rattle.stages.specs.Wrapping.{wrapped_sum};
 ghost use Rattle.collectors.specs.Reductions.{reduce_add, reduce_merge};
@@ -177,6 +177,41 @@ impl<T: Value, M: Mapping<T, Out = i64>> Summarizing<T, M> {
             items: PhantomData,
         }
     }
+
+    /// What is told when the items of two lists of one length have come, one list behind the other.
+    ///
+    /// They are read side by side, so that no step waits for the one before it.
+    fn with_halves(&self, before: Summary, front: &[T], back: &[T]) -> Result<Summary, NoMemory>
+        requires ready { M.ready self.now.number }
+        requires alike { length front.now ≡ length back.now }
+        ensures told { IfOk result (λ s. told s ≡ fold (add_facts (M.image self.now.number)) (told before) (map T.content front.now ++ map T.content back.now)) }
+    {
+        let Some((first, front)) = front.split_first() else {
+            return Ok(before);
+        };
+        let Some((middle, back)) = back.split_first() else {
+            return Ok(before);
+        };
+        let mut early = before.with(self.number.image(first)?);
+        let mut late = Summary::of_none().with(self.number.image(middle)?);
+        for at in 0..front.len() {
+            early = early.with(self.number.image(&front[at])?);
+            late = late.with(self.number.image(&back[at])?);
+        }
+        Ok(early.summary().and(&late.summary()))
+    }
+
+    /// What is told when further items have come, one by one.
+    fn with_last(&self, before: Summary, items: &[T]) -> Result<Summary, NoMemory>
+        requires ready { M.ready self.now.number }
+        ensures told { IfOk result (λ s. told s ≡ fold (add_facts (M.image self.now.number)) (told before) (map T.content items.now)) }
+    {
+        let mut summary = before;
+        for item in items {
+            summary = summary.with(self.number.image(item)?).summary();
+        }
+        Ok(summary)
+    }
 }
 
 impl<T: Value, M: Mapping<T, Out = i64>> Collector for Summarizing<T, M> {
@@ -211,16 +246,11 @@ impl<T: Value, M: Mapping<T, Out = i64>> Collector for Summarizing<T, M> {
         Ok(())
     }
 
-    // What is told so far stays out of the container.
     fn accumulate_all(&self, acc: &mut Summary, items: &[T]) -> Result<(), NoMemory> {
-        let Some((first, rest)) = items.split_first() else {
-            return Ok(());
-        };
-        let mut told = acc.with(self.number.image(first)?);
-        for item in rest {
-            told = told.with(self.number.image(item)?);
-        }
-        *acc = told.summary();
+        let (front, rest) = items.split_at(items.len() / 2);
+        let (back, last) = rest.split_at(front.len());
+        let both = self.with_halves(*acc, front, back)?;
+        *acc = self.with_last(both, last)?;
         Ok(())
     }
 
