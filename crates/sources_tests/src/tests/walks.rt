@@ -139,6 +139,40 @@ fn numbers_are_read_in_five_ways(rt: HostRuntime) -> Result<(), NoMemory> {
     Ok(())
 }
 
+/// Whether a source lends these items, in blocks of at most so many, and then none.
+fn lends<S: Spliterator>(split: S, most: usize, expected: &[S::Item]) -> bool {
+    let (mut split, mut left) = (split, expected);
+    for _ in 0..expected.len() {
+        let Some((block, rest)) = split.lent_block(most) else {
+            return false;
+        };
+        let (front, behind) = left.split_at(block.len().min(left.len()));
+        if block != front {
+            return false;
+        }
+        (split, left) = (rest, behind);
+    }
+    left.is_empty() && matches!(split.lent_block(most), Some(([], _)))
+}
+
+/// Checks two slices, one after the other, that lend their items, in blocks of 1, of 2 and of as many as a number can tell.
+fn check_lent(rt: &impl Abort, first: &[i64], second: &[i64], both: &[i64]) {
+    for most in [1, 2, usize::MAX] {
+        let (first_split, second_split) = (SliceSplit::new(first), SliceSplit::new(second));
+        check_row(rt, 0, lends(first_split, most, first));
+        check_row(rt, 1, lends(Concat::new(first_split, second_split), most, both));
+    }
+}
+
+#[test]
+fn slices_lend_their_items(rt: HostRuntime) {
+    check_lent(&rt, &[4, 5, 6], &[7, 8], &[4, 5, 6, 7, 8]);
+    check_lent(&rt, &[], &[7, 8], &[7, 8]);
+    check_lent(&rt, &[4], &[], &[4]);
+    let range = RangeSplit::range(0, 4).expect(&rt, "a range");
+    check_row(&rt, 2, !lends(range, 2, &[0, 1, 2, 3]));
+}
+
 /// Texts and their lines.
 static LINES: [(&str, &[&str]); 7] = [
     ("", &[]),
