@@ -23,7 +23,8 @@ pub fn accumulate_item<C: Collector>(
     x: &C::Item,
 ) -> Result<(), NoMemory>
     requires { C.ready collector.now }
-    ensures { let made = IsContainerOf C.Item.is_value (C.content collector.now) (C.empty collector.now) (C.add collector.now) in (l : List C.Item.Content) → made l acc.old → OnOk result (made (l ++ C.Item.content x.now ∷ []) acc.new) }
+    ensures { let made = IsContainerOf C.Item.is_value (C.content collector.now) (C.empty collector.now) (C.add collector.now) in
+        (l : List C.Item.Content) → made l acc.old → OnOk result (made (l ++ C.Item.content x.now ∷ []) acc.new) }
 {
     let _value = x.is_value();
     collector.accumulate(acc, x)
@@ -36,7 +37,8 @@ pub fn accumulate_items<C: Collector>(
     items: &[C::Item],
 ) -> Result<(), NoMemory>
     requires { C.ready collector.now }
-    ensures { let made = IsContainerOf C.Item.is_value (C.content collector.now) (C.empty collector.now) (C.add collector.now) in (l : List C.Item.Content) → made l acc.old → OnOk result (made (l ++ map C.Item.content items.now) acc.new) }
+    ensures { let made = IsContainerOf C.Item.is_value (C.content collector.now) (C.empty collector.now) (C.add collector.now) in
+        (l : List C.Item.Content) → made l acc.old → OnOk result (made (l ++ map C.Item.content items.now) acc.new) }
 {
     for x in items {
         accumulate_item(collector, acc, x)?;
@@ -51,7 +53,8 @@ pub fn combine_containers<C: Collector>(
     right: C::Acc,
 ) -> Result<(), NoMemory>
     requires { C.ready collector.now }
-    ensures { let made = IsContainerOf C.Item.is_value (C.content collector.now) (C.empty collector.now) (C.add collector.now) in (l r : List C.Item.Content) → made l left.old → made r right → OnOk result (made (l ++ r) left.new) }
+    ensures { let made = IsContainerOf C.Item.is_value (C.content collector.now) (C.empty collector.now) (C.add collector.now) in
+        (l r : List C.Item.Content) → made l left.old → made r right → OnOk result (made (l ++ r) left.new) }
 {
     collector.combine(left, right)
 }
