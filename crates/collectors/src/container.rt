@@ -62,7 +62,8 @@ pub fn combine_containers<C: Collector>(
 /// The result on the list whose container this is.
 pub fn finish_container<C: Collector>(collector: &C, acc: C::Acc) -> Result<C::Out, NoMemory>
     requires { C.ready collector.now }
-    ensures { (l : List C.Item.Content) → IsContainerOf C.Item.is_value (C.content collector.now) (C.empty collector.now) (C.add collector.now) l acc → IfOk result (C.gives collector.now l) }
+    ensures { let made = IsContainerOf C.Item.is_value (C.content collector.now) (C.empty collector.now) (C.add collector.now) in
+        (l : List C.Item.Content) → made l acc → IfOk result (C.gives collector.now l) }
 {
     collector.finish(acc)
 }
@@ -70,7 +71,8 @@ pub fn finish_container<C: Collector>(collector: &C, acc: C::Acc) -> Result<C::O
 /// The container of the items of a slice.
 pub fn fold_items<C: Collector>(collector: &C, items: &[C::Item]) -> Result<C::Acc, NoMemory>
     requires { C.ready collector.now }
-    ensures { IfOk result (IsContainerOf C.Item.is_value (C.content collector.now) (C.empty collector.now) (C.add collector.now) (map C.Item.content items.now)) }
+    ensures { let made = IsContainerOf C.Item.is_value (C.content collector.now) (C.empty collector.now) (C.add collector.now) in
+        IfOk result (made (map C.Item.content items.now)) }
 {
     let mut acc = new_container(collector)?;
     accumulate_items(collector, &mut acc, items)?;
@@ -82,7 +84,8 @@ pub fn fold_owned<C: Collector>(collector: &C, mut items: Vec<C::Item>) -> Resul
 where
     C::Item: Drop,
     requires { C.ready collector.now }
-    ensures { IfOk result (IsContainerOf C.Item.is_value (C.content collector.now) (C.empty collector.now) (C.add collector.now) (map C.Item.content items.items)) }
+    ensures { let made = IsContainerOf C.Item.is_value (C.content collector.now) (C.empty collector.now) (C.add collector.now) in
+        IfOk result (made (map C.Item.content items.items)) }
 {
     are_values(items.as_slice());
     let mut acc = collector.supply()?;

@@ -196,7 +196,8 @@ where
 
     ghost gives = { λ c l m. IsGrouping K.Out.content K.Out.same (K.image c.key) (D.gives c.downstream) l m.entries };
 
-    ghost laws = { λ c. grouping_laws K.Out.same K.Out.same_decides (K.image c.key) D.Item.is_value (D.empty c.downstream) (D.add c.downstream) (D.merge c.downstream) (D.laws c.downstream) };
+    ghost laws = { λ c. let laws = grouping_laws K.Out.same K.Out.same_decides (K.image c.key) D.Item.is_value in
+        laws (D.empty c.downstream) (D.add c.downstream) (D.merge c.downstream) (D.laws c.downstream) };
 
     fn supply(&self) -> Result<Groups<K::Out, D::Acc, S>, NoMemory> {
         Ok(Groups::new(self.alloc, self.hash_builder))
