@@ -99,7 +99,8 @@ pub trait Collector {
     /// The result.
     fn finish(&self, acc: Self::Acc) -> Result<Self::Out, NoMemory>
         requires { ready self.now }
-        ensures { (l : List Self.Item.Content) → All Self.Item.is_value l → content self.now acc ≡ fold (add self.now) (empty self.now) l → IfOk result (gives self.now l) };
+        ensures { (l : List Self.Item.Content) → All Self.Item.is_value l
+            → content self.now acc ≡ fold (add self.now) (empty self.now) l → IfOk result (gives self.now l) };
 
     /// Whether a combination takes the container in about as fast as some items, and sooner than a thread starts. No result depends on it.
     fn is_light(&self, _acc: &Self::Acc) -> bool {

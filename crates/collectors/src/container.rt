@@ -23,7 +23,8 @@ pub fn accumulate_item<C: Collector>(
     x: &C::Item,
 ) -> Result<(), NoMemory>
     requires { C.ready collector.now }
-    ensures { let made = IsContainerOf C.Item.is_value (C.content collector.now) (C.empty collector.now) (C.add collector.now) in (l : List C.Item.Content) → made l acc.old → OnOk result (made (l ++ C.Item.content x.now ∷ []) acc.new) }
+    ensures { let made = IsContainerOf C.Item.is_value (C.content collector.now) (C.empty collector.now) (C.add collector.now) in
+        (l : List C.Item.Content) → made l acc.old → OnOk result (made (l ++ C.Item.content x.now ∷ []) acc.new) }
 {
     let _value = x.is_value();
     collector.accumulate(acc, x)
@@ -36,7 +37,8 @@ pub fn accumulate_items<C: Collector>(
     items: &[C::Item],
 ) -> Result<(), NoMemory>
     requires { C.ready collector.now }
-    ensures { let made = IsContainerOf C.Item.is_value (C.content collector.now) (C.empty collector.now) (C.add collector.now) in (l : List C.Item.Content) → made l acc.old → OnOk result (made (l ++ map C.Item.content items.now) acc.new) }
+    ensures { let made = IsContainerOf C.Item.is_value (C.content collector.now) (C.empty collector.now) (C.add collector.now) in
+        (l : List C.Item.Content) → made l acc.old → OnOk result (made (l ++ map C.Item.content items.now) acc.new) }
 {
     for x in items {
         accumulate_item(collector, acc, x)?;
@@ -51,7 +53,8 @@ pub fn combine_containers<C: Collector>(
     right: C::Acc,
 ) -> Result<(), NoMemory>
     requires { C.ready collector.now }
-    ensures { let made = IsContainerOf C.Item.is_value (C.content collector.now) (C.empty collector.now) (C.add collector.now) in (l r : List C.Item.Content) → made l left.old → made r right → OnOk result (made (l ++ r) left.new) }
+    ensures { let made = IsContainerOf C.Item.is_value (C.content collector.now) (C.empty collector.now) (C.add collector.now) in
+        (l r : List C.Item.Content) → made l left.old → made r right → OnOk result (made (l ++ r) left.new) }
 {
     collector.combine(left, right)
 }
@@ -59,7 +62,8 @@ pub fn combine_containers<C: Collector>(
 /// The result on the list whose container this is.
 pub fn finish_container<C: Collector>(collector: &C, acc: C::Acc) -> Result<C::Out, NoMemory>
     requires { C.ready collector.now }
-    ensures { (l : List C.Item.Content) → IsContainerOf C.Item.is_value (C.content collector.now) (C.empty collector.now) (C.add collector.now) l acc → IfOk result (C.gives collector.now l) }
+    ensures { let made = IsContainerOf C.Item.is_value (C.content collector.now) (C.empty collector.now) (C.add collector.now) in
+        (l : List C.Item.Content) → made l acc → IfOk result (C.gives collector.now l) }
 {
     collector.finish(acc)
 }
@@ -67,7 +71,8 @@ pub fn finish_container<C: Collector>(collector: &C, acc: C::Acc) -> Result<C::O
 /// The container of the items of a slice.
 pub fn fold_items<C: Collector>(collector: &C, items: &[C::Item]) -> Result<C::Acc, NoMemory>
     requires { C.ready collector.now }
-    ensures { IfOk result (IsContainerOf C.Item.is_value (C.content collector.now) (C.empty collector.now) (C.add collector.now) (map C.Item.content items.now)) }
+    ensures { let made = IsContainerOf C.Item.is_value (C.content collector.now) (C.empty collector.now) (C.add collector.now) in
+        IfOk result (made (map C.Item.content items.now)) }
 {
     let mut acc = new_container(collector)?;
     accumulate_items(collector, &mut acc, items)?;
@@ -79,7 +84,8 @@ pub fn fold_owned<C: Collector>(collector: &C, mut items: Vec<C::Item>) -> Resul
 where
     C::Item: Drop,
     requires { C.ready collector.now }
-    ensures { IfOk result (IsContainerOf C.Item.is_value (C.content collector.now) (C.empty collector.now) (C.add collector.now) (map C.Item.content items.items)) }
+    ensures { let made = IsContainerOf C.Item.is_value (C.content collector.now) (C.empty collector.now) (C.add collector.now) in
+        IfOk result (made (map C.Item.content items.items)) }
 {
     are_values(items.as_slice());
     let mut acc = collector.supply()?;

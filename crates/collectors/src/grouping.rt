@@ -2,7 +2,7 @@
 ghost use Rattle.std.specs.Prelude.{◌≡◌, List, [], None, OnOk, IfOk, fold};
 ghost use Rattle.std.specs.List.{AllZip};
 ghost use Rattle.indexmap.specs.IndexMap.{index_of, insert_entry};
-ghost use Rattle.collectors.specs.Grouping.{group_add, merge_entry, group_merge, put, contents, IsGrouping, HasResult};
+ghost use Rattle.collectors.specs.Grouping.{add_for_key, group_add, merge_entry, group_merge, contents, IsGrouping, HasResult};
 ghost use Rattle.collectors.specs.GroupingLaws.{grouping_laws};
 
 use crate::Collector;
@@ -66,7 +66,10 @@ fn add_group<K: Value + Hash + Drop, D: Collector, S: BuildHasher>(
 ) -> Result<(), NoMemory>
     requires ready { D.ready downstream.now }
     requires absent { index_of K.eq groups.now.entries key ≡ None }
-    ensures { OnOk result (contents K.content (D.content downstream.now) groups.new.entries.entries ≡ put K.same (K.content key) (D.add downstream.now (D.empty downstream.now) (D.Item.content x.now)) (λ a. D.add downstream.now a (D.Item.content x.now)) (contents K.content (D.content downstream.now) groups.old.entries.entries)) }
+    ensures { let d = downstream.now in
+        let seen = contents K.content (D.content d) in
+        let added = add_for_key K.same (K.content key) (D.empty d) (D.add d) (seen groups.old.entries.entries) in
+        OnOk result (seen groups.new.entries.entries ≡ added (D.Item.content x.now)) }
 {
     let kept = first_kept(downstream, x)?;
     groups.push(key, kept)
@@ -193,7 +196,8 @@ where
 
     ghost gives = { λ c l m. IsGrouping K.Out.content K.Out.same (K.image c.key) (D.gives c.downstream) l m.entries };
 
-    ghost laws = { λ c. grouping_laws K.Out.same K.Out.same_decides (K.image c.key) D.Item.is_value (D.empty c.downstream) (D.add c.downstream) (D.merge c.downstream) (D.laws c.downstream) };
+    ghost laws = { λ c. let laws = grouping_laws K.Out.same K.Out.same_decides (K.image c.key) D.Item.is_value in
+        laws (D.empty c.downstream) (D.add c.downstream) (D.merge c.downstream) (D.laws c.downstream) };
 
     fn supply(&self) -> Result<Groups<K::Out, D::Acc, S>, NoMemory> {
         Ok(Groups::new(self.alloc, self.hash_builder))

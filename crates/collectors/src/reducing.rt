@@ -87,7 +87,8 @@ impl<T: Value + Clone, O: Operator<T>> Collector for Reducing<T, O> {
 
     ghost gives = { λ c l o. option_map T.content o ≡ reduced (O.join c.operator) l };
 
-    ghost laws = { λ c. reduce_laws (O.join c.operator) T.is_value (O.joins_are_values c.operator) (associative-tested T.same T.same_decides T.is_value (O.join c.operator) c.associative) };
+    ghost laws = { λ c. let associative = associative-tested T.same T.same_decides T.is_value (O.join c.operator) c.associative in
+        reduce_laws (O.join c.operator) T.is_value (O.joins_are_values c.operator) associative };
 
     fn supply(&self) -> Result<Option<T>, NoMemory> {
         Ok(None)

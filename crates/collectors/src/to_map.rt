@@ -132,9 +132,12 @@ where
 
     ghost merge = { λ c. group_merge K.Out.same (M.join c.merge) };
 
-    ghost gives = { λ c l m. IsGrouping K.Out.content K.Out.same (K.image c.key) (λ s v. Some (U.content v) ≡ reduced (M.join c.merge) (map (V.image c.value) s)) l m.entries };
+    ghost gives = { λ c l m. IsGrouping K.Out.content K.Out.same (K.image c.key)
+        (λ s v. Some (U.content v) ≡ reduced (M.join c.merge) (map (V.image c.value) s)) l m.entries };
 
-    ghost laws = { λ c. map_laws K.Out.same K.Out.same_decides (K.image c.key) (V.image c.value) (M.join c.merge) T.is_value U.is_value (V.images_are_values c.value) (M.joins_are_values c.merge) (associative-tested U.same U.same_decides U.is_value (M.join c.merge) c.associative) };
+    ghost laws = { λ c. let associative = associative-tested U.same U.same_decides U.is_value (M.join c.merge) c.associative in
+        let laws = map_laws K.Out.same K.Out.same_decides (K.image c.key) (V.image c.value) (M.join c.merge) T.is_value U.is_value in
+        laws (V.images_are_values c.value) (M.joins_are_values c.merge) associative };
 
     fn supply(&self) -> Result<Groups<K::Out, U, S>, NoMemory> {
         Ok(Groups::new(self.alloc, self.hash_builder))

@@ -155,7 +155,9 @@ where
 
     ghost merge = { λ _. strict_merge K.Out.same };
 
-    ghost gives = { λ c l r. IfOk r (λ m. IsStrictMap K.Out.same (K.image c.key) (V.image c.value) l (contents K.Out.content V.Out.content m.entries)) × IfErr r (λ d. IsFirstRepeat K.Out.same (map (K.image c.key) l) (K.Out.content d.key)) };
+    ghost gives = { λ c l r. let seen = contents K.Out.content V.Out.content in
+        IfOk r (λ m. IsStrictMap K.Out.same (K.image c.key) (V.image c.value) l (seen m.entries))
+        × IfErr r (λ d. IsFirstRepeat K.Out.same (map (K.image c.key) l) (K.Out.content d.key)) };
 
     ghost laws = { λ c. strict_map_laws K.Out.same (K.image c.key) (V.image c.value) T.is_value };
 

@@ -5,6 +5,10 @@ use Rattle.std.proofs.lemmas.List.Elements.{All-append, All-head, All-nil, All-t
 use Rattle.std.proofs.lemmas.List.Sums.{fold-append}
 use Rattle.collectors.specs.Laws.{CollectorLaws, merge_folds}
 
+-- The members of an item's image, which is a list. java.util.stream.Collectors, flatMapping, where the image is a stream.
+abbrev pub members_of : {X L Y : Type 0} → (X → L) → (L → List Y) → X → List Y
+members_of image items = λ x. items (image x)
+
 module _ {X Y A : Type 0} (members : X → List Y) (empty : A) (add : A → Y → A) where
   -- The members of an item's image are added in turn. java.util.stream.Collectors, flatMapping.
   abbrev pub add_members : A → X → A
@@ -45,3 +49,12 @@ module _ {X Y A : Type 0} (members : X → List Y) (empty : A) (add : A → Y �
               ∙ ap (λ a. fold add a (members x)) (sym (merged (flat l) (flat r) ls rs))
               ∙ sym (ap₂ (λ a b. fold add (merge a b) (members x)) (fold-members l) (fold-members r));
         }
+
+-- the laws where the images of values are values, and the members of a list that is a value are
+pub image_members_laws : {X L Y A : Type 0} (image : X → L) (items : L → List Y) (empty : A) (add : A → Y → A)
+    → (is_value : X → Type 0) (is_list_value : L → Type 0) (is_member_value : Y → Type 0)
+    → ((x : X) → is_value x → is_list_value (image x)) → ((list : L) → is_list_value list → All is_member_value (items list))
+    → (merge : A → A → A) → CollectorLaws is_member_value empty add merge
+    → CollectorLaws is_value empty (add_members (members_of image items) empty add) merge
+image_members_laws image items empty add is_value is_list_value is_member_value images members =
+    flat_mapping_laws (members_of image items) empty add is_value is_member_value (λ x value. members (image x) (images x value))

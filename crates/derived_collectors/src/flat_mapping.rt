@@ -1,6 +1,6 @@
 //! A collector over the members of the items' images, which are lists.
 ghost use Rattle.std.specs.Prelude.{◌≡◌, All, flat_map};
-ghost use Rattle.derived_collectors.specs.FlatMapping.{add_members, flat_mapping_laws};
+ghost use Rattle.derived_collectors.specs.FlatMapping.{members_of, add_members, image_members_laws};
 
 use collectors::Collector;
 use spliterator::{NoMemory, OrderedValue, Value};
@@ -60,13 +60,15 @@ where
 
     ghost empty = { λ c. D.empty c.downstream };
 
-    ghost add = { λ c. add_members (λ x. M.Out.items (M.image c.mapping x)) (D.empty c.downstream) (D.add c.downstream) };
+    ghost add = { λ c. add_members (members_of (M.image c.mapping) M.Out.items) (D.empty c.downstream) (D.add c.downstream) };
 
     ghost merge = { λ c. D.merge c.downstream };
 
-    ghost gives = { λ c l. D.gives c.downstream (flat_map (λ x. M.Out.items (M.image c.mapping x)) l) };
+    ghost gives = { λ c l. D.gives c.downstream (flat_map (members_of (M.image c.mapping) M.Out.items) l) };
 
-    ghost laws = { λ c. flat_mapping_laws (λ x. M.Out.items (M.image c.mapping x)) (D.empty c.downstream) (D.add c.downstream) T.is_value M.Out.Item.is_value (λ x value. M.Out.members_are_values (M.image c.mapping x) (M.images_are_values c.mapping x value)) (D.merge c.downstream) (D.laws c.downstream) };
+    ghost laws = { λ c. let by_image = image_members_laws (M.image c.mapping) M.Out.items (D.empty c.downstream) (D.add c.downstream) in
+        let laws = by_image T.is_value M.Out.is_value M.Out.Item.is_value in
+        laws (M.images_are_values c.mapping) M.Out.members_are_values (D.merge c.downstream) (D.laws c.downstream) };
 
     fn supply(&self) -> Result<D::Acc, NoMemory> {
         self.downstream.supply()

@@ -5,7 +5,12 @@ use Rattle.std.proofs.Common.{ap, ap₂, sym, ◌∙◌, arith}
 use Rattle.std.proofs.lemmas.List.{length-map, take-map, drop-map}
 use Rattle.std.proofs.lemmas.Slice.Zip.{length-zip}
 use Rattle.indexmap.proofs.ReorderLemmas.{zip-take, zip-drop}
-use Rattle.spliterator.specs.Pairs.{both}
+use Rattle.std.specs.declared.cmp.Ordering.{Ordering}
+use Rattle.spliterator.specs.Pairs.{both, both-decides}
+use Rattle.spliterator.specs.Spliterator.{IsSoundFor}
+use Rattle.spliterator.specs.Values.{DecidesEquality}
+use Rattle.sources.specs.HalvesLaws.{CountsItems}
+use Rattle.derived_sources.specs.Differing.{told_differing, CountsItems-few, IsSoundFor-differing}
 
 -- the contents of entries, by those of keys and of values
 -- java.util.Map, entrySet
@@ -21,6 +26,18 @@ pub few-entries : {K V : Type 0} (ks : List K) (vs : List V) → length vs ≡ l
 few-entries ks vs paired few =
     let count = length-entries ks vs paired in
     omega arith
+
+module _ {S K V C D : Type 0} (of_keys : K → C) (of_values : V → D) (keys : S → List K) (values : S → List V) where
+  -- the contents of a source's entries, whose keys and values stand apart
+  abbrev pub contents_at : S → List (C × D)
+  contents_at s = entry_contents of_keys of_values (zip (keys s) (values s))
+
+  -- a source of few entries counts them, and always tells so
+  pub CountsItems-entries : ((s : S) → length (values s) ≡ length (keys s)) → ((s : S) → length (keys s) < 2 ^ 63)
+      → CountsItems contents_at (λ s. length (contents_at s)) (λ s. length (contents_at s)) (λ _. told_differing)
+  CountsItems-entries paired few =
+      let few_pairs : (s : S) → length (zip (keys s) (values s)) < 2 ^ 63 = λ s. few-entries (keys s) (values s) (paired s) (few s) in
+      CountsItems-few (λ s. zip (keys s) (values s)) (λ e. (of_keys e.0, of_values e.1)) few_pairs
 
 module _ {K V C D : Type 0} (of_keys : K → C) (of_values : V → D) where
   -- the first entry, and the others
@@ -60,3 +77,11 @@ module _ {K V C D : Type 0} (of_keys : K → C) (of_values : V → D) where
     entries-differ [] vs differ = tt
     entries-differ (k ∷ ks) [] differ = tt
     entries-differ (k ∷ ks) (v ∷ vs) differ = (others-differ k v ks vs differ.0, entries-differ ks vs differ.1)
+
+    -- such entries may be told to, whatever their order
+    pub IsSoundFor-entries : (order : C × D → C × D → Ordering) → DecidesEquality same_key → DecidesEquality same_value
+        → (ks : List K) (vs : List V) → IsDistinct eq ks → IsSoundFor order told_differing (entry_contents of_keys of_values (zip ks vs))
+    IsSoundFor-entries order key_decides value_decides ks vs differ =
+        let decides = both-decides same_key same_value key_decides value_decides in
+        let items = entry_contents of_keys of_values (zip ks vs) in
+        IsSoundFor-differing order (both same_key same_value) decides items (entries-differ ks vs differ)

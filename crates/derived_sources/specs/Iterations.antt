@@ -12,6 +12,10 @@ iterates f x (suc n) = x ∷ iterates f (f x) n
 abbrev pub first_of : {C : Type 0} → (C → C) → Bool → C → C
 first_of f is_begun latest = if is_begun then f latest else latest
 
+-- The n items that are still to come. java.util.stream.Stream, iterate and limit.
+abbrev pub coming : {C : Type 0} → (C → C) → Bool → C → ℕ → List C
+coming f is_begun latest n = iterates f (first_of f is_begun latest) n
+
 pub length-iterates : {C : Type 0} (f : C → C) (x : C) (n : ℕ) → length (iterates f x n) ≡ n
 length-iterates f x zero = refl
 length-iterates f x (suc n) = ap suc (length-iterates f (f x) n)

@@ -88,9 +88,9 @@ impl<'a, T: OrderedValue> Spliterator for SortedSplit<'a, T> {
         told_sorted(self.items.len() as u64)
     }
 
-    ghost split_law = { λ s part rest h. IsSplit-halves (λ r. map T.content r.items.now) _ _ _ (CountsItems-ascending (λ r. map T.content r.items.now)) s part rest h };
+    ghost split_law = { λ s part rest h. IsSplit-halves _ _ _ _ (CountsItems-ascending (λ r. map T.content r.items.now)) s part rest h };
 
-    ghost size_law = { λ s. IsEstimate-counts (λ r. map T.content r.items.now) _ _ _ (CountsItems-ascending (λ r. map T.content r.items.now)) s };
+    ghost size_law = { λ s. IsEstimate-counts _ _ _ _ (CountsItems-ascending (λ r. map T.content r.items.now)) s };
 
     ghost flag_law = { λ s. IsSoundFor-ascending T.order T.order_total (map T.content s.items.now) s.ascending };
 }

@@ -94,9 +94,9 @@ impl<'a, T: OrderedValue + Clone> Spliterator for CopiesSplit<'a, T> {
         told(self.left)
     }
 
-    ghost split_law = { λ s part rest h. IsSplit-halves (λ r. replicate r.left (T.content r.value.now)) _ _ _ (CountsItems-by_count (λ r. replicate r.left (T.content r.value.now))) s part rest h };
+    ghost split_law = { λ s part rest h. IsSplit-halves _ _ _ _ (CountsItems-by_count (λ r. replicate r.left (T.content r.value.now))) s part rest h };
 
-    ghost size_law = { λ s. IsEstimate-counts (λ r. replicate r.left (T.content r.value.now)) _ _ _ (CountsItems-by_count (λ r. replicate r.left (T.content r.value.now))) s };
+    ghost size_law = { λ s. IsEstimate-counts _ _ _ _ (CountsItems-by_count (λ r. replicate r.left (T.content r.value.now))) s };
 
     ghost flag_law = { λ s. IsSoundFor-by_count T.order (replicate s.left (T.content s.value.now)) };
 }

@@ -65,9 +65,9 @@ fn parted<T>(values: &[T]) -> (&T, &[T])
 impl<'a, K: OrderedValue, V: OrderedValue> Spliterator for EntriesSplit<'a, K, V> {
     ghost use Rattle.sources.specs.Halves.{SplitsInHalf};
     ghost use Rattle.sources.specs.HalvesLaws.{IsSplit-halves, IsEstimate-counts};
-    ghost use Rattle.spliterator.specs.Pairs.{both, by_first, both-decides};
-    ghost use Rattle.derived_sources.specs.Differing.{told_differing, CountsItems-few, IsSoundFor-differing};
-    ghost use Rattle.derived_sources.specs.Entries.{few-entries, entries-differ};
+    ghost use Rattle.spliterator.specs.Pairs.{by_first};
+    ghost use Rattle.derived_sources.specs.Differing.{told_differing};
+    ghost use Rattle.derived_sources.specs.Entries.{CountsItems-entries, IsSoundFor-entries};
 
     type Item = (&'a K, &'a V);
 
@@ -115,9 +115,12 @@ impl<'a, K: OrderedValue, V: OrderedValue> Spliterator for EntriesSplit<'a, K, V
         DIFFERING
     }
 
-    ghost split_law = { λ s part rest h. IsSplit-halves (λ r. entry_contents K.content V.content (zip r.keys.now r.values.now)) _ _ _ (CountsItems-few (λ r. zip r.keys.now r.values.now) (λ e. (K.content e.0, V.content e.1)) (λ r. few-entries r.keys.now r.values.now r.paired r.few)) s part rest h };
+    ghost split_law = { λ s part rest h. IsSplit-halves _ _ _ _
+        (CountsItems-entries K.content V.content (λ r. r.keys.now) (λ r. r.values.now) (λ r. r.paired) (λ r. r.few)) s part rest h };
 
-    ghost size_law = { λ s. IsEstimate-counts (λ r. entry_contents K.content V.content (zip r.keys.now r.values.now)) _ _ _ (CountsItems-few (λ r. zip r.keys.now r.values.now) (λ e. (K.content e.0, V.content e.1)) (λ r. few-entries r.keys.now r.values.now r.paired r.few)) s };
+    ghost size_law = { λ s. IsEstimate-counts _ _ _ _
+        (CountsItems-entries K.content V.content (λ r. r.keys.now) (λ r. r.values.now) (λ r. r.paired) (λ r. r.few)) s };
 
-    ghost flag_law = { λ s. IsSoundFor-differing (by_first K.order V.order) (both K.same V.same) (both-decides K.same V.same K.same_decides V.same_decides) (entry_contents K.content V.content (zip s.keys.now s.values.now)) (entries-differ K.content V.content K.PartialEq.eq K.same V.same K.eq_is_same s.keys.now s.values.now s.differ) };
+    ghost flag_law = { λ s. let sound = IsSoundFor-entries K.content V.content K.PartialEq.eq K.same V.same K.eq_is_same in
+        sound (by_first K.order V.order) K.same_decides V.same_decides s.keys.now s.values.now s.differ };
 }

@@ -1,6 +1,6 @@
 //! A value, and what a step makes of it, again and again.
 ghost use Rattle.std.specs.Prelude.{◌≡◌, IsTrue, length};
-ghost use Rattle.derived_sources.specs.Iterations.{iterates, first_of};
+ghost use Rattle.derived_sources.specs.Iterations.{iterates, coming};
 ghost use Rattle.derived_sources.specs.Unsplit.{NeverSplits};
 
 use crate::Step;
@@ -50,13 +50,13 @@ impl<T: OrderedValue + Copy, M: Step<T> + Mapping<T, Out = T> + Copy> Spliterato
 
     type Item = T;
 
-    ghost items = { λ s. iterates (M.image s.step) (first_of (M.image s.step) s.is_begun (T.content s.latest)) s.left };
+    ghost items = { λ s. coming (M.image s.step) s.is_begun (T.content s.latest) s.left };
 
     ghost weight = { λ s. s.left };
 
-    ghost estimate = { λ s. capped_count (length (iterates (M.image s.step) (first_of (M.image s.step) s.is_begun (T.content s.latest)) s.left)) };
+    ghost estimate = { λ s. capped_count (length (coming (M.image s.step) s.is_begun (T.content s.latest) s.left)) };
 
-    ghost told = { λ s. told_by_count (length (iterates (M.image s.step) (first_of (M.image s.step) s.is_begun (T.content s.latest)) s.left)) };
+    ghost told = { λ s. told_by_count (length (coming (M.image s.step) s.is_begun (T.content s.latest) s.left)) };
 
     ghost MayRefuse = { λ s. IsTrue s.is_begun };
 
@@ -88,7 +88,7 @@ impl<T: OrderedValue + Copy, M: Step<T> + Mapping<T, Out = T> + Copy> Spliterato
 
     ghost split_law = { IsSplit-never _ _ _ _ };
 
-    ghost size_law = { λ s. IsEstimate-counts (λ r. iterates (M.image r.step) (first_of (M.image r.step) r.is_begun (T.content r.latest)) r.left) _ _ _ (CountsItems-by_count (λ r. iterates (M.image r.step) (first_of (M.image r.step) r.is_begun (T.content r.latest)) r.left)) s };
+    ghost size_law = { λ s. IsEstimate-counts _ _ _ _ (CountsItems-by_count (λ r. coming (M.image r.step) r.is_begun (T.content r.latest) r.left)) s };
 
-    ghost flag_law = { λ s. IsSoundFor-by_count T.order (iterates (M.image s.step) (first_of (M.image s.step) s.is_begun (T.content s.latest)) s.left) };
+    ghost flag_law = { λ s. IsSoundFor-by_count T.order (coming (M.image s.step) s.is_begun (T.content s.latest) s.left) };
 }

@@ -111,9 +111,10 @@ impl<'a, K: OrderedValue> Spliterator for KeysSplit<'a, K> {
         DIFFERING
     }
 
-    ghost split_law = { λ s part rest h. IsSplit-halves (λ r. map K.content r.keys.now) _ _ _ (CountsItems-few (λ r. r.keys.now) K.content (λ r. r.few)) s part rest h };
+    ghost split_law = { λ s part rest h. IsSplit-halves _ _ _ _ (CountsItems-few (λ r. r.keys.now) K.content (λ r. r.few)) s part rest h };
 
-    ghost size_law = { λ s. IsEstimate-counts (λ r. map K.content r.keys.now) _ _ _ (CountsItems-few (λ r. r.keys.now) K.content (λ r. r.few)) s };
+    ghost size_law = { λ s. IsEstimate-counts _ _ _ _ (CountsItems-few (λ r. r.keys.now) K.content (λ r. r.few)) s };
 
-    ghost flag_law = { λ s. IsSoundFor-differing K.order K.same K.same_decides (map K.content s.keys.now) (contents-differ K.content K.PartialEq.eq K.same K.eq_is_same s.keys.now s.differ) };
+    ghost flag_law = { λ s. IsSoundFor-differing K.order K.same K.same_decides (map K.content s.keys.now)
+        (contents-differ K.content K.PartialEq.eq K.same K.eq_is_same s.keys.now s.differ) };
 }
