@@ -6,6 +6,7 @@ pub mod Prepared
 pub mod PreparedLaws
 pub mod Rows
 pub mod Stages
+pub mod StepLaws
 pub mod Summaries
 pub mod TextSteps
 pub mod WalkLaws

@@ -2,14 +2,12 @@
 ghost use Rattle.std.proofs.Common.{ap};
 ghost use Rattle.std.specs.Prelude.{◌≡◌, ℤ, pos, refl, codes, List};
 ghost use Rattle.std.specs.Fmt.{signed_decimal};
-ghost use Rattle.std.specs.Ordering.{int_eq};
-ghost use Rattle.spliterator.specs.Values.{IsI64, int_eq-decides};
-ghost use Rattle.stages.specs.Operators.{associative-tested};
+ghost use Rattle.spliterator.specs.Values.{IsI64};
 ghost use Rattle.collectors.specs.Either.{either_laws};
-ghost use Rattle.collectors.specs.Reductions.{reduced, reduce_laws};
+ghost use Rattle.collectors.specs.Reductions.{reduced};
 ghost use Rattle.collectors.specs.Sums.{sum_laws};
 ghost use Rattle.pipeline_meaning.specs.Prepared.{merging_join};
-ghost use Rattle.pipeline_meaning.specs.PreparedLaws.{merging_join-value};
+ghost use Rattle.pipeline_meaning.specs.StepLaws.{merging_laws};
 ghost use Rattle.pipeline_meaning.specs.Summaries.{number_base_text};
 ghost use Rattle.value_text.specs.SummaryLaws.{optional_tells, either_tells, joined_text_laws};
 
@@ -75,7 +73,10 @@ impl Collector for NumberBaseCollector {
 
     ghost gives = { λ c l result. ⟦<NumberBaseChoice as Collector>⟧.gives c.chosen l result.made };
 
-    ghost laws = { λ c. either_laws IsI64 _ _ _ _ _ _ (either_laws IsI64 _ _ _ _ _ _ (λ _. sum_laws (λ _. pos 1) IsI64) (λ _. sum_laws (λ x. x) IsI64)) (either_laws IsI64 _ _ _ _ _ _ (λ r. reduce_laws (merging_join r.operator) IsI64 (merging_join-value r.operator) (associative-tested int_eq int_eq-decides IsI64 (merging_join r.operator) r.associative)) (λ _. joined_text_laws signed_decimal (codes ", ") IsI64)) c.chosen };
+    ghost laws = { λ c. either_laws IsI64 _ _ _ _ _ _
+        (either_laws IsI64 _ _ _ _ _ _ (λ _. sum_laws (λ _. pos 1) IsI64) (λ _. sum_laws (λ x. x) IsI64))
+        (either_laws IsI64 _ _ _ _ _ _ (λ r. merging_laws r.operator) (λ _. joined_text_laws signed_decimal (codes ", ") IsI64))
+        c.chosen };
 
     fn supply(&self) -> Result<NumberBaseContainer, NoMemory> {
         let held = self.chosen.supply()?;
@@ -112,7 +113,10 @@ impl Collector for NumberBaseCollector {
 impl Summarizes for NumberBaseCollector {
     ghost summary = { λ c. ⟦<NumberBaseChoice as Summarizes>⟧.summary c.chosen };
 
-    ghost tells = { λ c l result. either_tells _ _ _ _ _ _ (either_tells _ _ _ _ _ _ (λ _ _ _ h. ap signed_decimal h) (λ _ _ _ h. ap signed_decimal h)) (either_tells _ _ _ _ _ _ (λ r l made. optional_tells signed_decimal (λ x. x) signed_decimal (λ _. refl) made (reduced (merging_join r.operator) l)) (λ _ _ _ h. h)) c.chosen l result.made };
+    ghost tells = { λ c l result. either_tells
+        (either_tells (λ _ _ _ h. ap signed_decimal h) (λ _ _ _ h. ap signed_decimal h))
+        (either_tells (λ r l made. optional_tells signed_decimal (λ x. x) signed_decimal (λ _. refl) made (reduced (merging_join r.operator) l)) (λ _ _ _ h. h))
+        c.chosen l result.made };
 }
 
 /// The collector of a base of numbers.

@@ -5,9 +5,8 @@ ghost use Rattle.std.specs.Ordering.{int_eq};
 ghost use Rattle.spliterator.specs.Values.{IsI64, int_eq-decides};
 ghost use Rattle.collectors.specs.Either.{either_laws};
 ghost use Rattle.collectors.specs.GroupingLaws.{grouping_laws};
-ghost use Rattle.pipeline_meaning.specs.Adapting.{adapted_items, adapted_laws};
-ghost use Rattle.pipeline_meaning.specs.Prepared.{mapping_image, check_holds};
-ghost use Rattle.pipeline_meaning.specs.PreparedLaws.{mapping_image-value};
+ghost use Rattle.pipeline_meaning.specs.StepLaws.{numbers_behind, numbers_behind_laws};
+ghost use Rattle.pipeline_meaning.specs.Prepared.{mapping_image};
 ghost use Rattle.pipeline_meaning.specs.Summaries.{number_inner_text, number_summary_text};
 ghost use Rattle.value_text.specs.SummaryLaws.{either_tells, groups_tell};
 ghost use Rattle.pipeline_meaning.specs.contracts.number_bases.NumberBaseCollectorCollector.TheImpl.Laws as base;
@@ -79,7 +78,10 @@ impl Collector for NumberSummaryCollector {
 
     ghost gives = { λ c l result. ⟦<NumberSummaryChoice as Collector>⟧.gives c.chosen l result.made };
 
-    ghost laws = { λ c. either_laws IsI64 _ _ _ _ _ _ (λ a. adapted_laws mapping_image check_holds _ _ IsI64 mapping_image-value _ (adapted_laws mapping_image check_holds _ _ IsI64 mapping_image-value _ (base.laws-law a.downstream.downstream) a.downstream.step) a.step) (λ g. grouping_laws int_eq int_eq-decides (mapping_image g.key) IsI64 _ _ _ (adapted_laws mapping_image check_holds _ _ IsI64 mapping_image-value _ (base.laws-law g.downstream.downstream) g.downstream.step)) c.chosen };
+    ghost laws = { λ c. either_laws IsI64 _ _ _ _ _ _
+        (λ a. numbers_behind_laws (numbers_behind_laws (base.laws-law a.downstream.downstream) a.downstream.step) a.step)
+        (λ g. grouping_laws int_eq int_eq-decides (mapping_image g.key) IsI64 _ _ _ (numbers_behind_laws (base.laws-law g.downstream.downstream) g.downstream.step))
+        c.chosen };
 
     fn supply(&self) -> Result<NumberSummaryContainer, NoMemory> {
         let held = self.chosen.supply()?;
@@ -119,7 +121,11 @@ impl Collector for NumberSummaryCollector {
 impl Summarizes for NumberSummaryCollector {
     ghost summary = { λ c. ⟦<NumberSummaryChoice as Summarizes>⟧.summary c.chosen };
 
-    ghost tells = { λ c l result. either_tells _ _ _ _ _ _ (λ a l. tells.tells-law a.downstream.downstream (adapted_items mapping_image check_holds a.downstream.step (adapted_items mapping_image check_holds a.step l))) (λ g l made. groups_tell signed_decimal (λ x. x) signed_decimal (λ _. refl) int_eq (mapping_image g.key) _ _ _ (λ l. tells.tells-law g.downstream.downstream (adapted_items mapping_image check_holds g.downstream.step l)) l made.entries) c.chosen l result.made };
+    ghost tells = { λ c l result. either_tells
+        (λ a l. tells.tells-law a.downstream.downstream (numbers_behind a.downstream.step (numbers_behind a.step l)))
+        (λ g l made. groups_tell signed_decimal (λ x. x) signed_decimal (λ _. refl) int_eq (mapping_image g.key) _ _ _
+        (λ l. tells.tells-law g.downstream.downstream (numbers_behind g.downstream.step l)) l made.entries)
+        c.chosen l result.made };
 }
 
 /// The collector of numbers inside another.

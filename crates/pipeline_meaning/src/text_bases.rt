@@ -69,7 +69,10 @@ impl<'a> Collector for TextBaseCollector<'a> {
 
     ghost gives = { λ c l result. ⟦<TextBaseChoice<'a> as Collector>⟧.gives c.chosen l result.made };
 
-    ghost laws = { λ c. either_laws (λ _. ⊤) _ _ _ _ _ _ (either_laws (λ _. ⊤) _ _ _ _ _ _ (λ _. sum_laws (λ _. pos 1) (λ _. ⊤)) (λ _. first_laws (λ _. ⊤))) (λ joined. joined_text_laws (λ text. text) joined.between.now (λ _. ⊤)) c.chosen };
+    ghost laws = { λ c. either_laws (λ _. ⊤) _ _ _ _ _ _
+        (either_laws (λ _. ⊤) _ _ _ _ _ _ (λ _. sum_laws (λ _. pos 1) (λ _. ⊤)) (λ _. first_laws (λ _. ⊤)))
+        (λ joined. joined_text_laws (λ text. text) joined.between.now (λ _. ⊤))
+        c.chosen };
 
     fn supply(&self) -> Result<TextBaseContainer<'a>, NoMemory> {
         let held = self.chosen.supply()?;
@@ -110,7 +113,10 @@ impl<'a> Collector for TextBaseCollector<'a> {
 impl<'a> Summarizes for TextBaseCollector<'a> {
     ghost summary = { λ c. ⟦<TextBaseChoice<'a> as Summarizes>⟧.summary c.chosen };
 
-    ghost tells = { λ c l result. either_tells _ _ _ _ _ _ (either_tells _ _ _ _ _ _ (λ _ _ _ h. ap signed_decimal h) (λ _ l made. optional_tells (λ text. text.now) (λ text. text.now) itself (λ _. refl) made (first l))) (λ _ _ _ h. h) c.chosen l result.made };
+    ghost tells = { λ c l result. either_tells
+        (either_tells (λ _ _ _ h. ap signed_decimal h) (λ _ l made. optional_tells (λ text. text.now) (λ text. text.now) itself (λ _. refl) made (first l)))
+        (λ _ _ _ h. h)
+        c.chosen l result.made };
 }
 
 /// The collector of a base of texts.

@@ -4,10 +4,8 @@ ghost use Rattle.spliterator.specs.Values.{IsI64};
 ghost use Rattle.stages.specs.Wrapping.{wrapped-value};
 ghost use Rattle.collectors.specs.Either.{either_laws};
 ghost use Rattle.collectors.specs.NestedLaws.{mapping_laws};
-ghost use Rattle.pipeline_meaning.specs.Adapting.{adapted_items, adapted_laws};
-ghost use Rattle.pipeline_meaning.specs.Functions.{text_holds, text_length};
-ghost use Rattle.pipeline_meaning.specs.Prepared.{mapping_image, check_holds};
-ghost use Rattle.pipeline_meaning.specs.PreparedLaws.{mapping_image-value};
+ghost use Rattle.pipeline_meaning.specs.Functions.{text_length};
+ghost use Rattle.pipeline_meaning.specs.StepLaws.{numbers_behind, numbers_behind_laws, texts_behind, texts_behind_laws};
 ghost use Rattle.pipeline_meaning.specs.Summaries.{number_inner_text, text_inner_text};
 ghost use Rattle.value_text.specs.SummaryLaws.{either_tells};
 ghost use Rattle.pipeline_meaning.specs.contracts.number_bases.NumberBaseCollectorCollector.TheImpl.Laws as numbers;
@@ -79,7 +77,10 @@ impl<'a> Collector for TextInnerCollector<'a> {
 
     ghost gives = { λ c l result. ⟦<TextInnerChoice<'a> as Collector>⟧.gives c.chosen l result.made };
 
-    ghost laws = { λ c. either_laws (λ _. ⊤) _ _ _ _ _ _ (λ a. adapted_laws (λ _ x. x) (λ check. text_holds check.test) _ _ (λ _. ⊤) (λ _ _ value. value) _ (base.laws-law a.downstream) a.step) (λ m. mapping_laws text_length _ _ (λ _. ⊤) IsI64 (λ _ _. wrapped-value _) _ (adapted_laws mapping_image check_holds _ _ IsI64 mapping_image-value _ (numbers.laws-law m.downstream.downstream) m.downstream.step)) c.chosen };
+    ghost laws = { λ c. either_laws (λ _. ⊤) _ _ _ _ _ _
+        (λ a. texts_behind_laws (base.laws-law a.downstream) a.step)
+        (λ m. mapping_laws text_length _ _ (λ _. ⊤) IsI64 (λ _ _. wrapped-value _) _ (numbers_behind_laws (numbers.laws-law m.downstream.downstream) m.downstream.step))
+        c.chosen };
 
     fn supply(&self) -> Result<TextInnerContainer<'a>, NoMemory> {
         let held = self.chosen.supply()?;
@@ -120,7 +121,10 @@ impl<'a> Collector for TextInnerCollector<'a> {
 impl<'a> Summarizes for TextInnerCollector<'a> {
     ghost summary = { λ c. ⟦<TextInnerChoice<'a> as Summarizes>⟧.summary c.chosen };
 
-    ghost tells = { λ c l result. either_tells _ _ _ _ _ _ (λ a l. told.tells-law a.downstream (adapted_items (λ _ x. x) (λ check. text_holds check.test) a.step l)) (λ m l. numbers_told.tells-law m.downstream.downstream (adapted_items mapping_image check_holds m.downstream.step (map text_length l))) c.chosen l result.made };
+    ghost tells = { λ c l result. either_tells
+        (λ a l. told.tells-law a.downstream (texts_behind a.step l))
+        (λ m l. numbers_told.tells-law m.downstream.downstream (numbers_behind m.downstream.step (map text_length l)))
+        c.chosen l result.made };
 }
 
 /// The collector of texts inside another.

@@ -5,8 +5,8 @@ ghost use Rattle.std.specs.Ordering.{int_eq};
 ghost use Rattle.spliterator.specs.Values.{int_eq-decides, bytes_eq-decides};
 ghost use Rattle.collectors.specs.Either.{either_laws};
 ghost use Rattle.collectors.specs.GroupingLaws.{grouping_laws};
-ghost use Rattle.pipeline_meaning.specs.Adapting.{adapted_items, adapted_laws};
-ghost use Rattle.pipeline_meaning.specs.Functions.{text_holds, text_length};
+ghost use Rattle.pipeline_meaning.specs.Functions.{text_length};
+ghost use Rattle.pipeline_meaning.specs.StepLaws.{texts_behind, texts_behind_laws};
 ghost use Rattle.value_text.specs.Texts.{itself};
 ghost use Rattle.pipeline_meaning.specs.Summaries.{text_inner_text, text_summary_text, text_groups_text};
 ghost use Rattle.value_text.specs.SummaryLaws.{either_tells, groups_tell};
@@ -86,7 +86,12 @@ impl<'a> Collector for TextSummaryCollector<'a> {
 
     ghost gives = { λ c l result. ⟦<TextSummaryChoice<'a> as Collector>⟧.gives c.chosen l result.made };
 
-    ghost laws = { λ c. either_laws (λ _. ⊤) _ _ _ _ _ _ (λ a. adapted_laws (λ _ x. x) (λ check. text_holds check.test) _ _ (λ _. ⊤) (λ _ _ value. value) _ (inner.laws-law a.downstream) a.step) (either_laws (λ _. ⊤) _ _ _ _ _ _ (λ g. grouping_laws int_eq int_eq-decides text_length (λ _. ⊤) _ _ _ (inner.laws-law g.downstream)) (λ g. grouping_laws bytes_eq bytes_eq-decides itself (λ _. ⊤) _ _ _ (inner.laws-law g.downstream))) c.chosen };
+    ghost laws = { λ c. either_laws (λ _. ⊤) _ _ _ _ _ _
+        (λ a. texts_behind_laws (inner.laws-law a.downstream) a.step)
+        (either_laws (λ _. ⊤) _ _ _ _ _ _
+        (λ g. grouping_laws int_eq int_eq-decides text_length (λ _. ⊤) _ _ _ (inner.laws-law g.downstream))
+        (λ g. grouping_laws bytes_eq bytes_eq-decides itself (λ _. ⊤) _ _ _ (inner.laws-law g.downstream)))
+        c.chosen };
 
     fn supply(&self) -> Result<TextSummaryContainer<'a>, NoMemory> {
         let held = self.chosen.supply()?;
@@ -126,7 +131,12 @@ impl<'a> Collector for TextSummaryCollector<'a> {
 impl<'a> Summarizes for TextSummaryCollector<'a> {
     ghost summary = { λ c. ⟦<TextSummaryChoice<'a> as Summarizes>⟧.summary c.chosen };
 
-    ghost tells = { λ c l result. either_tells _ _ _ _ _ _ (λ a l. told.tells-law a.downstream (adapted_items (λ _ x. x) (λ check. text_holds check.test) a.step l)) (either_tells _ _ _ _ _ _ (λ g l made. groups_tell signed_decimal (λ n. n) signed_decimal (λ _. refl) int_eq text_length _ _ _ (told.tells-law g.downstream) l made.entries) (λ g l made. groups_tell (λ text. text.now) (λ text. text.now) itself (λ _. refl) bytes_eq itself _ _ _ (told.tells-law g.downstream) l made.entries)) c.chosen l result.made };
+    ghost tells = { λ c l result. either_tells
+        (λ a l. told.tells-law a.downstream (texts_behind a.step l))
+        (either_tells
+        (λ g l made. groups_tell signed_decimal (λ n. n) signed_decimal (λ _. refl) int_eq text_length _ _ _ (told.tells-law g.downstream) l made.entries)
+        (λ g l made. groups_tell (λ text. text.now) (λ text. text.now) itself (λ _. refl) bytes_eq itself _ _ _ (told.tells-law g.downstream) l made.entries))
+        c.chosen l result.made };
 }
 
 // The collector of groups of texts.

@@ -4,7 +4,8 @@ use Rattle.std.specs.Prelude.{IfSome, string_bytes}
 use Rattle.clap.specs.Words.{fault_of, first_of, found_of, matches_of, rows_of}
 use Rattle.clap.specs.declared.parser.matches.ArgMatches.{ArgMatches}
 use Rattle.clap.proofs.WalkLemmas.{first_value-rows}
-use Rattle.pipeline_runner.specs.Command.{IsFaulty, OnFile}
+use Rattle.pipeline_language.specs.Language.{IsFaulty}
+use Rattle.pipeline_runner.specs.Command.{OnFile}
 use Rattle.pipeline_runner.specs.CommandLine.{HasName, program}
 use Rattle.pipeline_runner.specs.Run.{Repeats, Runs}
 use Rattle.pipeline_runner.specs.Status.{status_of}

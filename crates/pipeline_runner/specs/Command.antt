@@ -1,8 +1,6 @@
 -- How the program ends, by the words of its command line and by the file that they name.
 use Rattle.std.specs.Prelude.{ℕ, List, Option, Some, IfSome}
 use Rattle.std.specs.Io.KnownBytes.{Appends}
-use Rattle.file_words.specs.declared.fault.FileFault.{FileFault}
-use Rattle.pipeline_language.specs.Language.{HasFault}
 use Rattle.pipeline_runner.specs.CommandLine.{AsksForHelp, NamesFile}
 use Rattle.pipeline_runner.specs.Run.{OutputOf}
 
@@ -22,7 +20,3 @@ Answers old new file = OutputOf file (Appends old new)
 -- the words ask for the help, and the output grew by a text
 abbrev pub ShowsHelp : List (List ℕ) → Option (List ℕ) → Option (List ℕ) → Type 0
 ShowsHelp words old new = AsksForHelp words × ((text : List ℕ) × Appends old new text)
-
--- the file has a fault
-abbrev pub IsFaulty : List ℕ → Type 0
-IsFaulty file = (fault : FileFault) × HasFault file fault

@@ -28,14 +28,14 @@ joined_text_laws spelling between is_value =
     mapping_laws spelling None (reduce_add (join_with between)) is_value (λ _. ⊤) (λ _ _. tt) (reduce_merge (join_with between)) (joining_laws between (λ _. ⊤))
 
 -- the text of the side that is there
-pub either_tells : {C D L R S : Type 0} (gives : C → L → R → Type 0) (gives' : D → L → S → Type 0) (text : R → List ℕ) (text' : S → List ℕ)
-    (summary : C → L → List ℕ) (summary' : D → L → List ℕ)
+pub either_tells : {C D L R S : Type 0} {gives : C → L → R → Type 0} {gives' : D → L → S → Type 0} {text : R → List ℕ} {text' : S → List ℕ}
+    {summary : C → L → List ℕ} {summary' : D → L → List ℕ}
     → ((c : C) (l : L) (made : R) → gives c l made → text made ≡ summary c l) → ((d : D) (l : L) (made : S) → gives' d l made → text' made ≡ summary' d l)
     → (e : Either C D) (l : L) (made : Either R S) → either_gives gives gives' e l made → either text text' made ≡ either summary summary' e l
-either_tells gives gives' text text' summary summary' tells tells' (Left c) l (Left r) h = tells c l r h
-either_tells gives gives' text text' summary summary' tells tells' (Left c) l (Right s) h = absurd h
-either_tells gives gives' text text' summary summary' tells tells' (Right d) l (Left r) h = absurd h
-either_tells gives gives' text text' summary summary' tells tells' (Right d) l (Right s) h = tells' d l s h
+either_tells tells tells' (Left c) l (Left r) h = tells c l r h
+either_tells tells tells' (Left c) l (Right s) h = absurd h
+either_tells tells tells' (Right d) l (Left r) h = absurd h
+either_tells tells tells' (Right d) l (Right s) h = tells' d l s h
 
 module _ {K J V : Type 0} (text : K → List ℕ) (content : K → J) (spelling : J → List ℕ) (spelled : (k : K) → text k ≡ spelling (content k)) where
   module _ (value_text : V → List ℕ) (gives : J → V → Type 0) (kept : J → List ℕ) (tells : (j : J) (v : V) → gives j v → value_text v ≡ kept j) where

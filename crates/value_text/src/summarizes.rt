@@ -109,7 +109,7 @@ where
 {
     ghost summary = { either A.summary B.summary };
 
-    ghost tells = { either_tells A.gives B.gives A.Out.text B.Out.text A.summary B.summary A.tells B.tells };
+    ghost tells = { either_tells A.tells B.tells };
 }
 
 impl<T: Value, D: Summarizes, M: Mapping<T, Out = D::Item>> Summarizes for MappingTo<T, M, D>
