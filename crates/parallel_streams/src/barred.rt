@@ -14,7 +14,7 @@ use crate::places::Places;
 use barriers::{Barrier, Demand, Need};
 use collectors::{Collector, ToList, combine_containers};
 use leaf_board::Handout;
-use leaf_reading::{LeafEnd, feed_whole, run_leaf};
+use leaf_reading::{LeafEnd, Reading, feed_whole, run_leaf};
 use sources::SliceSplit;
 use split_tree::Tree;
 use spliterator::NoMemory;
@@ -153,19 +153,14 @@ impl<U: Stream, B: Barrier<U::Item>> Stream for Barred<U, B> {
         leaf: usize,
     ) -> Result<LeafEnd<Part<U::Part, U::Item>>, NoMemory> {
         if self.upstream.is_gathered(&progress.before) {
-            let nothing = Nothing::in_blocks();
-            let list = ToList::with_room(alloc, self.room(&progress.before, leaf));
+            let reading = Reading {
+                stage: &Nothing::in_blocks(),
+                demand: &self.barrier,
+                collector: &ToList::with_room(alloc, self.room(&progress.before, leaf)),
+            };
             end_own(
-                self.upstream.run_last_leaf(
-                    alloc,
-                    &progress.before,
-                    &nothing,
-                    &self.barrier,
-                    &list,
-                    board,
-                    seat,
-                    leaf,
-                ),
+                self.upstream
+                    .run_last_leaf(alloc, &progress.before, &reading, board, seat, leaf),
             )
         } else {
             end_before(
@@ -269,9 +264,7 @@ impl<U: Stream, B: Barrier<U::Item>> Stream for Barred<U, B> {
         &self,
         alloc: Global,
         progress: &Gathered<U::Progress, U::Item>,
-        stage: &G,
-        demand: &D,
-        collector: &C,
+        reading: &Reading<'_, G, D, C>,
         board: &L,
         seat: &mut L::Seat,
         leaf: usize,
@@ -280,15 +273,6 @@ impl<U: Stream, B: Barrier<U::Item>> Stream for Barred<U, B> {
             unreachable!()
         };
         let items = listed.places.part(&listed.items, leaf);
-        run_leaf(
-            alloc,
-            SliceSplit::new(items),
-            stage,
-            demand,
-            collector,
-            board,
-            seat,
-            leaf,
-        )
+        run_leaf(alloc, SliceSplit::new(items), reading, board, seat, leaf)
     }
 }
