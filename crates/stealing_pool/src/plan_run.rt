@@ -33,7 +33,10 @@ impl<S: Spliterator, G: Stage<In = S::Item>, D: Demand<G::Out>, C: Collector<Ite
 
     ghost ready = { λ j. G.ready j.reading.stage.now × D.ready j.reading.demand.now × C.ready j.reading.collector.now };
 
-    ghost work = { λ j. work_of (folding (D.needed j.reading.demand.now) (D.counted j.reading.demand.now) G.Out.is_value (C.empty j.reading.collector.now) (C.add j.reading.collector.now)) (C.content j.reading.collector.now) (lists_of S.items (G.expand j.reading.stage.now) (leaves_of j.plan.now)) };
+    ghost work = { λ j. let needs = folding (D.needed j.reading.demand.now) (D.counted j.reading.demand.now) G.Out.is_value in
+        let fold = needs (C.empty j.reading.collector.now) (C.add j.reading.collector.now) in
+        let lists = lists_of S.items (G.expand j.reading.stage.now) (leaves_of j.plan.now) in
+        work_of fold (C.content j.reading.collector.now) lists };
 
     fn leaves(&self) -> usize {
         self.plan.leaves()
