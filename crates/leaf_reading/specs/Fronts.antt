@@ -35,6 +35,10 @@ abbrev pub KeepsFront : {T C A : Type 0} → Folding T C → (A → C) → List 
 KeepsFront f content xs p =
     (front : List _) × (rest : List _) × (xs ≡ front ++ rest) × Folds f front (content p.kept) × (p.count ≡ count_by f.counted front) × IsWithin f.needed p.count × ((rest ≡ []) ⊎ Reaches f.needed p.count)
 
+-- a front is kept by a demand and a collector, of which these are the members
+abbrev pub KeepsBy : {D C T F A : Type 0} → (D → Option ℕ) → (D → T → Bool) → (T → Type 0) → (C → F) → (C → F → T → F) → (C → A → F) → D → C → List T → Portion A → Type 0
+KeepsBy needed counted is_value empty add content demand collector = KeepsFront (folding (needed demand) (counted demand) is_value (empty collector) (add collector)) (content collector)
+
 -- a leaf that ended has kept a front of its list; one that was cut has a known cut left of it
 abbrev pub EndsList : {T C A : Type 0} → Folding T C → (A → C) → List T → ℕ → ℕ → LeafEnd A → Type 0
 EndsList f content whole cut leaf (Done p) = KeepsFront f content whole p

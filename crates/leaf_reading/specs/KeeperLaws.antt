@@ -1,6 +1,6 @@
 -- What a keeper was offered, between two states.
 use Rattle.std.specs.Prelude.{◌≡◌, List, [], ◌++◌}
-use Rattle.std.proofs.Common.{sym, subst, append-nil, append_assoc}
+use Rattle.std.proofs.Common.{sym, subst, ◌∙◌, append-nil, append_assoc}
 
 -- whatever list was offered before, these items were offered behind it
 abbrev pub Offers : {T A : Type 0} → (List T → A → Type 0) → A → List T → A → Type 0
@@ -13,14 +13,14 @@ pub offers-both : {T A : Type 0} (keeps : List T → A → Type 0) (a b c : A) (
 offers-both {T} keeps a b c xs ys p q whole kept = subst (λ (l : List T). keeps l c) (append_assoc whole xs ys) (q (whole ++ xs) (p whole kept))
 
 module _ {D N C : Type 0} where
-  -- the same where the later state has its own names for what never changes
-  pub offers-both-kept : {T A : Type 0} (keeps : D → N → C → List T → A → Type 0) (d e : D) (m n : N) (f g : C) (a b c : A) (xs ys : List T)
-      → e ≡ d → n ≡ m → g ≡ f → Offers (keeps d m f) a xs b → Offers (keeps e n g) b ys c → Offers (keeps d m f) a (xs ++ ys) c
-  offers-both-kept {T} {A} keeps d e m n f g a b c xs ys h i j p q =
-      let P : D → Type 0 = λ z. Offers (keeps z m f) b ys c in
-      let Q : N → Type 0 = λ z. Offers (keeps e z f) b ys c in
-      let R : C → Type 0 = λ z. Offers (keeps e n z) b ys c in
-      offers-both (keeps d m f) a b c xs ys p (subst P h (subst Q i (subst R j q)))
+  -- The same between two states of a keeper, whose demand, need and collector stay: the later state has its own names for them.
+  pub takes-both : {T A : Type 0} (keeps : D → C → List T → A → Type 0) {d e h : D} {m n o : N} {f g i : C} (a b c : A) (xs ys : List T)
+      → (e ≡ d) × (n ≡ m) × (g ≡ f) × Offers (keeps d f) a xs b → (h ≡ e) × (o ≡ n) × (i ≡ g) × Offers (keeps e g) b ys c
+      → (h ≡ d) × (o ≡ m) × (i ≡ f) × Offers (keeps d f) a (xs ++ ys) c
+  takes-both keeps {d} {e} {h} {m} {n} {o} {f} {g} {i} a b c xs ys p q =
+      let P : D → Type 0 = λ z. Offers (keeps z f) b ys c in
+      let Q : C → Type 0 = λ z. Offers (keeps e z) b ys c in
+      (q.0 ∙ p.0, q.1 ∙ p.1, q.2 ∙ p.2, offers-both (keeps d f) a b c xs ys p.3 (subst P p.0 (subst Q p.2 q.3)))
 
   pub ready-kept : (ready : D → C → Type 0) (is_need : D → N → Type 0) (d e : D) (m n : N) (f g : C) → e ≡ d → n ≡ m → g ≡ f → ready d f × is_need d m → ready e g × is_need e n
   ready-kept ready is_need d e m n f g h i j r =

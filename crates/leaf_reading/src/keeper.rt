@@ -1,10 +1,10 @@
 //! What is kept of a leaf, as a sink.
 ghost use Rattle.std.specs.Prelude.{◌≡◌, ◌<◌, ◌+◌, ◌^◌, ◌≤◌, ◌⊎◌, ◌↔◌, IsTrue, cond, true, All, map, fold, count_by, take, length, OnOk, ⊤};
-ghost use Rattle.std.proofs.Common.{refl, ◌∙◌};
+ghost use Rattle.std.proofs.Common.{refl};
 ghost use Rattle.barriers.specs.Needs.{need_of, Reaches};
-ghost use Rattle.leaf_reading.specs.Fronts.{IsWithin, folding, KeepsFront};
+ghost use Rattle.leaf_reading.specs.Fronts.{IsWithin, KeepsBy};
 ghost use Rattle.leaf_reading.specs.Keepers.{IsNeed};
-ghost use Rattle.leaf_reading.specs.KeeperLaws.{Offers, offers-none, offers-both-kept, ready-kept};
+ghost use Rattle.leaf_reading.specs.KeeperLaws.{Offers, offers-none, takes-both, ready-kept};
 
 use crate::Portion;
 use barriers::{Demand, Need};
@@ -109,15 +109,17 @@ impl<T: Value + Drop, D: Demand<T>, C: Collector<Item = T>> Sink<T> for Keeper<'
     ghost ready = { λ k. (D.ready k.demand.now × C.ready k.collector.now) × IsNeed (D.needed k.demand.now) (D.counted k.demand.now) (need_of k.need) };
 
     ghost takes = { λ k xs m. (m.demand ≡ k.demand) × (m.need ≡ k.need) × (m.collector ≡ k.collector)
-        × Offers (KeepsFront (folding (D.needed k.demand.now) (D.counted k.demand.now) T.is_value (C.empty k.collector.now) (C.add k.collector.now)) (C.content k.collector.now)) k.portion xs m.portion };
+        × Offers (KeepsBy D.needed D.counted T.is_value C.empty C.add C.content k.demand.now k.collector.now) k.portion xs m.portion };
 
     ghost spoils = { λ _ _. ⊤ };
 
-    ghost takes_none = { λ k. (refl, refl, refl, offers-none (KeepsFront (folding (D.needed k.demand.now) (D.counted k.demand.now) T.is_value (C.empty k.collector.now) (C.add k.collector.now)) (C.content k.collector.now)) k.portion) };
+    ghost takes_none = { λ k. let keeps = KeepsBy D.needed D.counted T.is_value C.empty C.add C.content k.demand.now k.collector.now in
+        (refl, refl, refl, offers-none keeps k.portion) };
 
     ghost spoils_nothing = { λ k. tt };
 
-    ghost takes_both = { λ k m n xs ys p q. (q.0 ∙ p.0, q.1 ∙ p.1, q.2 ∙ p.2, offers-both-kept (λ d n c. KeepsFront (folding (D.needed d.now) (D.counted d.now) T.is_value (C.empty c.now) (C.add c.now)) (C.content c.now)) k.demand m.demand k.need m.need k.collector m.collector k.portion m.portion n.portion xs ys p.0 p.1 p.2 p.3 q.3) };
+    ghost takes_both = { λ k m n xs ys p q.
+        takes-both (λ d c. KeepsBy D.needed D.counted T.is_value C.empty C.add C.content d.now c.now) k.portion m.portion n.portion xs ys p q };
 
     ghost spoils_later = { λ a b c xs p q. tt };
 

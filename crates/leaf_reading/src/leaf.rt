@@ -6,7 +6,7 @@ ghost use Rattle.leaf_reading.specs.Fronts.{folding, EndsList};
 
 use crate::keeper::Keeper;
 use crate::stretch::feed_until_cut;
-use crate::{LeafEnd, Portion};
+use crate::{LeafEnd, Portion, Reading};
 use barriers::{Demand, Need};
 use collectors::Collector;
 use leaf_board::Handout;
@@ -40,22 +40,28 @@ pub fn run_leaf<
 >(
     alloc: Global,
     source: S,
-    stage: &G,
-    demand: &D,
-    collector: &C,
+    reading: &Reading<'_, G, D, C>,
     board: &B,
     seat: &mut B::Seat,
     leaf: usize,
 ) -> Result<LeafEnd<C::Acc>, NoMemory>
-    requires stage { G.ready stage.now }
-    requires demand { D.ready demand.now }
-    requires collector { C.ready collector.now }
+    requires stage { G.ready reading.now.stage.now }
+    requires demand { D.ready reading.now.demand.now }
+    requires collector { C.ready reading.now.collector.now }
     requires of { B.is_of board.now seat.old }
     requires within { leaf < B.leaves board.now }
     ensures seat { StaysSeat (B.is_of board.now) B.number B.draws_left B.made_cut seat.old seat.new }
     ensures same { SameFrom (B.status seat.old) (B.status seat.new) }
-    ensures end { IfOk result (EndsList (folding (D.needed demand.now) (D.counted demand.now) G.Out.is_value (C.empty collector.now) (C.add collector.now)) (C.content collector.now) (flat_map (G.expand stage.now) (S.items source)) (B.cut seat.new) leaf) }
+    ensures end { let needs = folding (D.needed reading.now.demand.now) (D.counted reading.now.demand.now) G.Out.is_value in
+        let fold = needs (C.empty reading.now.collector.now) (C.add reading.now.collector.now) in
+        let list = flat_map (G.expand reading.now.stage.now) (S.items source) in
+        IfOk result (EndsList fold (C.content reading.now.collector.now) list (B.cut seat.new) leaf) }
 {
+    let Reading {
+        stage,
+        demand,
+        collector,
+    } = *reading;
     let size = stage.size_after(source.exact_size());
     let kept = collector.supply_for(expected(demand.need(), size))?;
     let mut keeper = Keeper {

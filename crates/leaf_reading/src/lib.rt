@@ -4,9 +4,11 @@
 mod keeper;
 mod leaf;
 mod leaf_end;
+mod reading;
 mod stretch;
 
 pub use keeper::is_enough;
 pub use leaf::run_leaf;
 pub use leaf_end::{LeafEnd, Portion};
+pub use reading::Reading;
 pub use stretch::feed_whole;

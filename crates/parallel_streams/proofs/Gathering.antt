@@ -7,13 +7,13 @@ use Rattle.barriers.specs.NeedLaws.{value-front}
 use Rattle.collectors.specs.NestedLaws.{push, listed}
 use Rattle.leaf_board.specs.Closing.{Outcome, count_of, cut_of}
 use Rattle.leaf_reading.specs.Fronts.{folding}
-use Rattle.stealing_pool.specs.Spans.{joined, work_of}
+use Rattle.stealing_pool.specs.Spans.{joined}
 use Rattle.stealing_pool.specs.Jobs.{Work, StandsForRun}
 use Rattle.stealing_pool.specs.Reports.{Reports}
 use Rattle.stealing_pool.specs.SpanLaws.{run-front}
 use Rattle.parallel_streams.specs.Cuts.{Ascends}
 use Rattle.parallel_streams.specs.Ends.{ends_of}
-use Rattle.parallel_streams.specs.Progress.{IsListed, barred_work}
+use Rattle.parallel_streams.specs.Progress.{IsListed, own_work, barred_work}
 use Rattle.parallel_streams.specs.ProgressLaws.{stands-own}
 use Rattle.parallel_streams.specs.Reports.{IsEntryOf}
 use Rattle.parallel_streams.specs.declared.part.Part.{Part}
@@ -23,7 +23,7 @@ use Rattle.parallel_streams.proofs.Harmless.{is-entry}
 
 module _ {P T C : Type 0} (before : Work P) (is_value : C → Type 0) (needed : Option ℕ) (counted : C → Bool) (value : List C → List C) (law : KeepsEnough needed counted value) (content : T → C) (whole : List C) (lists : List (List C)) where
   abbrev own : Work (List T)
-  own = work_of (folding needed counted is_value [] push) (map content) lists
+  own = own_work needed counted is_value content lists
 
   -- the value of what the run kept is that of the whole list, and the entry says what can't matter
   pub gathered-own : (done : Bool) → (done ≡ true → joined lists ≡ whole) → (part : Part P T) (items : List T) (kept : Vec T) (places : Places) (entry : Outcome) → part ≡ Own items

@@ -1,7 +1,10 @@
 -- How far the barriers of a stream have come.
 use Rattle.std.specs.Prelude.{◌≡◌, ◌+◌, ℕ, Bool, true, false, List, [], Option, Some, None, Result, Ok, Err, map, length}
+use Rattle.collectors.specs.NestedLaws.{push}
 use Rattle.stealing_pool.specs.Jobs.{Work}
+use Rattle.stealing_pool.specs.Spans.{work_of}
 use Rattle.leaf_board.specs.Closing.{Outcome}
+use Rattle.leaf_reading.specs.Fronts.{folding}
 use Rattle.leaf_reading.specs.declared.leaf_end.LeafEnd.{LeafEnd}
 use Rattle.leaf_reading.specs.declared.leaf_end.LeafEnd.TheVariants.{Done, Cut}
 use Rattle.parallel_streams.specs.Cuts.{Ascends, cut_at}
@@ -64,6 +67,10 @@ KeepsBefore keeps (Own items) = ⊥
 abbrev pub KeepsOwn : {P T : Type 0} → (List T → Type 0) → Part P T → Type 0
 KeepsOwn keeps (Before p) = ⊥
 KeepsOwn keeps (Own items) = keeps items
+
+-- what there is to do in a barrier's own run: to list the items of these leaves, as far as the barrier needs them
+abbrev pub own_work : {T C : Type 0} → Option ℕ → (C → Bool) → (C → Type 0) → (T → C) → List (List C) → Work (List T)
+own_work needed counted is_value content lists = work_of (folding needed counted is_value [] push) (map content) lists
 
 -- while a barrier before has not run, the next run is that barrier's; then it is this barrier's own
 abbrev pub barred_work : {P T : Type 0} → Bool → Work P → Work (List T) → Work (Part P T)

@@ -1,11 +1,7 @@
 //! A barrier behind a stream.
-ghost use Rattle.std.specs.Prelude.{[], map};
 ghost use Rattle.spliterator.specs.Clones.{ClonesAlike};
-ghost use Rattle.collectors.specs.NestedLaws.{push};
-ghost use Rattle.leaf_reading.specs.Fronts.{folding};
-ghost use Rattle.stealing_pool.specs.Spans.{work_of};
 ghost use Rattle.parallel_streams.specs.Leaves.{IsCutList};
-ghost use Rattle.parallel_streams.specs.Reports.{IsEntryOf, IsReport};
+ghost use Rattle.parallel_streams.specs.Reports.{IsBarrierReport};
 ghost use Rattle.stages.specs.Flags.{after};
 
 use crate::Stream;
@@ -14,7 +10,7 @@ use crate::places::Places;
 use barriers::{Barrier, Demand, Need};
 use collectors::{Collector, ToList, combine_containers};
 use leaf_board::Handout;
-use leaf_reading::{LeafEnd, feed_whole, run_leaf};
+use leaf_reading::{LeafEnd, Reading, feed_whole, run_leaf};
 use sources::SliceSplit;
 use split_tree::Tree;
 use spliterator::NoMemory;
@@ -48,7 +44,7 @@ impl<U: Stream, B: Barrier<U::Item>> Barred<U, B> {
 }
 
 impl<U: Stream, B: Barrier<U::Item>> Stream for Barred<U, B> {
-    ghost use Rattle.parallel_streams.specs.Progress.{HoldsGathered, IsPlannedGathered, ToldSoFar, is_listed, waiting_of, next_leaves, parts_of, barred_work};
+    ghost use Rattle.parallel_streams.specs.Progress.{HoldsGathered, IsPlannedGathered, ToldSoFar, is_listed, waiting_of, next_leaves, parts_of, own_work, barred_work};
     ghost use Rattle.parallel_streams.specs.ProgressLaws.{barred-leaves, joined-parts_of, cut-parts_of, count-parts_of, told-all};
 
     type Item = U::Item;
@@ -73,7 +69,8 @@ impl<U: Stream, B: Barrier<U::Item>> Stream for Barred<U, B> {
 
     ghost leaves_next = { λ s p. next_leaves (U.leaves_next s.upstream p.before) p.listed };
 
-    ghost work = { λ s p. barred_work (U.done s.upstream p.before) (U.work s.upstream p.before) (work_of (folding (B.Demand.needed s.barrier) (B.Demand.counted s.barrier) U.Item.is_value [] push) (map U.Item.content) (U.parts s.upstream p.before)) };
+    ghost work = { λ s p. let own = own_work (B.Demand.needed s.barrier) (B.Demand.counted s.barrier) U.Item.is_value U.Item.content in
+        barred_work (U.done s.upstream p.before) (U.work s.upstream p.before) (own (U.parts s.upstream p.before)) };
 
     ghost parts = { λ s p. parts_of U.Item.content p.listed };
 
@@ -81,15 +78,25 @@ impl<U: Stream, B: Barrier<U::Item>> Stream for Barred<U, B> {
 
     ghost planned = { λ s workers target. IsPlannedGathered (U.planned s.upstream workers target) workers target };
 
-    ghost reported = { λ s workers target. IsReport (U.cut_into s.upstream workers target) (U.value s.upstream) (U.reported s.upstream workers target) (IsEntryOf (B.Demand.needed s.barrier) (B.Demand.counted s.barrier) (B.value s.barrier)) };
+    ghost reported = { λ s. let until = IsBarrierReport (U.cut_into s.upstream) (U.value s.upstream) (U.reported s.upstream) in
+        until (B.Demand.needed s.barrier) (B.Demand.counted s.barrier) (B.value s.barrier) };
 
-    ghost told_so_far = { λ s workers target p. ToldSoFar (U.told_so_far s.upstream workers target p.before) (IsReport (U.cut_into s.upstream workers target) (U.value s.upstream) (U.reported s.upstream workers target) (IsEntryOf (B.Demand.needed s.barrier) (B.Demand.counted s.barrier) (B.value s.barrier))) p.listed };
+    ghost told_so_far = { λ s workers target p.
+        let until = IsBarrierReport (U.cut_into s.upstream) (U.value s.upstream) (U.reported s.upstream) in
+        let all = until (B.Demand.needed s.barrier) (B.Demand.counted s.barrier) (B.value s.barrier) workers target in
+        ToldSoFar (U.told_so_far s.upstream workers target p.before) all p.listed };
 
     ghost flag_law = { λ s. B.flag_law s.barrier (U.told s.upstream) (U.size s.upstream) (U.value s.upstream) (U.flag_law s.upstream) };
 
-    ghost work_law = { λ s p unrun. barred-leaves (U.done s.upstream p.before) (U.work s.upstream p.before) (work_of (folding (B.Demand.needed s.barrier) (B.Demand.counted s.barrier) U.Item.is_value [] push) (map U.Item.content) (U.parts s.upstream p.before)) (U.leaves_next s.upstream p.before) p.listed unrun (U.work_law s.upstream p.before) (U.parts_count s.upstream p.before) };
+    ghost work_law = { λ s p unrun.
+        let own = own_work (B.Demand.needed s.barrier) (B.Demand.counted s.barrier) U.Item.is_value U.Item.content in
+        let leaves = barred-leaves (U.done s.upstream p.before) (U.work s.upstream p.before) (own (U.parts s.upstream p.before)) in
+        leaves (U.leaves_next s.upstream p.before) p.listed unrun (U.work_law s.upstream p.before) (U.parts_count s.upstream p.before) };
 
-    ghost reported_law = { λ s workers target p entries done told. told-all (U.told_so_far s.upstream workers target p.before) (IsReport (U.cut_into s.upstream workers target) (U.value s.upstream) (U.reported s.upstream workers target) (IsEntryOf (B.Demand.needed s.barrier) (B.Demand.counted s.barrier) (B.value s.barrier))) p.listed entries done told };
+    ghost reported_law = { λ s workers target p entries done told.
+        let until = IsBarrierReport (U.cut_into s.upstream) (U.value s.upstream) (U.reported s.upstream) in
+        let all = until (B.Demand.needed s.barrier) (B.Demand.counted s.barrier) (B.value s.barrier) workers target in
+        told-all (U.told_so_far s.upstream workers target p.before) all p.listed entries done told };
 
     ghost parts_law = { λ s p held done. joined-parts_of U.Item.content (B.value s.barrier (U.value s.upstream)) p.listed held.1 done };
 
@@ -153,19 +160,14 @@ impl<U: Stream, B: Barrier<U::Item>> Stream for Barred<U, B> {
         leaf: usize,
     ) -> Result<LeafEnd<Part<U::Part, U::Item>>, NoMemory> {
         if self.upstream.is_gathered(&progress.before) {
-            let nothing = Nothing::in_blocks();
-            let list = ToList::with_room(alloc, self.room(&progress.before, leaf));
+            let reading = Reading {
+                stage: &Nothing::in_blocks(),
+                demand: &self.barrier,
+                collector: &ToList::with_room(alloc, self.room(&progress.before, leaf)),
+            };
             end_own(
-                self.upstream.run_last_leaf(
-                    alloc,
-                    &progress.before,
-                    &nothing,
-                    &self.barrier,
-                    &list,
-                    board,
-                    seat,
-                    leaf,
-                ),
+                self.upstream
+                    .run_last_leaf(alloc, &progress.before, &reading, board, seat, leaf),
             )
         } else {
             end_before(
@@ -269,9 +271,7 @@ impl<U: Stream, B: Barrier<U::Item>> Stream for Barred<U, B> {
         &self,
         alloc: Global,
         progress: &Gathered<U::Progress, U::Item>,
-        stage: &G,
-        demand: &D,
-        collector: &C,
+        reading: &Reading<'_, G, D, C>,
         board: &L,
         seat: &mut L::Seat,
         leaf: usize,
@@ -280,15 +280,6 @@ impl<U: Stream, B: Barrier<U::Item>> Stream for Barred<U, B> {
             unreachable!()
         };
         let items = listed.places.part(&listed.items, leaf);
-        run_leaf(
-            alloc,
-            SliceSplit::new(items),
-            stage,
-            demand,
-            collector,
-            board,
-            seat,
-            leaf,
-        )
+        run_leaf(alloc, SliceSplit::new(items), reading, board, seat, leaf)
     }
 }

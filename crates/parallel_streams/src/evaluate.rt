@@ -12,7 +12,7 @@ use crate::{Run, Stream};
 use barriers::{Demand, Need, Whole};
 use collectors::{Collector, combine_containers};
 use leaf_board::Handout;
-use leaf_reading::LeafEnd;
+use leaf_reading::{LeafEnd, Reading};
 use spliterator::NoMemory;
 use stages::Nothing;
 use std::alloc::Global;
@@ -89,17 +89,13 @@ impl<X: Stream, D: Demand<X::Item>, C: Collector<Item = X::Item>> LeafJob
         seat: &mut B::Seat,
         leaf: usize,
     ) -> Result<LeafEnd<C::Acc>, NoMemory> {
-        let nothing = Nothing::new();
-        self.stream.run_last_leaf(
-            self.alloc,
-            self.progress,
-            &nothing,
-            self.demand,
-            self.collector,
-            board,
-            seat,
-            leaf,
-        )
+        let reading = Reading {
+            stage: &Nothing::new(),
+            demand: self.demand,
+            collector: self.collector,
+        };
+        self.stream
+            .run_last_leaf(self.alloc, self.progress, &reading, board, seat, leaf)
     }
 
     fn combine(&self, left: &mut C::Acc, right: C::Acc) -> Result<(), NoMemory> {

@@ -5,7 +5,7 @@ use crate::Stream;
 use barriers::{Demand, Need};
 use collectors::Collector;
 use leaf_board::Handout;
-use leaf_reading::{LeafEnd, Portion, feed_whole, run_leaf};
+use leaf_reading::{LeafEnd, Portion, Reading, feed_whole, run_leaf};
 use split_tree::{Plan, PlanError, Tree};
 use spliterator::{NoMemory, Spliterator};
 use stages::{Sink, Stage, StreamFlags};
@@ -172,22 +172,11 @@ where
         &self,
         alloc: Global,
         plan: &Plan<S>,
-        stage: &G,
-        demand: &D,
-        collector: &C,
+        reading: &Reading<'_, G, D, C>,
         board: &L,
         seat: &mut L::Seat,
         leaf: usize,
     ) -> Result<LeafEnd<C::Acc>, NoMemory> {
-        run_leaf(
-            alloc,
-            plan.leaf(leaf),
-            stage,
-            demand,
-            collector,
-            board,
-            seat,
-            leaf,
-        )
+        run_leaf(alloc, plan.leaf(leaf), reading, board, seat, leaf)
     }
 }

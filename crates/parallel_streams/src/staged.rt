@@ -8,7 +8,7 @@ use crate::Stream;
 use barriers::{Demand, Need};
 use collectors::Collector;
 use leaf_board::Handout;
-use leaf_reading::LeafEnd;
+use leaf_reading::{LeafEnd, Reading};
 use split_tree::Tree;
 use spliterator::NoMemory;
 use stages::{Sink, Stage, StreamFlags, Then};
@@ -156,16 +156,18 @@ where
         &self,
         alloc: Global,
         progress: &U::Progress,
-        stage: &G,
-        demand: &D,
-        collector: &C,
+        reading: &Reading<'_, G, D, C>,
         board: &L,
         seat: &mut L::Seat,
         leaf: usize,
     ) -> Result<LeafEnd<C::Acc>, NoMemory> {
-        let fused = Then::new(&self.stage, stage);
-        self.upstream.run_last_leaf(
-            alloc, progress, &fused, demand, collector, board, seat, leaf,
-        )
+        let fused = Then::new(&self.stage, reading.stage);
+        let reading = Reading {
+            stage: &fused,
+            demand: reading.demand,
+            collector: reading.collector,
+        };
+        self.upstream
+            .run_last_leaf(alloc, progress, &reading, board, seat, leaf)
     }
 }

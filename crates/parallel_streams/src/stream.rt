@@ -35,7 +35,7 @@ use barriers::{Demand, Distinct, DropWhile, FirstHit, Limit, Need, Skip, TakeWhi
 use collectors::{Collector, Counting, First, Reducing, ToMapStrict};
 use indexmap::IndexMap;
 use leaf_board::Handout;
-use leaf_reading::LeafEnd;
+use leaf_reading::{LeafEnd, Reading};
 use split_tree::Tree;
 use spliterator::{NoMemory, OrderedValue};
 use stages::{Filter, FlatMap, ListValue, Map, Mapping, Operator, Sink, Stage, StreamFlags, Test};
@@ -221,17 +221,15 @@ pub trait Stream {
         &self,
         alloc: Global,
         progress: &Self::Progress,
-        stage: &G,
-        demand: &D,
-        collector: &C,
+        reading: &Reading<'_, G, D, C>,
         board: &L,
         seat: &mut L::Seat,
         leaf: usize,
     ) -> Result<LeafEnd<C::Acc>, NoMemory>
         requires ready { ready self.now }
-        requires stage { G.ready stage.now }
-        requires demand { D.ready demand.now }
-        requires collector { C.ready collector.now }
+        requires stage { G.ready reading.now.stage.now }
+        requires demand { D.ready reading.now.demand.now }
+        requires collector { C.ready reading.now.collector.now }
         requires holds { holds self.now progress.now }
         requires done { done self.now progress.now ≡ true }
         requires board { L.leaves board.now ≡ leaves_next self.now progress.now }
@@ -239,7 +237,10 @@ pub trait Stream {
         requires within { leaf < leaves_next self.now progress.now }
         ensures seat { StaysSeat (L.is_of board.now) L.number L.draws_left L.made_cut seat.old seat.new }
         ensures same { SameFrom (L.status seat.old) (L.status seat.new) }
-        ensures end { IfOk result (EndsLeaf (work_of (folding (D.needed demand.now) (D.counted demand.now) G.Out.is_value (C.empty collector.now) (C.add collector.now)) (C.content collector.now) (map (flat_map (G.expand stage.now)) (parts self.now progress.now))) (L.cut seat.new) leaf) };
+        ensures end { let needs = folding (D.needed reading.now.demand.now) (D.counted reading.now.demand.now) G.Out.is_value in
+            let fold = needs (C.empty reading.now.collector.now) (C.add reading.now.collector.now) in
+            let lists = map (flat_map (G.expand reading.now.stage.now)) (parts self.now progress.now) in
+            IfOk result (EndsLeaf (work_of fold (C.content reading.now.collector.now) lists) (L.cut seat.new) leaf) };
 
     // the flags and the known size are sound
     ghost flag_law: { (s : Self) → IsSound Self.Item.order (told s) (size s) (value s) };

@@ -9,7 +9,7 @@ ghost use Rattle.stealing_pool.specs.Reports.{Reports};
 use crate::gate::Gate;
 use crate::job::LeafJob;
 use crate::report::RunEntry;
-use crate::run::{Closed, run_on};
+use crate::run::{Closed, Opened, run_on};
 use leaf_board::{Board, Case};
 use split_tree::Tree;
 use spliterator::NoMemory;
@@ -48,7 +48,11 @@ where
     ensures stands { IfOk result (λ g. StandsForRun (J.work job.now) g.acc) }
 {
     let (board, dealt) = Board::<K>::new(alloc, job.leaves(), job.need(), seats)?;
-    let Closed { kept, record } = run_on(rt, alloc, tree, job, workers, gate, board, dealt)?;
+    let opened = Opened {
+        board,
+        seats: dealt,
+    };
+    let Closed { kept, record } = run_on(rt, alloc, tree, job, workers, gate, opened)?;
     Ok(Gathered {
         acc: kept,
         entry: RunEntry::of(record),

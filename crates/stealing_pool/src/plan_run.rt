@@ -12,7 +12,7 @@ use crate::job_run::{Gathered, run_job};
 use barriers::{Demand, Need};
 use collectors::{Collector, combine_containers};
 use leaf_board::Handout;
-use leaf_reading::{LeafEnd, run_leaf};
+use leaf_reading::{LeafEnd, Reading, run_leaf};
 use split_tree::Plan;
 use spliterator::{NoMemory, Spliterator};
 use stages::Stage;
@@ -24,25 +24,26 @@ use std::thread::Threads;
 struct PlanJob<'a, S, G, D, C> {
     alloc: Global,
     plan: &'a Plan<S>,
-    stage: &'a G,
-    demand: &'a D,
-    collector: &'a C,
+    reading: Reading<'a, G, D, C>,
 }
 
 impl<S: Spliterator, G: Stage<In = S::Item>, D: Demand<G::Out>, C: Collector<Item = G::Out>> LeafJob
     for PlanJob<'_, S, G, D, C> {
     type Kept = C::Acc;
 
-    ghost ready = { λ j. G.ready j.stage.now × D.ready j.demand.now × C.ready j.collector.now };
+    ghost ready = { λ j. G.ready j.reading.stage.now × D.ready j.reading.demand.now × C.ready j.reading.collector.now };
 
-    ghost work = { λ j. work_of (folding (D.needed j.demand.now) (D.counted j.demand.now) G.Out.is_value (C.empty j.collector.now) (C.add j.collector.now)) (C.content j.collector.now) (lists_of S.items (G.expand j.stage.now) (leaves_of j.plan.now)) };
+    ghost work = { λ j. let needs = folding (D.needed j.reading.demand.now) (D.counted j.reading.demand.now) G.Out.is_value in
+        let fold = needs (C.empty j.reading.collector.now) (C.add j.reading.collector.now) in
+        let lists = lists_of S.items (G.expand j.reading.stage.now) (leaves_of j.plan.now) in
+        work_of fold (C.content j.reading.collector.now) lists };
 
     fn leaves(&self) -> usize {
         self.plan.leaves()
     }
 
     fn need(&self) -> Need {
-        self.demand.need()
+        self.reading.demand.need()
     }
 
     fn run_leaf<B: Handout>(
@@ -52,24 +53,15 @@ impl<S: Spliterator, G: Stage<In = S::Item>, D: Demand<G::Out>, C: Collector<Ite
         leaf: usize,
     ) -> Result<LeafEnd<C::Acc>, NoMemory> {
         let source = self.plan.leaf(leaf);
-        run_leaf(
-            self.alloc,
-            source,
-            self.stage,
-            self.demand,
-            self.collector,
-            board,
-            seat,
-            leaf,
-        )
+        run_leaf(self.alloc, source, &self.reading, board, seat, leaf)
     }
 
     fn combine(&self, left: &mut C::Acc, right: C::Acc) -> Result<(), NoMemory> {
-        combine_containers(self.collector, left, right)
+        combine_containers(self.reading.collector, left, right)
     }
 
     fn is_light(&self, kept: &C::Acc) -> bool {
-        self.collector.is_light(kept)
+        self.reading.collector.is_light(kept)
     }
 }
 
@@ -110,9 +102,11 @@ where
     let job = PlanJob {
         alloc,
         plan,
-        stage,
-        demand,
-        collector,
+        reading: Reading {
+            stage,
+            demand,
+            collector,
+        },
     };
     run_job(rt, alloc, plan.tree(), &job, workers, gate)
 }

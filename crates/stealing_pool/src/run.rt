@@ -17,6 +17,13 @@ use spliterator::NoMemory;
 use std::alloc::Global;
 use std::thread::Threads;
 
+/// A board that nothing was drawn from, and all its seats.
+#[derive(Drop)]
+pub struct Opened<B, T> {
+    pub board: B,
+    pub seats: Vec<T>,
+}
+
 /// What a run of leaves leaves behind: what is kept, and what the board's seats did together.
 #[derive(Drop)]
 pub struct Closed<K, R> {
@@ -32,8 +39,7 @@ pub fn run_on<R: Threads + Sync, B: LeafBoard + Sync, J: LeafJob + Sync, H: Gate
     job: &J,
     workers: u32,
     gate: &H,
-    board: B,
-    seats: Vec<B::Seat>,
+    opened: Opened<B, B::Seat>,
 ) -> Result<Closed<J::Kept, B::Record>, NoMemory>
 where
     B::Seat: Send,
@@ -41,13 +47,14 @@ where
     requires ready { J.ready job.now }
     requires tree { leaf_numbers tree.now ≡ numbers_from 0 (J.work job.now).leaves }
     requires workers { 0 < workers }
-    requires case { IsCase (J.work job.now) (B.leaves board) (B.full board) (B.need board) }
-    requires all { AreSeats (B.is_of board) B.number (B.seat_count board) seats.items }
-    requires some { 0 < length seats.items }
-    requires fresh { (k : ℕ) (d : B.Seat) → k < length seats.items → (i : ℕ) → B.status (slice_index_or seats.items k d) i ≡ Unknown }
+    requires case { IsCase (J.work job.now) (B.leaves opened.board) (B.full opened.board) (B.need opened.board) }
+    requires all { AreSeats (B.is_of opened.board) B.number (B.seat_count opened.board) opened.seats.items }
+    requires some { 0 < length opened.seats.items }
+    requires fresh { (k : ℕ) (d : B.Seat) → k < length opened.seats.items → (i : ℕ) → B.status (slice_index_or opened.seats.items k d) i ≡ Unknown }
     ensures reports { IfOk result (λ g. Reports (J.work job.now).needed (J.work job.now).leaves (J.work job.now).full (B.recorded g.record) (B.count_of g.record) (B.cut_of g.record)) }
     ensures stands { IfOk result (λ g. StandsForRun (J.work job.now) g.kept) }
 {
+    let Opened { board, seats } = opened;
     let crew = Crew {
         alloc,
         board: &board,

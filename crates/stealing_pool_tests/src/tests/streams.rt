@@ -9,7 +9,7 @@ use super::plan_of;
 use barriers::{Demand, Need, Whole};
 use collectors::{Collector, SummingLong, combine_containers};
 use leaf_board::Handout;
-use leaf_reading::{LeafEnd, run_leaf};
+use leaf_reading::{LeafEnd, Reading, run_leaf};
 use parts::Itself;
 use sources::RangeSplit;
 use split_tree::{Plan, Tree};
@@ -149,16 +149,12 @@ impl LastRun for Numbers {
         leaf: usize,
     ) -> Result<LeafEnd<C::Acc>, NoMemory> {
         let source = self.plan.leaf(leaf);
-        run_leaf(
-            self.alloc,
-            source,
-            &Nothing::new(),
+        let reading = Reading {
+            stage: &Nothing::new(),
             demand,
             collector,
-            board,
-            seat,
-            leaf,
-        )
+        };
+        run_leaf(self.alloc, source, &reading, board, seat, leaf)
     }
 }
 

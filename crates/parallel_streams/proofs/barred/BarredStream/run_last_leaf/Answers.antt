@@ -14,11 +14,11 @@ returns-clause-end g c =
     let D = g.D.Demand in
     let C = g.C.Collector in
     let content = g.U.Item.Value.content in
-    let f = folding (D.needed c.args.demand.now) (D.counted c.args.demand.now) g.G.Out.Value.is_value (C.empty c.args.collector.now) (C.add c.args.collector.now) in
-    let through = flat_map (g.G.Stage.expand c.args.stage.now) in
+    let f = folding (D.needed c.args.reading.now.demand.now) (D.counted c.args.reading.now.demand.now) g.G.Out.Value.is_value (C.empty c.args.reading.now.collector.now) (C.add c.args.reading.now.collector.now) in
+    let through = flat_map (g.G.Stage.expand c.args.reading.now.stage.now) in
     let part = c.part-items.result.now in
     let Q : List g.row.U-Item.Denot → Type 0 = λ l. slice_get (cut_at 0 (ends_of c.in-Some.listed.places) l) c.args.leaf ≡ Some part in
     let found = subst Q c.deref.ensures.value c.part-items.ensures in
     let here = part-at content through p.listed c.in-Some.listed c.args.leaf part c.in-Some.is found ∙ ap through (sym c.new.ensures) in
     let within = part-within content through (g.U.Stream.leaves_next s.upstream p.before) p.listed c.args.leaf c.requires.done c.requires.within in
-    leaf-ends-ok f (C.content c.args.collector.now) (map through (parts_of content p.listed)) c.args.leaf (g.L.Handout.cut c.run_leaf.new.seat) (through (map content c.new.result.items.now)) within here c.run_leaf.result c.run_leaf.ensures.end
+    leaf-ends-ok f (C.content c.args.reading.now.collector.now) (map through (parts_of content p.listed)) c.args.leaf (g.L.Handout.cut c.run_leaf.new.seat) (through (map content c.new.result.items.now)) within here c.run_leaf.result c.run_leaf.ensures.end

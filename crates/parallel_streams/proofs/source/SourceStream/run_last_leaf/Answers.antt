@@ -11,12 +11,12 @@ pub returns-clause-end : goal.returns-clause-end
 returns-clause-end g c =
     let D = g.D.Demand in
     let C = g.C.Collector in
-    let f = folding (D.needed c.args.demand.now) (D.counted c.args.demand.now) g.G.Out.Value.is_value (C.empty c.args.collector.now) (C.add c.args.collector.now) in
+    let f = folding (D.needed c.args.reading.now.demand.now) (D.counted c.args.reading.now.demand.now) g.G.Out.Value.is_value (C.empty c.args.reading.now.collector.now) (C.add c.args.reading.now.collector.now) in
     let leaves = leaves_of c.args.plan.now in
     let items = g.S.Spliterator.items in
-    let through = flat_map (g.G.Stage.expand c.args.stage.now) in
+    let through = flat_map (g.G.Stage.expand c.args.reading.now.stage.now) in
     let lists = map through (map items leaves) in
     let number : length leaves ≡ length lists = sym (length-map (map items leaves) through ∙ length-map leaves items) in
     let P : ℕ → Type 0 = λ n. c.args.leaf < n in
     let here = ap (λ l. slice_index_or l c.args.leaf []) (map-both items through leaves) ∙ get-mapped (λ s. through (items s)) leaves c.args.leaf c.leaf.result [] c.leaf.ensures in
-    leaf-ends-ok f (C.content c.args.collector.now) lists c.args.leaf (g.L.Handout.cut c.run_leaf.new.seat) (through (items c.leaf.result)) (subst P number c.requires.within) here c.run_leaf.result c.run_leaf.ensures.end
+    leaf-ends-ok f (C.content c.args.reading.now.collector.now) lists c.args.leaf (g.L.Handout.cut c.run_leaf.new.seat) (through (items c.leaf.result)) (subst P number c.requires.within) here c.run_leaf.result c.run_leaf.ensures.end

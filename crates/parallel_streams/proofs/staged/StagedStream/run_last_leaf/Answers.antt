@@ -11,10 +11,10 @@ returns-clause-end g c =
     let D = g.D.Demand in
     let C = g.C.Collector in
     let parts = g.U.Stream.parts s.upstream c.args.progress.now in
-    let f = folding (D.needed c.args.demand.now) (D.counted c.args.demand.now) g.G.Out.Value.is_value (C.empty c.args.collector.now) (C.add c.args.collector.now) in
-    let P : List (List _) → Type 0 = λ lists. IfOk c.run_last_leaf.result (EndsLeaf (work_of f (C.content c.args.collector.now) lists) (g.L.Handout.cut c.run_last_leaf.new.seat) c.args.leaf) in
+    let f = folding (D.needed c.args.reading.now.demand.now) (D.counted c.args.reading.now.demand.now) g.G.Out.Value.is_value (C.empty c.args.reading.now.collector.now) (C.add c.args.reading.now.collector.now) in
+    let P : List (List _) → Type 0 = λ lists. IfOk c.run_last_leaf.result (EndsLeaf (work_of f (C.content c.args.reading.now.collector.now) lists) (g.L.Handout.cut c.run_last_leaf.new.seat) c.args.leaf) in
     let Q : g.row.A.Denot → Type 0 = λ a. P (map (flat_map (λ x. flat_map (g.G.Stage.expand c.new-fused.result.second.now) (g.A.Stage.expand a x))) parts) in
     let R : g.row.G.Denot → Type 0 = λ b. P (map (flat_map (λ x. flat_map (g.G.Stage.expand b) (g.A.Stage.expand s.stage x))) parts) in
     let first = subst Q (ap (λ r. r.now) c.new-fused.ensures.first) c.run_last_leaf.ensures.end in
     let both = subst R (ap (λ r. r.now) c.new-fused.ensures.second) first in
-    subst P (map-fused (g.A.Stage.expand s.stage) (g.G.Stage.expand c.args.stage.now) parts) both
+    subst P (map-fused (g.A.Stage.expand s.stage) (g.G.Stage.expand c.args.reading.now.stage.now) parts) both
