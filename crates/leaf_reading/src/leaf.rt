@@ -1,4 +1,4 @@
-//! The run of one leaf: its source's items pass a stage, and are kept until they are enough.
+//! The reading of one leaf: its source's items pass a stage, and are kept until they are enough.
 ghost use Rattle.std.specs.Prelude.{◌≡◌, ◌<◌, ◌≤◌, IfNone, IfOk, IfSome, flat_map};
 ghost use Rattle.barriers.specs.Needs.{need_of};
 ghost use Rattle.leaf_board.specs.Statuses.{SameFrom, StaysSeat};
@@ -27,11 +27,11 @@ fn expected(need: Need, size: Option<u64>) -> u64
     }
 }
 
-/// Runs one leaf: feeds its source's items through a stage into a container, until the source ends or enough is kept.
+/// Reads one leaf: feeds its source's items through a stage into a container, until the source ends or enough is kept.
 ///
 /// It asks the board after each 1,024 source items whether the leaf was cut. No list stands between the source and the container.
-/// A job calls it in its `run_leaf`.
-pub fn run_leaf<
+/// A job calls it in its own `run_leaf`.
+pub fn read_leaf<
     B: Handout,
     S: Spliterator,
     G: Stage<In = S::Item>,

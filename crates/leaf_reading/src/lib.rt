@@ -8,7 +8,7 @@ mod reading;
 mod stretch;
 
 pub use keeper::is_enough;
-pub use leaf::run_leaf;
+pub use leaf::read_leaf;
 pub use leaf_end::{LeafEnd, Portion};
 pub use reading::Reading;
 pub use stretch::feed_whole;

@@ -10,7 +10,7 @@ use Rattle.leaf_reading.specs.declared.leaf_end.LeafEnd.TheVariants.{Done, Cut}
 use Rattle.parallel_streams.specs.Cuts.{Ascends, cut_at}
 use Rattle.parallel_streams.specs.Ends.{ends_of}
 use Rattle.parallel_streams.specs.Leaves.{AreLeafEnds}
-use Rattle.parallel_streams.specs.declared.part.Gathered.{Gathered}
+use Rattle.parallel_streams.specs.declared.part.BarredProgress.{BarredProgress}
 use Rattle.parallel_streams.specs.declared.part.Listed.{Listed}
 use Rattle.parallel_streams.specs.declared.part.Part.{Part}
 use Rattle.parallel_streams.specs.declared.part.Part.TheVariants.{Before, Own}
@@ -24,16 +24,16 @@ abbrev pub HoldsListed : {T C : Type 0} → (T → C) → List C → Option (Lis
 HoldsListed content value None = Unit {0}
 HoldsListed content value (Some listed) = IsListed content value listed
 
-abbrev pub HoldsGathered : {P T C : Type 0} → (P → Type 0) → (T → C) → List C → Gathered P T → Type 0
-HoldsGathered before content value g = before g.before × HoldsListed content value g.listed
+abbrev pub HoldsBarred : {P T C : Type 0} → (P → Type 0) → (T → C) → List C → BarredProgress P T → Type 0
+HoldsBarred before content value g = before g.before × HoldsListed content value g.listed
 
 -- a barrier's list is cut for its leaves as so many items are
 abbrev pub IsPlannedList : {T : Type 0} → ℕ → ℕ → Option (Listed T) → Type 0
 IsPlannedList workers target None = Unit {0}
 IsPlannedList workers target (Some listed) = AreLeafEnds workers target (length listed.items.items) (ends_of listed.places)
 
-abbrev pub IsPlannedGathered : {P T : Type 0} → (P → Type 0) → ℕ → ℕ → Gathered P T → Type 0
-IsPlannedGathered before workers target g = before g.before × IsPlannedList workers target g.listed
+abbrev pub IsPlannedBarred : {P T : Type 0} → (P → Type 0) → ℕ → ℕ → BarredProgress P T → Type 0
+IsPlannedBarred before workers target g = before g.before × IsPlannedList workers target g.listed
 
 -- the entries so far: while the last barrier has not run, those of the barriers before
 abbrev pub ToldSoFar : {T : Type 0} → (List Outcome → Type 0) → (List Outcome → Type 0) → Option (Listed T) → List Outcome → Type 0

@@ -5,12 +5,12 @@ ghost use Rattle.parallel_streams.specs.Reports.{IsBarrierReport};
 ghost use Rattle.stages.specs.Flags.{after};
 
 use crate::Stream;
-use crate::part::{Gathered, Listed, Part, end_before, end_own};
+use crate::part::{BarredProgress, Listed, Part, end_before, end_own};
 use crate::places::Places;
 use barriers::{Barrier, Demand, Need};
 use collectors::{Collector, ToList, combine_containers};
 use leaf_board::Handout;
-use leaf_reading::{LeafEnd, Reading, feed_whole, run_leaf};
+use leaf_reading::{LeafEnd, Reading, feed_whole, read_leaf};
 use sources::SliceSplit;
 use split_tree::Tree;
 use spliterator::NoMemory;
@@ -44,12 +44,12 @@ impl<U: Stream, B: Barrier<U::Item>> Barred<U, B> {
 }
 
 impl<U: Stream, B: Barrier<U::Item>> Stream for Barred<U, B> {
-    ghost use Rattle.parallel_streams.specs.Progress.{HoldsGathered, IsPlannedGathered, ToldSoFar, is_listed, waiting_of, next_leaves, parts_of, own_work, barred_work};
+    ghost use Rattle.parallel_streams.specs.Progress.{HoldsBarred, IsPlannedBarred, ToldSoFar, is_listed, waiting_of, next_leaves, parts_of, own_work, barred_work};
     ghost use Rattle.parallel_streams.specs.ProgressLaws.{barred-leaves, joined-parts_of, cut-parts_of, count-parts_of, told-all};
 
     type Item = U::Item;
 
-    type Progress = Gathered<U::Progress, U::Item>;
+    type Progress = BarredProgress<U::Progress, U::Item>;
 
     type Part = Part<U::Part, U::Item>;
 
@@ -61,7 +61,7 @@ impl<U: Stream, B: Barrier<U::Item>> Stream for Barred<U, B> {
 
     ghost told = { λ s. after (U.told s.upstream) (B.operation s.barrier) };
 
-    ghost holds = { λ s. HoldsGathered (U.holds s.upstream) U.Item.content (B.value s.barrier (U.value s.upstream)) };
+    ghost holds = { λ s. HoldsBarred (U.holds s.upstream) U.Item.content (B.value s.barrier (U.value s.upstream)) };
 
     ghost done = { λ s p. is_listed p.listed };
 
@@ -76,7 +76,7 @@ impl<U: Stream, B: Barrier<U::Item>> Stream for Barred<U, B> {
 
     ghost cut_into = { λ s. IsCutList (B.value s.barrier (U.value s.upstream)) };
 
-    ghost planned = { λ s workers target. IsPlannedGathered (U.planned s.upstream workers target) workers target };
+    ghost planned = { λ s workers target. IsPlannedBarred (U.planned s.upstream workers target) workers target };
 
     ghost reported = { λ s. let until = IsBarrierReport (U.cut_into s.upstream) (U.value s.upstream) (U.reported s.upstream) in
         until (B.Demand.needed s.barrier) (B.Demand.counted s.barrier) (B.value s.barrier) };
@@ -117,33 +117,33 @@ impl<U: Stream, B: Barrier<U::Item>> Stream for Barred<U, B> {
         alloc: Global,
         workers: u32,
         target: u64,
-    ) -> Result<Gathered<U::Progress, U::Item>, NoMemory> {
+    ) -> Result<BarredProgress<U::Progress, U::Item>, NoMemory> {
         let before = self.upstream.start(alloc, workers, target)?;
-        Ok(Gathered {
+        Ok(BarredProgress {
             before,
             listed: None,
         })
     }
 
-    fn is_gathered(&self, progress: &Gathered<U::Progress, U::Item>) -> bool {
+    fn is_gathered(&self, progress: &BarredProgress<U::Progress, U::Item>) -> bool {
         progress.listed.is_some()
     }
 
-    fn leaves(&self, progress: &Gathered<U::Progress, U::Item>) -> usize {
+    fn leaves(&self, progress: &BarredProgress<U::Progress, U::Item>) -> usize {
         match &progress.listed {
             Some(listed) => listed.places.leaves(),
             None => self.upstream.leaves(&progress.before),
         }
     }
 
-    fn tree<'p>(&self, progress: &'p Gathered<U::Progress, U::Item>) -> &'p Tree {
+    fn tree<'p>(&self, progress: &'p BarredProgress<U::Progress, U::Item>) -> &'p Tree {
         match &progress.listed {
             Some(listed) => listed.places.tree(),
             None => self.upstream.tree(&progress.before),
         }
     }
 
-    fn need(&self, progress: &Gathered<U::Progress, U::Item>) -> Need {
+    fn need(&self, progress: &BarredProgress<U::Progress, U::Item>) -> Need {
         if self.upstream.is_gathered(&progress.before) {
             self.barrier.need()
         } else {
@@ -151,10 +151,10 @@ impl<U: Stream, B: Barrier<U::Item>> Stream for Barred<U, B> {
         }
     }
 
-    fn run_leaf<L: Handout>(
+    fn run_barrier_leaf<L: Handout>(
         &self,
         alloc: Global,
-        progress: &Gathered<U::Progress, U::Item>,
+        progress: &BarredProgress<U::Progress, U::Item>,
         board: &L,
         seat: &mut L::Seat,
         leaf: usize,
@@ -172,7 +172,7 @@ impl<U: Stream, B: Barrier<U::Item>> Stream for Barred<U, B> {
         } else {
             end_before(
                 self.upstream
-                    .run_leaf(alloc, &progress.before, board, seat, leaf),
+                    .run_barrier_leaf(alloc, &progress.before, board, seat, leaf),
             )
         }
     }
@@ -181,7 +181,7 @@ impl<U: Stream, B: Barrier<U::Item>> Stream for Barred<U, B> {
     fn combine(
         &self,
         alloc: Global,
-        progress: &Gathered<U::Progress, U::Item>,
+        progress: &BarredProgress<U::Progress, U::Item>,
         kept: &mut Part<U::Part, U::Item>,
         following: Part<U::Part, U::Item>,
     ) -> Result<(), NoMemory> {
@@ -203,18 +203,18 @@ impl<U: Stream, B: Barrier<U::Item>> Stream for Barred<U, B> {
     fn gather(
         &self,
         alloc: Global,
-        progress: Gathered<U::Progress, U::Item>,
+        progress: BarredProgress<U::Progress, U::Item>,
         part: Part<U::Part, U::Item>,
         entry: &RunEntry,
         workers: u32,
         target: u64,
-    ) -> Result<Gathered<U::Progress, U::Item>, NoMemory> {
+    ) -> Result<BarredProgress<U::Progress, U::Item>, NoMemory> {
         match part {
             Part::Before(part) => {
                 let before = self
                     .upstream
                     .gather(alloc, progress.before, part, entry, workers, target)?;
-                Ok(Gathered {
+                Ok(BarredProgress {
                     before,
                     listed: None,
                 })
@@ -224,7 +224,7 @@ impl<U: Stream, B: Barrier<U::Item>> Stream for Barred<U, B> {
                 let items = self.barrier.apply(list)?;
                 let places = Places::cut(alloc, items.as_slice(), workers, target)?;
                 let listed = Listed { items, places };
-                Ok(Gathered {
+                Ok(BarredProgress {
                     before: progress.before,
                     listed: Some(listed),
                 })
@@ -234,12 +234,12 @@ impl<U: Stream, B: Barrier<U::Item>> Stream for Barred<U, B> {
 
     fn into_listed(
         &self,
-        progress: Gathered<U::Progress, U::Item>,
-    ) -> Result<Listed<U::Item>, Gathered<U::Progress, U::Item>> {
-        let Gathered { before, listed } = progress;
+        progress: BarredProgress<U::Progress, U::Item>,
+    ) -> Result<Listed<U::Item>, BarredProgress<U::Progress, U::Item>> {
+        let BarredProgress { before, listed } = progress;
         match listed {
             Some(listed) => Ok(listed),
-            None => Err(Gathered {
+            None => Err(BarredProgress {
                 before,
                 listed: None,
             }),
@@ -249,7 +249,7 @@ impl<U: Stream, B: Barrier<U::Item>> Stream for Barred<U, B> {
     fn feed_last_leaf<G: Stage<In = U::Item>, K: Sink<G::Out>>(
         &self,
         alloc: Global,
-        progress: &Gathered<U::Progress, U::Item>,
+        progress: &BarredProgress<U::Progress, U::Item>,
         stage: &G,
         leaf: usize,
         sink: &mut K,
@@ -270,7 +270,7 @@ impl<U: Stream, B: Barrier<U::Item>> Stream for Barred<U, B> {
     >(
         &self,
         alloc: Global,
-        progress: &Gathered<U::Progress, U::Item>,
+        progress: &BarredProgress<U::Progress, U::Item>,
         reading: &Reading<'_, G, D, C>,
         board: &L,
         seat: &mut L::Seat,
@@ -280,6 +280,6 @@ impl<U: Stream, B: Barrier<U::Item>> Stream for Barred<U, B> {
             unreachable!()
         };
         let items = listed.places.part(&listed.items, leaf);
-        run_leaf(alloc, SliceSplit::new(items), reading, board, seat, leaf)
+        read_leaf(alloc, SliceSplit::new(items), reading, board, seat, leaf)
     }
 }

@@ -49,7 +49,7 @@ impl<X: Stream> LeafJob for BarrierRun<'_, '_, X> {
         leaf: usize,
     ) -> Result<LeafEnd<X::Part>, NoMemory> {
         self.stream
-            .run_leaf(self.alloc, self.progress, board, seat, leaf)
+            .run_barrier_leaf(self.alloc, self.progress, board, seat, leaf)
     }
 
     fn combine(&self, left: &mut X::Part, right: X::Part) -> Result<(), NoMemory> {

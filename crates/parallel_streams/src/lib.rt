@@ -14,7 +14,7 @@ mod staged;
 mod stream;
 
 pub use barred::Barred;
-pub use part::{Gathered, Listed, Part};
+pub use part::{BarredProgress, Listed, Part};
 pub use run::{MapError, Run, StreamError};
 pub use source::{Source, of};
 pub use staged::Staged;

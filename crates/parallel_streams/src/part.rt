@@ -17,7 +17,7 @@ pub struct Listed<T> {
 
 /// What the barriers left: those before, and the last one, once it has run.
 #[derive(Drop)]
-pub struct Gathered<P, T> {
+pub struct BarredProgress<P, T> {
     pub before: P,
     pub listed: Option<Listed<T>>,
 }

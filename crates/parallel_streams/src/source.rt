@@ -5,7 +5,7 @@ use crate::Stream;
 use barriers::{Demand, Need};
 use collectors::Collector;
 use leaf_board::Handout;
-use leaf_reading::{LeafEnd, Portion, Reading, feed_whole, run_leaf};
+use leaf_reading::{LeafEnd, Portion, Reading, feed_whole, read_leaf};
 use split_tree::{Plan, PlanError, Tree};
 use spliterator::{NoMemory, Spliterator};
 use stages::{Sink, Stage, StreamFlags};
@@ -119,7 +119,7 @@ where
         Need::Never
     }
 
-    fn run_leaf<L: Handout>(
+    fn run_barrier_leaf<L: Handout>(
         &self,
         _alloc: Global,
         _plan: &Plan<S>,
@@ -177,6 +177,6 @@ where
         seat: &mut L::Seat,
         leaf: usize,
     ) -> Result<LeafEnd<C::Acc>, NoMemory> {
-        run_leaf(alloc, plan.leaf(leaf), reading, board, seat, leaf)
+        read_leaf(alloc, plan.leaf(leaf), reading, board, seat, leaf)
     }
 }

@@ -100,7 +100,7 @@ where
         self.upstream.need(progress)
     }
 
-    fn run_leaf<L: Handout>(
+    fn run_barrier_leaf<L: Handout>(
         &self,
         alloc: Global,
         progress: &U::Progress,
@@ -108,7 +108,8 @@ where
         seat: &mut L::Seat,
         leaf: usize,
     ) -> Result<LeafEnd<U::Part>, NoMemory> {
-        self.upstream.run_leaf(alloc, progress, board, seat, leaf)
+        self.upstream
+            .run_barrier_leaf(alloc, progress, board, seat, leaf)
     }
 
     fn combine(

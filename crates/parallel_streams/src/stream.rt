@@ -133,7 +133,7 @@ pub trait Stream {
         ensures fits { IsBelow (work self.now progress.now).needed (2 ^ 63) };
 
     /// Runs a leaf of the next barrier's run.
-    fn run_leaf<L: Handout>(
+    fn run_barrier_leaf<L: Handout>(
         &self,
         alloc: Global,
         progress: &Self::Progress,

@@ -12,7 +12,7 @@ use crate::job_run::{Gathered, run_job};
 use barriers::{Demand, Need};
 use collectors::{Collector, combine_containers};
 use leaf_board::Handout;
-use leaf_reading::{LeafEnd, Reading, run_leaf};
+use leaf_reading::{LeafEnd, Reading, read_leaf};
 use split_tree::Plan;
 use spliterator::{NoMemory, Spliterator};
 use stages::Stage;
@@ -53,7 +53,7 @@ impl<S: Spliterator, G: Stage<In = S::Item>, D: Demand<G::Out>, C: Collector<Ite
         leaf: usize,
     ) -> Result<LeafEnd<C::Acc>, NoMemory> {
         let source = self.plan.leaf(leaf);
-        run_leaf(self.alloc, source, &self.reading, board, seat, leaf)
+        read_leaf(self.alloc, source, &self.reading, board, seat, leaf)
     }
 
     fn combine(&self, left: &mut C::Acc, right: C::Acc) -> Result<(), NoMemory> {

@@ -9,7 +9,7 @@ use super::plan_of;
 use barriers::{Demand, Need, Whole};
 use collectors::{Collector, SummingLong, combine_containers};
 use leaf_board::Handout;
-use leaf_reading::{LeafEnd, Reading, run_leaf};
+use leaf_reading::{LeafEnd, Reading, read_leaf};
 use parts::Itself;
 use sources::RangeSplit;
 use split_tree::{Plan, Tree};
@@ -154,7 +154,7 @@ impl LastRun for Numbers {
             demand,
             collector,
         };
-        run_leaf(self.alloc, source, &reading, board, seat, leaf)
+        read_leaf(self.alloc, source, &reading, board, seat, leaf)
     }
 }
 

@@ -21,4 +21,4 @@ returns-clause-end g c =
     let found = subst Q c.deref.ensures.value c.part-items.ensures in
     let here = part-at content through p.listed c.in-Some.listed c.args.leaf part c.in-Some.is found ∙ ap through (sym c.new.ensures) in
     let within = part-within content through (g.U.Stream.leaves_next s.upstream p.before) p.listed c.args.leaf c.requires.done c.requires.within in
-    leaf-ends-ok f (C.content c.args.reading.now.collector.now) (map through (parts_of content p.listed)) c.args.leaf (g.L.Handout.cut c.run_leaf.new.seat) (through (map content c.new.result.items.now)) within here c.run_leaf.result c.run_leaf.ensures.end
+    leaf-ends-ok f (C.content c.args.reading.now.collector.now) (map through (parts_of content p.listed)) c.args.leaf (g.L.Handout.cut c.read_leaf.new.seat) (through (map content c.new.result.items.now)) within here c.read_leaf.result c.read_leaf.ensures.end

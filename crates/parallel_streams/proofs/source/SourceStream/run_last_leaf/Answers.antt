@@ -19,4 +19,4 @@ returns-clause-end g c =
     let number : length leaves ≡ length lists = sym (length-map (map items leaves) through ∙ length-map leaves items) in
     let P : ℕ → Type 0 = λ n. c.args.leaf < n in
     let here = ap (λ l. slice_index_or l c.args.leaf []) (map-both items through leaves) ∙ get-mapped (λ s. through (items s)) leaves c.args.leaf c.leaf.result [] c.leaf.ensures in
-    leaf-ends-ok f (C.content c.args.reading.now.collector.now) lists c.args.leaf (g.L.Handout.cut c.run_leaf.new.seat) (through (items c.leaf.result)) (subst P number c.requires.within) here c.run_leaf.result c.run_leaf.ensures.end
+    leaf-ends-ok f (C.content c.args.reading.now.collector.now) lists c.args.leaf (g.L.Handout.cut c.read_leaf.new.seat) (through (items c.leaf.result)) (subst P number c.requires.within) here c.read_leaf.result c.read_leaf.ensures.end

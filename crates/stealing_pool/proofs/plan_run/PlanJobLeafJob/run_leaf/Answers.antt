@@ -16,4 +16,4 @@ returns-clause-end g c =
     let leaves = leaves_of j.plan.now in
     let sizes = length-map leaves (λ s. flat_map expand (items s)) in
     let within : c.args.leaf < length leaves = let w = c.requires.within in omega arith in
-    leaf-ends-ok f (g.C.Collector.content j.reading.collector.now) (lists_of items expand leaves) c.args.leaf (g.B.Handout.cut c.run_leaf.new.seat) (flat_map expand (items c.leaf-source.result)) c.requires.within (list-at items expand leaves c.args.leaf c.leaf-source.result within c.leaf-source.ensures) c.run_leaf.result c.run_leaf.ensures.end
+    leaf-ends-ok f (g.C.Collector.content j.reading.collector.now) (lists_of items expand leaves) c.args.leaf (g.B.Handout.cut c.read_leaf.new.seat) (flat_map expand (items c.leaf-source.result)) c.requires.within (list-at items expand leaves c.args.leaf c.leaf-source.result within c.leaf-source.ensures) c.read_leaf.result c.read_leaf.ensures.end

@@ -21,5 +21,5 @@ returns-clause-end g c =
     let leaves = leaves_of a.self.now.plan in
     let sizes = length-map leaves items in
     let within : a.leaf < length leaves = let w = c.requires.there in omega arith in
-    let P : List ℤ → Type 0 = λ whole. IfOk c.run_leaf.result (EndsList f (g.C.Collector.content a.collector.now) whole (g.B.Handout.cut c.run_leaf.new.seat) a.leaf) in
-    subst P (at_leaf items leaves a.leaf c.leaf-source.result within c.leaf-source.ensures) c.run_leaf.ensures.end
+    let P : List ℤ → Type 0 = λ whole. IfOk c.read_leaf.result (EndsList f (g.C.Collector.content a.collector.now) whole (g.B.Handout.cut c.read_leaf.new.seat) a.leaf) in
+    subst P (at_leaf items leaves a.leaf c.leaf-source.result within c.leaf-source.ensures) c.read_leaf.ensures.end

@@ -1,7 +1,7 @@
 use Rattle.std.proofs.Common.{refl, [], rules}
 use Rattle.leaf_reading.specs.Fronts.{folding}
 use Rattle.leaf_reading.proofs.Fronts.{front_none}
-use Rattle.leaf_reading.proofs.leaf.run_leaf.Goals as goal
+use Rattle.leaf_reading.proofs.leaf.read_leaf.Goals as goal
 
 pub returns-in-Ok-true-clause-end : goal.returns-in-Ok-true-clause-end
 returns-in-Ok-true-clause-end g c =

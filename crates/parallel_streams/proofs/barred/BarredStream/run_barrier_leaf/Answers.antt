@@ -6,7 +6,7 @@ use Rattle.stealing_pool.specs.Spans.{work_of}
 use Rattle.stealing_pool.specs.Jobs.{EndsLeaf}
 use Rattle.parallel_streams.specs.LeafLaws.{map-alone}
 use Rattle.parallel_streams.specs.ProgressLaws.{ends-own_ok}
-use Rattle.parallel_streams.proofs.barred.BarredStream.run_leaf.Goals as goal
+use Rattle.parallel_streams.proofs.barred.BarredStream.run_barrier_leaf.Goals as goal
 
 pub returns-then-is_gathered-clause-end : goal.returns-then-is_gathered-clause-end
 returns-then-is_gathered-clause-end g c =
