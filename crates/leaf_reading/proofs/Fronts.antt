@@ -1,6 +1,7 @@
 -- What a keeper keeps of what it is offered.
-use Rattle.std.proofs.Common.{◌≡◌, ◌<◌, ◌≤◌, ◌^◌, ◌+◌, ◌++◌, ◌∷◌, ℕ, Bool, true, false, List, [], Option, Some, None, arith, cond, add-zero, refl, ap, ap₂, sym, ◌∙◌, append_assoc, append-nil, subst, inl, inr}
+use Rattle.std.proofs.Common.{◌≡◌, ◌<◌, ◌≤◌, ◌^◌, ◌+◌, ◌++◌, ◌∷◌, ℕ, Bool, true, false, List, [], Option, Some, None, arith, cond, add-zero, refl, ap, ap₂, sym, ◌∙◌, append_assoc, append-nil, subst, inl, inr, map, take, drop, length, ⊎_elim}
 use Rattle.std.specs.Prelude.{count_by, All, fold, ◌⊎◌}
+use Rattle.std.proofs.lemmas.List.{take-append-drop, map-append, drop_all}
 use Rattle.std.proofs.lemmas.List.Elements.{All-push, All-append}
 use Rattle.std.proofs.lemmas.List.Sums.{fold-append, sum_by-append}
 use Rattle.barriers.specs.Needs.{IsBelow, CountsNone, Reaches}
@@ -72,6 +73,25 @@ module _ {T C A : Type 0} (f : Folding T C) (content : A → C) where
         stays within,
         ends,
       )
+
+  -- the same of a block's items, where so many of them are taken, of which some count
+  pub front_kept : {X : Type 0} (item : X → T) (p p' : Portion A) (block front : List X) (taken counting : ℕ) (need : Option ℕ)
+      → need ≡ f.needed → (Reaches f.needed p.count → ⊥) → take taken block ≡ front → All f.is_value (map item front)
+      → p'.count ≡ p.count + counting → counting ≡ count_by f.counted (map item (take taken block)) → content p'.kept ≡ fold f.add (content p.kept) (map item front)
+      → (IsWithin need p.count → IsWithin need (p.count + counting)) → ((taken ≡ length block) ⊎ Reaches need (p.count + counting))
+      → Offers (KeepsFront f content) p (map item block) p'
+  front_kept item p p' block front taken counting need same under is values count counted adds stays ends =
+      let left = drop taken block in
+      let parts : map item block ≡ map item front ++ map item left =
+      ap (map item) (sym (take-append-drop taken block)) ∙ map-append item (take taken block) left ∙ ap (λ l. map item l ++ map item left) is in
+      let W : Option ℕ → Type 0 = λ n. IsWithin n p.count → IsWithin n (p.count + counting) in
+      let R : Option ℕ → Type 0 = λ n. Reaches n (p.count + counting) in
+      let N : ℕ → Type 0 = λ n. IsWithin f.needed n in
+      let E : ℕ → Type 0 = λ n. Reaches f.needed n in
+      front_block p p' (map item block) (map item front) (map item left) parts under values
+      (count ∙ ap (λ n. p.count + n) (counted ∙ ap (λ l. count_by f.counted (map item l)) is)) adds
+      (λ h. subst N (sym count) (subst W same stays h))
+      (⊎_elim (λ e. inl (ap (map item) (drop_all taken block (omega (arith, e))))) (λ r. inr (subst E (sym count) (subst R same r))) ends)
 
   -- a new container keeps nothing of nothing
   pub front_none : (p : Portion A) → content p.kept ≡ f.empty → p.count ≡ 0 → KeepsFront f content [] p
