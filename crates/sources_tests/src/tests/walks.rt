@@ -160,7 +160,11 @@ fn check_lent(rt: &impl Abort, first: &[i64], second: &[i64], both: &[i64]) {
     for most in [1, 2, usize::MAX] {
         let (first_split, second_split) = (SliceSplit::new(first), SliceSplit::new(second));
         check_row(rt, 0, lends(first_split, most, first));
-        check_row(rt, 1, lends(Concat::new(first_split, second_split), most, both));
+        check_row(
+            rt,
+            1,
+            lends(Concat::new(first_split, second_split), most, both),
+        );
     }
 }
 
