@@ -52,8 +52,9 @@ def check_of(process):
         # (another's, or a copy that a check made of itself: its time comes to the check's own)
         return None
     folder = os.path.basename(os.readlink(process / "cwd"))
-    kept = words[words.index("--incremental") + 1] if "--incremental" in words else ""
-    kind = "wrong bodies" if "/wrong-bodies-" in kept else "must-fail" if folder.startswith("rt-edit-") else "tests" if "--test" in words else "proof"
+    between = [pathlib.Path("/proc", it, "cmdline").read_bytes() for it in above[: above.index(str(os.getpid()))]]
+    is_wrong = any(b"wrong_bodies.py" in it for it in between)
+    kind = "wrong bodies" if is_wrong else "must-fail" if folder.startswith("rt-edit-") else "tests" if "--test" in words else "proof"
     return Check(words[words.index("--crate-name") + 1], kind, sum(map(int, stat[11:15])) / TICKS)
 
 

@@ -38,6 +38,7 @@ import tempfile
 FOLDER = "wrong-bodies"
 FUNCTION = re.compile(r"^( *)(?:pub(?:\([a-z]+\))? )?(?:(?:final|const|unsafe) )*fn (\w+)")
 OWNER = re.compile(r"^(?:pub )?(?:unsafe )?(impl\b.*|trait \w+)")
+DEFAULTED = re.compile(r"^(?:pub )?(?:struct|enum) (\w+)<[^{;(]* = ", re.M)
 CYCLE = re.compile(r"#\[cycle\((\w+)\)\]")
 TOLD = re.compile(r"fn (\S+?): (.*)")
 UNPROVED_NOTE = re.compile(r"note: (src/\S+?):(\d+):\d+: it is not proved that ")
@@ -141,11 +142,23 @@ def owner_name(owner, with_arguments=False):
     if owner.startswith(("trait", "pub trait")):
         return owner.partition("trait ")[2].split("<")[0].split(":")[0].split(" ")[0]
     parameters, trait, arguments, of = split_impl(owner)
-    own = [camel(it) for it in arguments if it and it not in parameters]
-    lent = "Ref" if of.startswith("&") and of[1:] in parameters else ""
-    # (an impl of `Run<'static, NoGate>` by itself is Run+NoGate)
-    at = [] if trait else [it for it in re.findall(r"[<,] ?(\w+)(?=[,>])", of) if it not in parameters]
-    return "+".join([lent or camel(of), *at]) + (camel(trait) if trait else "") + "".join(own if with_arguments else [])
+    of = re.sub(r"^&'\w+ ", "&", of)
+    begins = "Ref" if of.startswith("&") and of[1:] in parameters else camel(of)
+    # (an impl of `Run<'static, NoGate>` by itself is Run+NoGate, one that gives `Keeper<C, C::Acc>` a trait KeeperAcc and the trait)
+    if trait:
+        at = [it for base, it in re.findall(r"(\w+)::(\w+)(?=[,>])", of) if base in parameters]
+    else:
+        at = [f"+{it}" for it in re.findall(r"[<,] ?(\w+)(?=[,>])", of) if it not in parameters]
+    own = [camel(it) for it in arguments if with_arguments and it and it not in parameters]
+    return "".join([begins, *at, camel(trait) if trait and trait != "Drop" else "", *own])
+
+
+def has_another_name(function, text):
+    """Whether the check may know a function by another name than ours: that of an impl of all types, or of one that leaves out a parameter with a default."""
+    if not function.owner.startswith("impl"):
+        return False
+    parameters, _, _, of = split_impl(function.owner)
+    return of in parameters or camel(of) in DEFAULTED.findall(text)
 
 
 def path_of(function):
@@ -191,7 +204,7 @@ def with_holes(crate, proved, pack):
             path = path_of(function)
             folder = pathlib.Path(room, "proofs", *path.split("::"))
             is_in_a_cycle = len(function.folders) > 2 or folder.with_name(f"+{function.name}").is_dir()
-            if path in proved or lines[function.last].endswith(";") or is_in_a_cycle:
+            if path in proved or lines[function.last].endswith(";") or is_in_a_cycle or has_another_name(function, "\n".join(lines)):
                 continue
             source.write_text("\n".join(without_body(lines, function)), encoding="utf-8")
             shutil.rmtree(folder, ignore_errors=True)
@@ -455,8 +468,8 @@ class Passed:
 class Trial:
     """The edits of one crate, each tried until it is shown as refused or has failed."""
 
-    def __init__(self, crate, edits, kept):
-        self.crate, self.edits, self.kept, self.told, self.no_holes = crate, edits, kept, {}, set()
+    def __init__(self, crate, edits):
+        self.crate, self.edits, self.told, self.no_holes = crate, edits, {}, set()
 
     def run(self):
         """What came of each edit: whether it passed, and what is told of it."""
@@ -488,7 +501,8 @@ class Trial:
         """The lines of a check of these functions, or of the whole crate where there are none."""
         only = [word for it in dict.fromkeys(paths) for word in ("--only", it)]
         with with_holes(self.crate, {*paths} | self.no_holes, pack) if only else contextlib.nullcontext(self.crate) as crate:
-            ran = RT.checked(crate, {} if only else pack.texts(), ["--jobs", "1", *(only and ["--allow-holes"]), *only], self.kept)
+            # (with nothing kept: hardly a crate has a second check, and to keep takes a twentieth of the time)
+            ran = RT.checked(crate, {} if only else pack.texts(), ["--jobs", "1", *(only and ["--allow-holes"]), *only], None)
         said = ran.stdout.rstrip("\n").split("\n")
         refused = {it[1].replace("/", "::") for it in map(REFUSED_HOLE.match, said) if it} - self.no_holes
         if refused:
@@ -515,8 +529,7 @@ def try_crate(crate, passed):
     lacking = [it.name for it in crate.below() if not os.path.isdir(it.rlib)]
     if lacking and len(known) < len(edits):
         return [(False, f"{crate.name}: its library {lacking[0]} is not built: `rt all check` builds it")]
-    with tempfile.TemporaryDirectory(prefix="wrong-bodies-", ignore_cleanup_errors=True) as kept:
-        told = Trial(crate, [it for it in edits if it not in known], kept).run()
+    told = Trial(crate, [it for it in edits if it not in known]).run()
     passed.keep(crate, {it: text for it, (well, text) in told.items() if well})
     told |= {it: (True, f"{text} (by an earlier run of the same)") for it, text in known.items()}
     return [(told[it][0], f"{crate.name}/{it.name}: {told[it][1]}") for it in edits]

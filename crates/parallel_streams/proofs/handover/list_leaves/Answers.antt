@@ -1,4 +1,4 @@
-use Rattle.std.proofs.Common.{◌<◌, [], length, arith}
+use Rattle.std.proofs.Common.{rules, ◌<◌, [], length, arith}
 use Rattle.parallel_streams.proofs.Listing.{listed-one}
 use Rattle.parallel_streams.proofs.handover.list_leaves.Goals as goal
 
@@ -10,3 +10,7 @@ loop-leaf-preserved g c =
     let number = g.met.X.Stream.parts_count stream progress c.requires.done in
     let within : c.loop-leaf.leaf < length parts = omega (arith, c.loop-leaf-test.true, c.leaves-leaf-end.ensures, number) in
     listed-one g.X.Item.Value.content parts c.loop-leaf.leaf [] c.loop-leaf.list.items c.feed_last_leaf-fed.new.sink.items within c.loop-leaf.invariant c.in_ok-fed.ensures
+
+-- bounded: a wrong body would search to its limit
+pub loop-leaf-init : goal.loop-leaf-init
+loop-leaf-init g c = search rules fits 60 depth 3
