@@ -1,4 +1,5 @@
-use Rattle.std.proofs.Common.{length, ◌/◌}
+use Rattle.std.proofs.lemmas.Grind.{common_steps}
+use Rattle.std.proofs.Common.{arith, length, ◌/◌}
 use Rattle.std.specs.Ordering.{is_lt}
 use Rattle.derived_sources.proofs.AscendingParts.{ascend-front, ascend-rest}
 use Rattle.derived_sources.proofs.ascending.SortedSplitSpliterator.try_split.Goals as goal
@@ -22,3 +23,7 @@ invariant_of-result g c =
     record {
       ascending = ascend-front (λ x y. is_lt (value.order x y)) g.T.Value.content half s.items.now front c.split_at.ensures.front s.ascending;
     }
+
+-- bounded: a wrong body would search to its limit
+pub returns : goal.returns
+returns g c = grind (arith, common_steps) steps 400000

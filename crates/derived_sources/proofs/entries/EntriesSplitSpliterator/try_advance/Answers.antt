@@ -1,4 +1,4 @@
-use Rattle.std.proofs.Common.{◌≡◌, length, suc, ap, arith}
+use Rattle.std.proofs.Common.{rules, ◌≡◌, length, suc, ap, arith}
 use Rattle.derived_sources.proofs.DifferingParts.{differ-tail}
 use Rattle.derived_sources.proofs.entries.EntriesSplitSpliterator.try_advance.Goals as goal
 
@@ -15,3 +15,7 @@ invariant_of-self g c =
       paired = omega (arith, s.paired);
       differ = differ-tail eq s.keys.now first rest c.parted.ensures s.differ;
     }
+
+-- bounded: a wrong body would search to its limit
+pub returns-clause-ok : goal.returns-clause-ok
+returns-clause-ok g c = search rules fits 60 depth 3

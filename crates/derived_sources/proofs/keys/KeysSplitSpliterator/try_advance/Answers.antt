@@ -1,4 +1,4 @@
-use Rattle.std.proofs.Common.{◌≡◌, ◌∷◌, length, suc, ap, arith}
+use Rattle.std.proofs.Common.{rules, ◌≡◌, ◌∷◌, length, suc, ap, arith}
 use Rattle.derived_sources.proofs.DifferingParts.{differ-tail}
 use Rattle.derived_sources.proofs.keys.KeysSplitSpliterator.try_advance.Goals as goal
 
@@ -14,3 +14,7 @@ invariant_of-self g c =
       few = omega (arith, s.few);
       differ = differ-tail eq s.keys.now first rest parts s.differ;
     }
+
+-- bounded: a wrong body would search to its limit
+pub returns-clause-ok : goal.returns-clause-ok
+returns-clause-ok g c = search rules fits 60 depth 3

@@ -23,3 +23,15 @@ returns-then-not-branch-clause-means c = search rules fits 60 depth 3
 
 pub returns-then-not-branch-clause-barrier : goal.returns-then-not-branch-clause-barrier
 returns-then-not-branch-clause-barrier c = grind (arith, common_steps) steps 400000
+
+-- bounded: a wrong body would search to its limit
+pub returns-clause-means : goal.returns-clause-means
+returns-clause-means c = search rules fits 60 depth 3
+
+-- bounded: a wrong body would search to its limit
+pub returns-clause-barrier : goal.returns-clause-barrier
+returns-clause-barrier c = search rules fits 60 depth 3
+
+-- bounded: a wrong body would search to its limit
+pub returns-clause-size : goal.returns-clause-size
+returns-clause-size c = search rules fits 60 depth 3
