@@ -1,0 +1,10 @@
+use Rattle.std.proofs.Common.{rules}
+use Rattle.pipeline_runner.proofs.command_line.tell.Goals as goal
+
+-- bounded: a wrong body would search to its limit
+pub returns-in-NoMemory : goal.returns-in-NoMemory
+returns-in-NoMemory g c = search rules fits 60 depth 3
+
+-- bounded: a wrong body would search to its limit
+pub returns : goal.returns
+returns g c = search rules fits 60 depth 3
