@@ -16,3 +16,7 @@ pub returns-in-Partition-clause-told : goal.returns-in-Partition-clause-told
 returns-in-Partition-clause-told g c = λ l.
     let text = c.number_summary-parts.ensures.summary in
     rw (c.in-Partition.is, c.of-in-Partition.ensures) (ap₂ (λ no yes. Ok (partition_text no yes)) (sym (text _)) (sym (text _)))
+
+-- bounded: a wrong body would search to its limit
+pub returns-in-GroupBy-default-Base : goal.returns-in-GroupBy-default-Base
+returns-in-GroupBy-default-Base g c = search rules fits 200 depth 4
