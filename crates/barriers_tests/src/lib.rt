@@ -1,5 +1,0 @@
-//! The tests of `barriers`.
-#![tactic(auto)]
-
-#[cfg(test)]
-mod tests;

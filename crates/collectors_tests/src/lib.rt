@@ -1,5 +1,0 @@
-//! The tests of `collectors`.
-#![tactic(auto)]
-
-#[cfg(test)]
-mod tests;

@@ -1,5 +1,0 @@
-//! The tests of `derived_collectors`.
-#![tactic(auto)]
-
-#[cfg(test)]
-mod tests;

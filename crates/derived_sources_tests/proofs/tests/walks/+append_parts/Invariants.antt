@@ -1,4 +1,0 @@
-use Rattle.derived_sources_tests.proofs.tests.walks.+append_parts.Given as goal
-
-abbrev pub decreases-append_parts : goal.decreases-append_parts
-decreases-append_parts g l = g.S.Spliterator.weight l.split

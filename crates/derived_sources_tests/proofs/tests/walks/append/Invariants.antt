@@ -1,5 +1,0 @@
-use Rattle.std.proofs.Common.{length}
-use Rattle.derived_sources_tests.proofs.tests.walks.append.Given as goal
-
-abbrev pub decreases-loop-item : goal.decreases-loop-item
-decreases-loop-item g l = length (g.S.Spliterator.items l.split)

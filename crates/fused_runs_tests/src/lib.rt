@@ -1,5 +1,0 @@
-//! The tests of `fused_runs`.
-#![tactic(auto)]
-
-#[cfg(test)]
-mod tests;

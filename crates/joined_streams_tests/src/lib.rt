@@ -1,5 +1,0 @@
-//! The tests of `joined_streams`.
-#![tactic(auto)]
-
-#[cfg(test)]
-mod tests;

@@ -1,5 +1,0 @@
-//! The tests of `parallel_streams`.
-#![tactic(auto)]
-
-#[cfg(test)]
-mod tests;

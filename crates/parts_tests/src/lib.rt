@@ -1,5 +1,0 @@
-//! The tests of `parts`.
-#![tactic(auto)]
-
-#[cfg(test)]
-mod tests;

@@ -1,5 +1,0 @@
-//! The tests of `pipeline_meaning`.
-#![tactic(auto)]
-
-#[cfg(test)]
-mod tests;

@@ -1,5 +1,0 @@
-//! The tests of `pipeline_reader`.
-#![tactic(auto)]
-
-#[cfg(test)]
-mod tests;

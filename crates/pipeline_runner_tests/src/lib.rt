@@ -1,5 +1,0 @@
-//! The tests of `pipeline_runner`.
-#![tactic(auto)]
-
-#[cfg(test)]
-mod tests;

@@ -1,5 +1,0 @@
-//! The tests of `sorted_streams`.
-#![tactic(auto)]
-
-#[cfg(test)]
-mod tests;

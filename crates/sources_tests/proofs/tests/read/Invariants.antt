@@ -1,5 +1,0 @@
-use Rattle.std.proofs.Common.{length}
-use Rattle.sources_tests.proofs.tests.read.Given as goal
-
-abbrev pub decreases-loop-items : goal.decreases-loop-items
-decreases-loop-items g l = length (g.S.Spliterator.items l.split)

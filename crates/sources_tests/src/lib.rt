@@ -1,5 +1,0 @@
-//! The tests of `sources`.
-#![tactic(auto)]
-
-#[cfg(test)]
-mod tests;

@@ -1,5 +1,0 @@
-//! The tests of `spliterator`.
-#![tactic(auto)]
-
-#[cfg(test)]
-mod tests;

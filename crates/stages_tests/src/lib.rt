@@ -1,5 +1,0 @@
-//! The tests of `stages`.
-#![tactic(auto)]
-
-#[cfg(test)]
-mod tests;

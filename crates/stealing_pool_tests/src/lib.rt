@@ -1,5 +1,0 @@
-//! The tests of `stealing_pool`.
-#![tactic(auto)]
-
-#[cfg(test)]
-mod tests;

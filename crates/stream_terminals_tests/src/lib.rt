@@ -1,5 +1,0 @@
-//! The tests of `stream_terminals`.
-#![tactic(auto)]
-
-#[cfg(test)]
-mod tests;

@@ -1,0 +1,5 @@
+//! The tests of `parallel_streams`.
+#![tactic(auto)]
+
+#[cfg(test)]
+mod parallel_streams;

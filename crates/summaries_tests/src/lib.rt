@@ -1,5 +1,0 @@
-//! The tests of `summaries`.
-#![tactic(auto)]
-
-#[cfg(test)]
-mod tests;
