@@ -1,4 +1,5 @@
 pub mod Runs
+pub mod Fronts
 pub mod MapErrors
 pub mod Terminals
 pub mod LeafLaws

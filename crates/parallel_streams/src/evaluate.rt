@@ -1,14 +1,16 @@
 //! All the runs of a stream, one after another, each on the workers.
-ghost use Rattle.std.specs.Prelude.{◌≡◌, ℕ, List, None, true, false, IfOk};
+ghost use Rattle.std.specs.Prelude.{◌≡◌, ◌<◌, ◌++◌, ◌∷◌, [], ℕ, List, None, true, false, IfOk};
 ghost use Rattle.barriers.specs.Needs.{no_item};
 ghost use Rattle.leaf_reading.specs.Fronts.{folding};
 ghost use Rattle.stealing_pool.specs.Spans.{work_of, joined};
 ghost use Rattle.leaf_board.specs.Closing.{Outcome};
+ghost use Rattle.parallel_streams.specs.Fronts.{IsGivenOnFront};
 ghost use Rattle.parallel_streams.specs.Reports.{IsReport, IsRunOver};
-ghost use Rattle.parallel_streams.specs.Runs.{IsLawfulRun};
+ghost use Rattle.parallel_streams.specs.Runs.{IsLawfulRun, AnswersUnder};
 
 use crate::handover::{hand_over, list_over};
-use crate::{Run, Stream};
+use crate::settings::allow;
+use crate::{Run, Stream, StreamError};
 use barriers::{Demand, Need, Whole};
 use collectors::{Collector, combine_containers};
 use leaf_board::Handout;
@@ -126,6 +128,49 @@ pub struct Evaluated<A> {
     pub entries: Vec<RunEntry>,
 }
 
+// Runs the next barrier. Answers how far the stream has come, and the entry of the run.
+fn run_barrier<R: Threads + Sync, X: Stream + Sync, H: Gate + Sync>(
+    rt: &R,
+    alloc: Global,
+    stream: &X,
+    run: &Run<'_, H>,
+    progress: X::Progress,
+) -> Result<(X::Progress, RunEntry), NoMemory>
+where
+    X::Item: Send + Sync,
+    X::Progress: Send + Sync,
+    X::Part: Send,
+    requires stream { X.ready stream.now }
+    requires settings { IsLawfulRun run.now.workers run.now.target }
+    requires holds { X.holds stream.now progress }
+    requires waits { X.done stream.now progress ≡ false }
+    ensures holds { IfOk result (λ r. X.holds stream.now r.0) }
+    ensures planned { let planned = X.planned stream.now run.now.workers run.now.target in
+        planned progress → IfOk result (λ r. planned r.0) }
+    ensures entries { let planned = X.planned stream.now run.now.workers run.now.target in
+        let told = X.told_so_far stream.now run.now.workers run.now.target in
+        planned progress → (entries : List Outcome) → told progress entries
+        → IfOk result (λ r. told r.0 (entries ++ r.1 ∷ [])) }
+    ensures fewer { IfOk result (λ r. X.waiting stream.now r.0 < X.waiting stream.now progress) }
+{
+    let job = BarrierRun {
+        alloc,
+        stream,
+        progress: &progress,
+    };
+    let tree = stream.tree(&progress);
+    let gathered = run_job(rt, alloc, tree, &job, run.workers, run.gate)?;
+    let after = stream.gather(
+        alloc,
+        progress,
+        gathered.acc,
+        &gathered.entry,
+        run.workers,
+        run.target,
+    )?;
+    Ok((after, gathered.entry))
+}
+
 // Runs the barriers one after another. Answers how far the stream has come, and the entries of the runs.
 fn run_barriers<R: Threads + Sync, X: Stream + Sync, H: Gate + Sync>(
     rt: &R,
@@ -150,22 +195,9 @@ where
     let mut entries = Vec::new(alloc);
     let mut progress = stream.start(alloc, run.workers, run.target)?;
     while !stream.is_gathered(&progress) {
-        let job = BarrierRun {
-            alloc,
-            stream,
-            progress: &progress,
-        };
-        let tree = stream.tree(&progress);
-        let gathered = run_job(rt, alloc, tree, &job, run.workers, run.gate)?;
-        progress = stream.gather(
-            alloc,
-            progress,
-            gathered.acc,
-            &gathered.entry,
-            run.workers,
-            run.target,
-        )?;
-        entries.push(gathered.entry)?;
+        let (after, entry) = run_barrier(rt, alloc, stream, run, progress)?;
+        progress = after;
+        entries.push(entry)?;
     }
     promise_whole(stream, &progress);
     Ok((progress, entries))
@@ -256,47 +288,8 @@ where
     }
 }
 
-/// Runs the barriers one after another, and then the rest of the stream into a collector, as far as the demand asks.
-pub fn evaluate<
-    R: Threads + Sync,
-    X: Stream + Sync,
-    D: Demand<X::Item> + Sync,
-    C: Collector<Item = X::Item> + Sync,
-    H: Gate + Sync,
->(
-    rt: &R,
-    alloc: Global,
-    stream: &X,
-    run: &Run<'_, H>,
-    demand: &D,
-    collector: &C,
-) -> Result<Evaluated<C::Acc>, NoMemory>
-where
-    X::Item: Send + Sync,
-    X::Progress: Send + Sync,
-    X::Part: Send,
-    C::Acc: Send,
-    C::Out: Send,
-    requires stream { X.ready stream.now }
-    requires demand { D.ready demand.now }
-    requires collector { C.ready collector.now }
-    requires settings { IsLawfulRun run.now.workers run.now.target }
-    ensures { let workers = run.now.workers in
-        let target = run.now.target in
-        let needs = folding (D.needed demand.now) (D.counted demand.now) X.Item.is_value in
-        let fold = needs (C.empty collector.now) (C.add collector.now) in
-        IfOk result (λ e. IsReport (X.cut_into stream.now workers target) (X.value stream.now)
-        (X.reported stream.now workers target) (IsRunOver fold (C.content collector.now e.acc))
-        e.entries.items) }
-{
-    let (progress, mut entries) = run_barriers(rt, alloc, stream, run)?;
-    let (acc, entry) = run_last(rt, alloc, stream, run, &progress, demand, collector)?;
-    entries.push(entry)?;
-    Ok(Evaluated { acc, entries })
-}
-
 /// Runs the barriers one after another, and then all the rest of the stream into a collector.
-pub fn evaluate_whole<
+pub fn evaluate<
     R: Threads + Sync,
     X: Stream + Sync,
     C: Collector<Item = X::Item> + Sync,
@@ -328,4 +321,38 @@ where
     let (acc, entry) = run_whole(rt, alloc, stream, run, progress, collector)?;
     entries.push(entry)?;
     Ok(Evaluated { acc, entries })
+}
+
+/// The result of a collector on a front of the items that is all of them, or is enough for the demand.
+pub fn collect_enough<
+    R: Threads + Sync,
+    X: Stream + Sync,
+    D: Demand<X::Item> + Sync,
+    C: Collector<Item = X::Item> + Sync,
+    H: Gate + Sync,
+>(
+    rt: &R,
+    alloc: Global,
+    stream: &X,
+    run: &Run<'_, H>,
+    demand: &D,
+    collector: &C,
+) -> Result<C::Out, StreamError>
+where
+    X::Item: Send + Sync,
+    X::Progress: Send + Sync,
+    X::Part: Send,
+    C::Acc: Send,
+    C::Out: Send,
+    requires stream { X.ready stream.now }
+    requires demand { D.ready demand.now }
+    requires collector { C.ready collector.now }
+    ensures settings { AnswersUnder run.now.workers run.now.target result }
+    ensures value { let gives = IsGivenOnFront (D.needed demand.now) (D.counted demand.now) X.Item.is_value (C.gives collector.now) in
+        IfOk result (gives (X.value stream.now)) }
+{
+    allow(run.workers, run.target)?;
+    let (progress, _) = run_barriers(rt, alloc, stream, run)?;
+    let (acc, _) = run_last(rt, alloc, stream, run, &progress, demand, collector)?;
+    Ok(collector.finish(acc)?)
 }

@@ -25,7 +25,7 @@ ghost use Rattle.parallel_streams.specs.Runs.{IsLawfulRun, AnswersUnder};
 ghost use Rattle.parallel_streams.specs.Terminals.{any_meets, all_meet, IsLeftIdentity};
 
 use crate::barred::Barred;
-use crate::evaluate::{evaluate, evaluate_whole};
+use crate::evaluate::{collect_enough, evaluate};
 use crate::meets::{Contrary, Meets};
 use crate::part::Listed;
 use crate::settings::allow;
@@ -449,7 +449,7 @@ pub trait Stream {
             (reported self.now workers target) (C.gives collector.now) r.0 r.1) }
     {
         allow(run.workers, run.target)?;
-        let ended = evaluate_whole(rt, alloc, self, run, collector)?;
+        let ended = evaluate(rt, alloc, self, run, collector)?;
         let value = collector.finish(ended.acc)?;
         Ok((value, RunReport::of(ended.entries)))
     }
@@ -497,10 +497,7 @@ pub trait Stream {
         ensures settings { AnswersUnder run.now.workers run.now.target result }
         ensures value { IfOk result (λ found. option_map Self.Item.content found ≡ first (value self.now)) }
     {
-        allow(run.workers, run.target)?;
-        let first = First::new();
-        let ended = evaluate(rt, alloc, self, run, &Total::new(1), &first)?;
-        Ok(first.finish(ended.acc)?)
+        collect_enough(rt, alloc, self, run, &Total::new(1), &First::new())
     }
 
     /// Whether some item meets the test. What follows the first one may stay unread.
@@ -522,13 +519,11 @@ pub trait Stream {
         ensures settings { AnswersUnder run.now.workers run.now.target result }
         ensures value { IfOk result (λ met. met ≡ any_meets (P.holds test.now) (value self.now)) }
     {
-        allow(run.workers, run.target)?;
         let meets = Meets {
             test,
             items: PhantomData,
         };
-        let ended = evaluate(rt, alloc, self, run, &FirstHit::new(test), &meets)?;
-        Ok(meets.finish(ended.acc)?)
+        collect_enough(rt, alloc, self, run, &FirstHit::new(test), &meets)
     }
 
     /// Whether every item meets the test, as where there is no item. What follows one that does not may stay unread.
@@ -624,10 +619,7 @@ pub trait Stream {
         ensures settings { AnswersUnder run.now.workers run.now.target result }
         ensures value { IfOk result (λ joined. Self.Item.content joined ≡ fold (O.join operator.now) (Self.Item.content identity) (value self.now)) }
     {
-        allow(run.workers, run.target)?;
-        let reducing = Reducing::new(operator);
-        let ended = evaluate(rt, alloc, self, run, &Whole, &reducing)?;
-        match reducing.finish(ended.acc)? {
+        match collect_enough(rt, alloc, self, run, &Whole, &Reducing::new(operator))? {
             Some(joined) => Ok(joined),
             None => Ok(identity),
         }
