@@ -3,10 +3,10 @@
 
     checks/refused_tests.py [--most N] CRATE..
 
-CRATE is a library; its tests are the module of its name in a crate of tests, and have to be built before (`rt ci` leaves them built, and so does
-`rt test` in that crate). Memory is refused by a small library of this folder (refusing.py): one request a run, the first, the second, and so on to the last that the test makes; of a
-test with more requests than the most, 1,000 if nothing else is said, so many of the first, and of the starts of threads the first 64. Each test's
-line tells how many were refused, and of how many; where all are tried, so many are wanted.
+CRATE is a library; its tests are the module of_CRATE in a crate of tests, and have to be built before (`rt ci` leaves them built, and so does
+`rt test` in that crate). Memory is refused by a small library of this folder (refusing.py): one request a run, the first, the second, and so
+on to the last that the test makes; of a test with more requests than the most, 1,000 if nothing else is said, so many of the first, and of the
+starts of threads the first 64. Each test's line tells how many were refused, and of how many; where all are tried, so many are wanted.
 """
 
 import argparse
@@ -46,10 +46,10 @@ def findings(crate, program, test, refusing, most):
 
 def program_with(crate):
     """The built tests among which those of a library are."""
-    holds = lambda folder: (folder / f"{crate}.rt").exists() or (folder / crate / "mod.rt").exists()
+    holds = lambda folder: (folder / f"of_{crate}.rt").exists() or (folder / f"of_{crate}" / "mod.rt").exists()
     found = [it.parent for it in CRATES.glob("*_tests/src") if holds(it)]
     if not found:
-        sys.exit(f"no crate of tests has a module {crate}")
+        sys.exit(f"no crate of tests has a module of_{crate}")
     program = found[0] / "out" / f"{found[0].name}_tests"
     if not program.exists():
         sys.exit(f"{program.relative_to(CRATES.parent)} is missing: `rt ci` leaves it, and `rt test` in crates/{found[0].name} builds it")
@@ -62,7 +62,7 @@ def all_findings(crates, most):
         program = program_with(crate)
         listed = subprocess.run([program, "--list"], capture_output=True, text=True, check=True).stdout
         for line in listed.splitlines():
-            if line.startswith(f"{crate}::") and line.endswith(": test"):
+            if line.startswith(f"of_{crate}::") and line.endswith(": test"):
                 yield from findings(crate, program, line.removesuffix(": test"), refusing, most)
 
 

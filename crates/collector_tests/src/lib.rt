@@ -2,8 +2,8 @@
 #![tactic(auto)]
 
 #[cfg(test)]
-mod collectors;
+mod of_collectors;
 #[cfg(test)]
-mod derived_collectors;
+mod of_derived_collectors;
 #[cfg(test)]
-mod summaries;
+mod of_summaries;

@@ -2,8 +2,8 @@
 #![tactic(auto)]
 
 #[cfg(test)]
-mod pipeline_meaning;
+mod of_pipeline_meaning;
 #[cfg(test)]
-mod pipeline_reader;
+mod of_pipeline_reader;
 #[cfg(test)]
-mod pipeline_runner;
+mod of_pipeline_runner;

@@ -2,6 +2,6 @@
 #![tactic(auto)]
 
 #[cfg(test)]
-mod leaf_board;
+mod of_leaf_board;
 #[cfg(test)]
-mod stealing_pool;
+mod of_stealing_pool;

@@ -2,12 +2,12 @@
 #![tactic(auto)]
 
 #[cfg(test)]
-mod derived_sources;
+mod of_derived_sources;
+#[cfg(test)]
+mod of_sources;
+#[cfg(test)]
+mod of_split_tree;
+#[cfg(test)]
+mod of_spliterator;
 #[cfg(test)]
 mod reading;
-#[cfg(test)]
-mod sources;
-#[cfg(test)]
-mod split_tree;
-#[cfg(test)]
-mod spliterator;

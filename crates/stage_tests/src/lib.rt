@@ -2,8 +2,8 @@
 #![tactic(auto)]
 
 #[cfg(test)]
-mod barriers;
+mod of_barriers;
 #[cfg(test)]
-mod parts;
+mod of_parts;
 #[cfg(test)]
-mod stages;
+mod of_stages;

@@ -2,4 +2,4 @@
 #![tactic(auto)]
 
 #[cfg(test)]
-mod parallel_streams;
+mod of_parallel_streams;

@@ -2,12 +2,12 @@
 #![tactic(auto)]
 
 #[cfg(test)]
-mod fused_runs;
+mod of_fused_runs;
 #[cfg(test)]
-mod joined_streams;
+mod of_joined_streams;
+#[cfg(test)]
+mod of_sorted_streams;
+#[cfg(test)]
+mod of_stream_terminals;
 #[cfg(test)]
 mod settings;
-#[cfg(test)]
-mod sorted_streams;
-#[cfg(test)]
-mod stream_terminals;

@@ -1,0 +1,7 @@
+use denote.Text.{Utf8}
+use denote.Shadow.{shadow}
+use Rattle.collector_tests.proofs.of_collectors.shown.IndexMapShown.show.Given as goal
+
+abbrev pub invariant-loop-key : goal.invariant-loop-key
+invariant-loop-key g l =
+    (goal.iterator-loop-key g).can_next l.key-iterator × (goal.iterator-loop-key g).is_finite l.key-iterator × shadow (Utf8 l.between)

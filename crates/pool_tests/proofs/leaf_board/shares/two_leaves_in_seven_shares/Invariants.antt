@@ -1,6 +1,0 @@
-use Rattle.std.proofs.Common.{[], None}
-use Rattle.leaf_board.specs.Boards.{case_of}
-use Rattle.pool_tests.proofs.leaf_board.shares.two_leaves_in_seven_shares.Given as goal
-
-abbrev pub ghosts-own_shares : goal.ghosts-own_shares
-ghosts-own_shares g a = record { case = case_of a.leaves [] None a.seats }

@@ -1,0 +1,6 @@
+use Rattle.barriers.specs.Needs.{need_of}
+use Rattle.leaf_board.specs.Boards.{largest}
+use Rattle.pool_tests.proofs.of_leaf_board.threads.sixty_four_threads_publish_every_leaf.Given as goal
+
+abbrev pub ghosts-in_threads : goal.ghosts-in_threads
+ghosts-in_threads g a = record { case = largest (need_of a.need) }
