@@ -1,12 +1,10 @@
 -- What is told of two lists apart is told of both.
-use Rattle.std.specs.Prelude.{◌≡◌, ◌<◌, ◌+◌, ℕ, ℤ, pos, ◌+ℤ◌, List, [], ◌∷◌, ◌++◌, fold, length, map, take, Option, Some, None}
+use Rattle.std.specs.Prelude.{◌≡◌, ℤ, pos, ◌+ℤ◌, List, [], ◌∷◌, ◌++◌, fold, Option, Some, None}
 use Rattle.std.specs.Int.{int_min, int_max}
-use Rattle.std.proofs.Common.{suc, slice_index_or, refl, sym, ap, ap₂, ◌∙◌, arith, w64}
+use Rattle.std.proofs.Common.{refl, sym, ap, ap₂, ◌∙◌, arith, w64}
 use Rattle.std.proofs.Math.IntN.{+ℤ_idl}
 use Rattle.std.proofs.lemmas.Int.{int_wrap-add_right, clamps, ints}
-use Rattle.std.proofs.Math.Seq.{take-suc}
-use Rattle.std.proofs.lemmas.List.{map-append}
-use Rattle.std.proofs.lemmas.List.Sums.{fold-append, fold_push}
+use Rattle.std.proofs.lemmas.List.Sums.{fold-append}
 use Rattle.stages.specs.Wrapping.{wrapped, wrapped_sum, wrapped_sum_assoc}
 use Rattle.collectors.specs.Reductions.{reduce_add, reduce_merge}
 use Rattle.summaries.specs.Facts.{Facts, no_facts, add_facts, merge_facts}
@@ -55,18 +53,3 @@ module _ {X : Type 0} (number : X → ℤ) where
       merge-fold g (add_facts number no_facts x) back
       ∙ ap (λ h. fold (add_facts number) h back) (merge-begun g x)
       ∙ sym (fold-append (add_facts number) f front (x ∷ back))
-
-  -- what is told of the items so far, and then of one more
-  pub told_next : {T : Type 0} (content : T → X) (start before after : Facts) (l : List T) (i : ℕ) (item : T) → i < length l → item ≡ slice_index_or l i item
-      → before ≡ fold (add_facts number) start (map content (take i l)) → after ≡ add_facts number before (content item)
-      → after ≡ fold (add_facts number) start (map content (take (i + 1) l))
-  told_next content start before after l i item within is so_far seen =
-      let add = add_facts number in
-      let next : i + 1 ≡ suc i = omega arith in
-      let taken : take (i + 1) l ≡ take i l ++ item ∷ [] =
-      ap (λ n. take n l) next ∙ take-suc l i item within ∙ ap (λ x. take i l ++ x ∷ []) (sym is) in
-      seen
-      ∙ ap (λ f. add f (content item)) so_far
-      ∙ sym (fold_push add start (map content (take i l)) (content item))
-      ∙ ap (fold add start) (sym (map-append content (take i l) (item ∷ [])))
-      ∙ ap (λ m. fold add start (map content m)) (sym taken)

@@ -2,7 +2,8 @@ use Rattle.std.proofs.Common.{rules, ◌≡◌, ◌∷◌, ◌++◌, ◌∙◌, 
 use Rattle.std.proofs.lemmas.List.{take_all}
 use Rattle.summaries.specs.Facts.{no_facts, add_facts, merge_facts}
 use Rattle.summaries.specs.Summaries.{told, told_of}
-use Rattle.summaries.proofs.Halves.{told_next, both_halves}
+use Rattle.collectors.proofs.Folded.{folded-next}
+use Rattle.summaries.proofs.Halves.{both_halves}
 use Rattle.summaries.proofs.summarizing.Summarizing.with_halves.Goals as goal
 
 pub loop-at-preserved : goal.loop-at-preserved
@@ -18,8 +19,8 @@ loop-at-preserved g c =
     let whole_front = ap length c.in-Some.ensures.cases.0 in
     let whole_back = ap length c.in-Some-split_first.ensures.cases.0 in
     let alike : length front ≡ length back = omega (arith, whole_front, whole_back, c.requires.alike) in (
-      told_next image content (told_of c.with-early.result) (told_of c.loop-at.early) _ front at c.index-front-at.result (omega (arith, c.loop-at-test.true)) c.index-front-at.is c.loop-at.invariant.0 early,
-      told_next image content (told_of c.with-late.result) (told_of c.loop-at.late) _ back at c.index-back-at.result (omega (arith, c.loop-at-test.true, alike)) c.index-back-at.is c.loop-at.invariant.1 late,
+      folded-next content add (told_of c.with-early.result) (told_of c.loop-at.early) _ front at c.index-front-at.result (omega (arith, c.loop-at-test.true)) c.index-front-at.is c.loop-at.invariant.0 early,
+      folded-next content add (told_of c.with-late.result) (told_of c.loop-at.late) _ back at c.index-back-at.result (omega (arith, c.loop-at-test.true, alike)) c.index-back-at.is c.loop-at.invariant.1 late,
     )
 
 pub returns : goal.returns

@@ -1,7 +1,7 @@
 use Rattle.std.proofs.Common.{rules, ◌≡◌, arith}
 use Rattle.summaries.specs.Facts.{add_facts}
 use Rattle.summaries.specs.Summaries.{told}
-use Rattle.summaries.proofs.Halves.{told_next}
+use Rattle.collectors.proofs.Folded.{folded-next}
 use Rattle.summaries.proofs.summarizing.Summarizing.with_last.Goals as goal
 
 pub loop-item-preserved : goal.loop-item-preserved
@@ -9,5 +9,5 @@ loop-item-preserved g c =
     let image = g.M.Mapping.image c.args.self.now.number in
     let content = g.T.Value.content in
     let seen : told c.summary-summary.result ≡ add_facts image (told c.loop-item.summary) (content c.item-item.result) = search rules in
-    told_next image content (told c.args.before) (told c.loop-item.summary) (told c.summary-summary.result) c.args.items.now c.loop-item.item-index c.item-item.result
+    folded-next content (add_facts image) (told c.args.before) (told c.loop-item.summary) (told c.summary-summary.result) c.args.items.now c.loop-item.item-index c.item-item.result
     (omega (arith, c.loop-item-test.true)) c.item-item.is c.loop-item.invariant seen
