@@ -105,12 +105,15 @@ def told(edits, *words):
 
 
 def main():
-    lines, status = told(EDITS, "--anew")
-    cases = {name: any(line.startswith(wanted) for line in lines) for name, (_, _, wanted) in EDITS.items()}
-    cases |= {"the sums": lines[-1:] == ["6 passed, 7 failed"], "the status": status == 1}
+    # (where a text can't be read its pack is divided until it stands alone: a pack of two shows that for less)
+    unread = {name: EDITS[name] for name in ("adds_two", "does_not_parse")}
+    lines, status = told({name: edit for name, edit in EDITS.items() if name != "does_not_parse"}, "--anew")
+    divided, _ = told(unread, "--anew")
+    cases = {name: any(line.startswith(wanted) for line in (divided if name in unread else lines)) for name, (_, _, wanted) in EDITS.items()}
+    cases |= {"the sums": [lines[-1], divided[-1]] == ["6 passed, 6 failed", "1 passed, 1 failed"], "the status": status == 1}
     again, _ = told({name: edit for name, edit in EDITS.items() if "FAILED" not in edit[2]})
     cases["what passed is kept, where the kit keeps it"] = [line.endswith(" (by an earlier run of the same)") for line in again[:-1]] == [KEEPS] * 6
-    lines += again
+    lines += divided + again
     for name, good in cases.items():
         print(f"{'ok' if good else 'FAILED'}: {name}")
     if not all(cases.values()):
