@@ -24,6 +24,7 @@ import concurrent.futures
 import contextlib
 import copy
 import difflib
+import functools
 import hashlib
 import importlib.machinery
 import importlib.util
@@ -72,6 +73,7 @@ RT = load_rt()
 KEEPS = hasattr(RT, "Kept")
 
 
+@functools.cache
 def functions_of(file, text):
     """The functions of a laid-out source file, by the numbers of their lines."""
     lines, found, owner = text.split("\n"), [], ""
@@ -161,6 +163,7 @@ def has_another_name(function, text):
     return of in parameters or camel(of) in DEFAULTED.findall(text)
 
 
+@functools.cache
 def path_of(function):
     """The name that a check has for a function, without the crate's."""
     return "::".join(it for it in (function.module, owner_name(function.owner, True) if function.owner else "", function.name) if it)
@@ -448,21 +451,25 @@ class Passed:
         self.store = RT.Kept(crates, anew) if KEEPS else None
         self.script = pathlib.Path(__file__).read_bytes()
 
-    def name(self, crate, edit):
-        """The sum of all that an edit's result rests on."""
-        text = repr((RT.stamp_of(crate, {}), hashlib.sha256(self.script).hexdigest()))
+    def name(self, crate, edit, seen):
+        """The sum of all that an edit's result rests on; the crates' own sums are those of `seen`, and what it lacks is added."""
+        text = repr((RT.stamp_of(crate, seen), hashlib.sha256(self.script).hexdigest()))
         return self.store.of_edit(edit.path, hashlib.sha256(text.encode()).hexdigest())
 
-    def find(self, crate, edit):
-        """What an earlier run told of a refused edit, or None."""
-        found = None if edit.fault or not self.store else self.store.tried(self.name(crate, edit))
-        return found and found[1]
+    def find(self, crate, edits):
+        """What an earlier run told of each of these edits that it refused."""
+        if not self.store:
+            return {}
+        seen = {}
+        found = {it: self.store.tried(self.name(crate, it, seen)) for it in edits if not it.fault}
+        return {it: said[1] for it, said in found.items() if said}
 
     def keep(self, crate, edits):
         """Keeps what was told of refused edits, unless a file that the result rests on was touched since the run began."""
         if self.store and all(map(self.store.is_untouched, [crate, *crate.below()])):
+            seen = {}
             for edit, text in edits.items():
-                self.store.keep_tried(self.name(crate, edit), RT.REFUSED, text)
+                self.store.keep_tried(self.name(crate, edit, seen), RT.REFUSED, text)
 
 
 class Trial:
@@ -525,7 +532,7 @@ class Trial:
 def try_crate(crate, passed):
     """A line for each edit of a crate, with whether it passed."""
     edits = [Edit(it, crate) for it in sorted(pathlib.Path(crate.folder, FOLDER).glob("*.edit"))]
-    known = {it: text for it in edits if (text := passed.find(crate, it))}
+    known = passed.find(crate, edits)
     lacking = [it.name for it in crate.below() if not os.path.isdir(it.rlib)]
     if lacking and len(known) < len(edits):
         return [(False, f"{crate.name}: its library {lacking[0]} is not built: `rt all check` builds it")]
