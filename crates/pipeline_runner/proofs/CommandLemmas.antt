@@ -1,12 +1,14 @@
 -- How a command ends.
-use Rattle.std.proofs.Common.{◌≡◌, ◌∙◌, ℕ, List, [], Option, Some, Err, codes, ap, sym, arith}
+use Rattle.std.proofs.Common.{◌≡◌, ◌≢◌, ◌∙◌, ℕ, List, [], Option, Some, Err, codes, ap, inl, inr, subst, sym, arith}
 use Rattle.std.specs.Prelude.{IfSome, string_bytes}
-use Rattle.clap.specs.Words.{fault_of, first_of, found_of, matches_of, rows_of}
+use Rattle.clap.specs.Words.{HasKind, IsAmong, fault_of, first_of, found_of, kind_of, matches_of, rows_of}
+use Rattle.clap.specs.declared.error.Error.{Error}
+use Rattle.clap.specs.declared.error.kind.ErrorKind.TheVariants.{DisplayHelp, OutOfMemory}
 use Rattle.clap.specs.declared.parser.matches.ArgMatches.{ArgMatches}
 use Rattle.clap.proofs.WalkLemmas.{first_value-rows}
 use Rattle.pipeline_language.specs.Language.{IsFaulty}
 use Rattle.pipeline_runner.specs.Command.{OnFile}
-use Rattle.pipeline_runner.specs.CommandLine.{HasName, program}
+use Rattle.pipeline_runner.specs.CommandLine.{AsksForHelp, HasLineFault, HasName, program}
 use Rattle.pipeline_runner.specs.Run.{Repeats, Runs}
 use Rattle.pipeline_runner.specs.Status.{status_of}
 use Rattle.pipeline_runner.specs.declared.runner.RunError.{RunError}
@@ -22,6 +24,17 @@ on_file m input none found (name, has, opened) holds = record {
   opened = opened;
   holds = holds;
 }
+
+-- what the words say where their error was explained with this status: only want of memory has none of their faults
+pub asked_for_help : {words : List (List ℕ)} (e : Error) (status : ℕ) → HasKind (fault_of program words) e
+    → (kind_of e ≡ OutOfMemory → status ≡ 3) → status ≡ 0 → kind_of e ≡ DisplayHelp → AsksForHelp words
+asked_for_help e status (inl memory) full zero is = let three = full memory in absurd (omega (arith, three, zero))
+asked_for_help {words} e status (inr among) full zero is = record { help = subst (λ kind. IsAmong kind (fault_of program words)) is among }
+
+pub has_a_fault : {words : List (List ℕ)} (e : Error) (status : ℕ) → HasKind (fault_of program words) e
+    → (kind_of e ≡ OutOfMemory → status ≡ 3) → status ≡ 2 → kind_of e ≢ DisplayHelp → HasLineFault words
+has_a_fault e status (inl memory) full two other = let three = full memory in absurd (omega (arith, three, two))
+has_a_fault e status (inr among) full two other = record { kind = kind_of e; among = among; other = other }
 
 -- what a run on a known input says of the file where it told a status
 pub told_fault : (file : List ℕ) (old new : Option (List ℕ)) (e : RunError) → status_of e ≡ 2 → Runs file old new (Err e) → IsFaulty file

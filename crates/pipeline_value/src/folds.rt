@@ -1,10 +1,13 @@
 //! The terminals that join all numbers into one, or count them.
 
-ghost use Rattle.std.specs.Prelude.{◌≡◌, ◌≤◌, flat_map};
+ghost use Rattle.std.specs.Prelude.{◌≡◌, ◌≤◌, ℤ, List, flat_map, fold, length, pos};
 ghost use Rattle.std.proofs.Math.ListN.{replicate};
+ghost use Rattle.stages.specs.Wrapping.{wrapped, wrapped_sum};
+ghost use Rattle.pipeline_value.specs.FoldedCopies.{product_of};
 ghost use Rattle.pipeline_value.specs.Folds.{fold_of, fold_terminal};
 ghost use Rattle.pipeline_value.specs.Typed.{number_told};
 ghost use Rattle.pipeline_value.specs.Value.{Tells};
+ghost use Rattle.pipeline_value.specs.declared.folds.Fold.TheVariants as folds;
 
 use crate::engine::Engine;
 use crate::known_size::as_count;
@@ -15,6 +18,7 @@ use parallel_streams::Stream;
 use parts::Itself;
 use pipeline_language::{NumberTerminal, NumberTotal};
 use stages::{Max, Min, WrapMul};
+use std::alloc::Global;
 use std::thread::Threads;
 use stealing_pool::Gate;
 use value_text::Rope;
@@ -45,6 +49,27 @@ impl Fold {
     }
 }
 
+/// The text of the sum of so many copies of each of some numbers, by the sum of the numbers.
+fn sum_of_copies(alloc: Global, sum: i64, copies: u64) -> Result<Rope, ValueError>
+    ensures { (l : List ℤ) → sum ≡ fold wrapped_sum (pos 0) l → Tells (number_told (fold_terminal folds.Sum) (flat_map (replicate copies) l)) result }
+{
+    told(alloc, &wrapping_product(sum, as_count(copies)))
+}
+
+/// The text of the product of so many copies of each of some numbers, by the product of the numbers.
+fn product_of_copies(alloc: Global, product: i64, copies: u64) -> Result<Rope, ValueError>
+    ensures { (l : List ℤ) → product ≡ product_of l → Tells (number_told (fold_terminal folds.Product) (flat_map (replicate copies) l)) result }
+{
+    told(alloc, &power(product, copies))
+}
+
+/// The text of how many so many copies of each of some numbers are, by the number of the numbers.
+fn count_of_copies(alloc: Global, count: i64, copies: u64) -> Result<Rope, ValueError>
+    ensures { (l : List ℤ) → count ≡ wrapped (pos (length l)) → Tells (number_told (fold_terminal folds.Count) (flat_map (replicate copies) l)) result }
+{
+    told(alloc, &wrapping_product(count, as_count(copies)))
+}
+
 /// The text of a fold's value on so many copies of each number of a stream. No copy is made.
 ///
 /// ```text
@@ -72,12 +97,12 @@ where
         Fold::Sum => {
             let sum = SummingLong::new(Itself);
             let sum = ran(engine, stream.collect(rt, alloc, run, &sum))?;
-            told(alloc, &wrapping_product(sum, as_count(copies)))
+            sum_of_copies(alloc, sum, copies)
         }
         Fold::Product => {
             let product = WrapMul::new();
             let product = ran(engine, stream.reduce(rt, alloc, run, 1, &product))?;
-            told(alloc, &power(product, copies))
+            product_of_copies(alloc, product, copies)
         }
         Fold::Max => {
             let larger = Max::new();
@@ -89,7 +114,7 @@ where
         }
         Fold::Count => {
             let count = ran(engine, stream.count(rt, alloc, run))?;
-            told(alloc, &wrapping_product(count, as_count(copies)))
+            count_of_copies(alloc, count, copies)
         }
     }
 }

@@ -1,6 +1,6 @@
-use Rattle.std.proofs.Common.{rules, ◌∙◌, sym, inr}
+use Rattle.std.proofs.Common.{◌∙◌, inl, inr, sym}
 use Rattle.std.proofs.lemmas.Option.{IfSome_then}
-use Rattle.pipeline_runner.proofs.CommandLemmas.{on_file, told_fault, told_key}
+use Rattle.pipeline_runner.proofs.CommandLemmas.{asked_for_help, has_a_fault, on_file, told_fault, told_key}
 use Rattle.pipeline_runner.proofs.command_line.command.Goals as goal
 
 pub returns-in-Ok-run-clause-answered : goal.returns-in-Ok-run-clause-answered
@@ -19,14 +19,10 @@ returns-clause-repeated g c = λ four.
     on_file c.in-Ok.matches c.in-Some.input c.in-Ok.ensures.fails c.in-Ok.ensures.found c.in-Some.ensures
     (IfSome_then (g.I.Input.remaining c.in-Some.input) c.in-Err-run.ensures.runs (λ file ran. told_key file _ _ c.in-Err-run.e is ran))
 
--- bounded: a wrong body would search to its limit
-pub returns-in-Err-3-clause-untouched : goal.returns-in-Err-3-clause-untouched
-returns-in-Err-3-clause-untouched g c = search rules fits 60 depth 3
+pub returns-in-Err-clause-answered : goal.returns-in-Err-clause-answered
+returns-in-Err-clause-answered g c = λ zero.
+    inl (asked_for_help c.in-Err.e c.explain.result c.in-Err.ensures.fails c.explain.ensures.memory zero (c.explain.ensures.helped zero), c.explain.ensures.shown zero)
 
--- bounded: a wrong body would search to its limit
-pub returns-in_default-clause-faulty : goal.returns-in_default-clause-faulty
-returns-in_default-clause-faulty g c = search rules fits 60 depth 3
-
--- bounded: a wrong body would search to its limit
-pub returns-in-Err-clause-failed : goal.returns-in-Err-clause-failed
-returns-in-Err-clause-failed g c = search rules fits 60 depth 3
+pub returns-in-Err-clause-faulty : goal.returns-in-Err-clause-faulty
+returns-in-Err-clause-faulty g c = λ two.
+    inl (has_a_fault c.in-Err.e c.explain.result c.in-Err.ensures.fails c.explain.ensures.memory two (c.explain.ensures.faulty two))
