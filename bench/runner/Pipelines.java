@@ -8,6 +8,7 @@ import java.util.LinkedHashMap;
 import java.util.List;
 import java.util.OptionalLong;
 import java.util.function.Supplier;
+import java.util.function.UnaryOperator;
 import java.util.stream.Collectors;
 import java.util.stream.LongStream;
 import java.util.stream.Stream;
@@ -62,8 +63,30 @@ class Pipelines {
             case "group" -> List.of(() -> grouped(range(n), n[2]), () -> grouped(range(n).sequential(), n[2]));
             case "distinct" -> List.of(() -> distinct(range(n), n[2]), () -> distinct(range(n).sequential(), n[2]));
             case "list" -> List.of(() -> list(range(n)), () -> list(range(n).sequential()));
+            default -> cuts(name, n);
+        };
+    }
+
+    /** What changes how many items there are, in order. */
+    static List<Supplier<String>> cuts(String name, long[] n) {
+        UnaryOperator<LongStream> stages = switch (name) {
+            case "repeat" -> numbers -> copies(numbers, n[2]).limit(n[3]).filter(x -> x % n[4] == 0);
+            case "limit" -> numbers -> numbers.filter(x -> x % n[2] == 0).limit(n[3]);
+            case "skip" -> numbers -> numbers.filter(x -> x % n[2] == 0).skip(n[3]);
+            case "take-while" -> numbers -> numbers.map(x -> x * n[2]).takeWhile(x -> x < n[3]).filter(x -> x % n[4] == 0);
+            case "drop-while" -> numbers -> numbers.map(x -> x * n[2]).dropWhile(x -> x < n[3]).filter(x -> x % n[4] == 0);
+            case "few-distinct", "all-distinct" -> numbers -> numbers.map(x -> Math.floorMod(x, n[2])).distinct();
             default -> throw new IllegalArgumentException(name);
         };
+        return List.of(() -> "" + stages.apply(range(n)).sum(), () -> "" + stages.apply(range(n).sequential()).sum());
+    }
+
+    static LongStream copies(LongStream numbers, long times) {
+        return numbers.mapMulti((x, out) -> {
+            for (long i = 0; i < times; i++) {
+                out.accept(x);
+            }
+        });
     }
 
     static LongStream range(long[] n) {

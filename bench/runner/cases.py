@@ -1,6 +1,6 @@
 """The program beside Java's streams, plain Rust programs and awk.
 
-Java's warmed streams are the measure for 100,000,000 numbers and for collectors, a plain loop of Rust threads for numbers, Java's whole
+Java's warmed streams are the measure for 100,000,000 numbers, for collectors and for cuts, a plain loop of Rust threads for numbers, Java's whole
 process for the smallest file. Times of awk are told where it can say the same, with no limit: it has one thread and its numbers are
 floats.
 """
@@ -29,6 +29,17 @@ BY_HAND = {
     "divisible-none": (["filter divisible 7", "nonematch equals -7"], [7, -7]),
     "group-count": (["groupby mod 1000 count"], [1000]),
     "group-sum": (["groupby mod 1000 sum"], [1000]),
+}
+
+# what changes how many items there are: numbers, the lines behind the range, the constants
+CUTS = {
+    "repeat": (SOME, ["flatmap repeat 4", "limit 20000000", "filter divisible 7", "sum"], [4, 20_000_000, 7]),
+    "limit": (SOME, ["filter divisible 3", "limit 1600000", "sum"], [3, 1_600_000]),
+    "skip": (SOME, ["filter divisible 3", "skip 1600000", "sum"], [3, 1_600_000]),
+    "take-while": (SOME, ["map mul 3", "takewhile less 18000000", "filter divisible 7", "sum"], [3, 18_000_000, 7]),
+    "drop-while": (SOME, ["map mul 3", "dropwhile less 18000000", "filter divisible 7", "sum"], [3, 18_000_000, 7]),
+    "few-distinct": (SOME, ["map mod 1000", "distinct", "sum"], [1000]),
+    "all-distinct": (SOME, ["map mod 100000007", "distinct", "sum"], [100_000_007]),
 }
 
 # a map of counts, keys in the order of their first item
@@ -87,6 +98,20 @@ def collector_cases(tools):
         yield tools.Case(f"{count:,} numbers, {name}", [tools.pstream, file, "--workers", str(WORKERS)], peers)
 
 
+def cut_cases(tools):
+    """Repeats, limits, skips, whiles and `distinct`; by hand they are one loop on one thread."""
+    peer = tools.rust(HERE / "peer_numbers.rs")
+    java = tools.java(HERE / "Pipelines.java")
+    for name, (count, lines, constants) in CUTS.items():
+        file = tools.file(name, ["pipeline 1", f"range 0 {count}", *lines])
+        words = [str(word) for word in [0, count, *constants]]
+        peers = [
+            tools.Peer("Java's warmed best", [*java, "warm", name, *words], limit=1, tells_time=True),
+            tools.Peer("the loop by hand on one thread", [peer, name, "1", *words]),
+        ]
+        yield tools.Case(f"{count:,} numbers, {name}", [tools.pstream, file, "--workers", str(WORKERS)], peers)
+
+
 def awk_peers(tools, count, awk):
     if awk:
         item, end = awk
@@ -128,5 +153,6 @@ def cases(tools):
     yield from small_case(tools)
     yield from line_case(tools)
     yield from collector_cases(tools)
+    yield from cut_cases(tools)
     yield from number_cases(tools)
     yield from hand_cases(tools)

@@ -1,10 +1,10 @@
 //! Number pipelines as one would write them by hand: a loop a thread over its share of a range, or of the numbers of a file. Every constant
-//! is a word of the command line, so the compiler knows none. Words: the pipeline's name, the threads, the range's ends or `file` and the
-//! file's name, the constants.
+//! is a word of the command line, so the compiler knows none. What cuts a list, and `distinct`, is one loop on one thread. Words: the
+//! pipeline's name, the threads, the range's ends or `file` and the file's name, the constants.
 //!
 //! The sums of whole progressions are folded into formulas by the compiler; there each item passes a black box.
 
-use std::collections::HashMap;
+use std::collections::{HashMap, HashSet};
 use std::hint::black_box;
 use std::thread;
 
@@ -84,6 +84,59 @@ fn mod_all(numbers: Numbers<'_>, n: &[i64]) -> bool {
 fn divisible_none(numbers: Numbers<'_>, n: &[i64]) -> bool {
     let (divisor, number) = (n[0], n[1]);
     over!(numbers, items, !items.filter(|x| x.rem_euclid(divisor) == 0).any(|x| x == number))
+}
+
+fn repeat(numbers: Numbers<'_>, n: &[i64]) -> i64 {
+    let (times, most, divisor) = (n[0] as usize, n[1] as usize, n[2]);
+    over!(numbers, items, {
+        let copies = items.flat_map(|x| std::iter::repeat(x).take(times)).take(most);
+        copies.filter(|x| x % divisor == 0).fold(0, i64::wrapping_add)
+    })
+}
+
+fn limit(numbers: Numbers<'_>, n: &[i64]) -> i64 {
+    let (divisor, most) = (n[0], n[1] as usize);
+    over!(numbers, items, items.filter(|x| x % divisor == 0).take(most).fold(0, i64::wrapping_add))
+}
+
+fn skip(numbers: Numbers<'_>, n: &[i64]) -> i64 {
+    let (divisor, number) = (n[0], n[1] as usize);
+    over!(numbers, items, items.filter(|x| x % divisor == 0).skip(number).fold(0, i64::wrapping_add))
+}
+
+fn take_while(numbers: Numbers<'_>, n: &[i64]) -> i64 {
+    let (factor, bound, divisor) = (n[0], n[1], n[2]);
+    over!(numbers, items, {
+        let front = items.map(|x| x.wrapping_mul(factor)).take_while(|x| *x < bound);
+        front.filter(|x| x % divisor == 0).fold(0, i64::wrapping_add)
+    })
+}
+
+fn drop_while(numbers: Numbers<'_>, n: &[i64]) -> i64 {
+    let (factor, bound, divisor) = (n[0], n[1], n[2]);
+    over!(numbers, items, {
+        let rest = items.map(|x| x.wrapping_mul(factor)).skip_while(|x| *x < bound);
+        rest.filter(|x| x % divisor == 0).fold(0, i64::wrapping_add)
+    })
+}
+
+fn distinct(numbers: Numbers<'_>, n: &[i64]) -> i64 {
+    let divisor = n[0];
+    let mut kept = HashSet::new();
+    over!(numbers, items, items.map(|x| x.rem_euclid(divisor)).filter(|x| kept.insert(*x)).fold(0, i64::wrapping_add))
+}
+
+/// The sum of what a cut, or `distinct`, leaves.
+fn cut(name: &str, numbers: Numbers<'_>, n: &[i64]) -> i64 {
+    match name {
+        "repeat" => repeat(numbers, n),
+        "limit" => limit(numbers, n),
+        "skip" => skip(numbers, n),
+        "take-while" => take_while(numbers, n),
+        "drop-while" => drop_while(numbers, n),
+        "few-distinct" | "all-distinct" => distinct(numbers, n),
+        _ => panic!("{name}"),
+    }
 }
 
 /// The keys in the order of their first item, and what is kept of each.
@@ -167,6 +220,6 @@ fn main() {
         "divisible-none" => all(divisible_none),
         "group-count" => print_groups(numbers, threads, n[0], |_| 1),
         "group-sum" => print_groups(numbers, threads, n[0], |x| x),
-        name => panic!("{name}"),
+        name => println!("{}", cut(name, numbers, n)),
     }
 }
