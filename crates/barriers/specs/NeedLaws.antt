@@ -1,9 +1,11 @@
 -- What enough of a list gives.
-use Rattle.std.specs.Prelude.{◌≡◌, ◌≤◌, ◌+◌, ℕ, Bool, true, false, not, cond, fold, count_by, List, [], ◌∷◌, ◌++◌, take, take_while, length, Option, Some, None, refl}
+use Rattle.std.specs.Prelude.{◌≡◌, ◌<◌, ◌≤◌, ◌+◌, ◌-◌, ℕ, zero, suc, Bool, true, false, not, cond, fold, count_by, List, [], ◌∷◌, ◌++◌, take, take_while, length, Option, Some, None, refl}
 use Rattle.std.proofs.Common.{ap, ◌∙◌, sym, arith, append-nil, ⊎_elim}
-use Rattle.std.proofs.lemmas.List.{take-append-le}
-use Rattle.std.proofs.lemmas.List.Sums.{take_while-cons, sum_by-append}
-use Rattle.barriers.specs.Needs.{KeepsEnough, IsOutcome, StaysEnough, every_item}
+use Rattle.std.proofs.lemmas.List.{take-append-le, length-append}
+use Rattle.std.proofs.lemmas.Bool.{cases_lt}
+use Rattle.std.proofs.Math.Seq.{take-append-add}
+use Rattle.std.proofs.lemmas.List.Sums.{take_while-cons, sum_by-append, sum_by-take-le}
+use Rattle.barriers.specs.Needs.{KeepsEnough, IsOutcome, StaysEnough, TakesBefore, CountsLast, Reaches, every_item}
 
 sum_from : {T : Type 0} (n : ℕ) (l : List T) → fold (λ a x. a + cond (every_item {T = T} x) 1 0) n l ≡ n + length l
 sum_from n [] = omega arith
@@ -60,3 +62,89 @@ value-front needed counted value law whole front (rest, joins, outcome) =
 pub whole-front : {T : Type 0} (counted : T → Bool) (whole front : List T) → IsOutcome None counted whole front → whole ≡ front
 whole-front counted whole front (rest, joins, outcome) =
     ⊎_elim (λ none. joins ∙ ap (λ r. front ++ r) none ∙ append-nil front) (λ enough. absurd enough) outcome
+
+-- what is false of a barrier needn't be shown
+pub absurd-false : {A : Type 0} → false ≡ true → A
+absurd-false is = absurd cc
+
+take_while-not : {T : Type 0} (p : T → Bool) (l : List T) → take_while p l ≡ take_while (λ x. not (not (p x))) l
+take_while-not p [] = refl
+take_while-not p (x ∷ l) = take_while-cons p x l ∙ head (p x) (take_while-not p l) ∙ sym (take_while-cons (λ y. not (not (p y))) x l)
+  where
+    head : (b : Bool) → take_while p l ≡ take_while (λ x. not (not (p x))) l → cond b (x ∷ take_while p l) [] ≡ cond (not (not b)) (x ∷ take_while (λ y. not (not (p y))) l) []
+    head true same = ap (λ m. x ∷ m) same
+    head false same = refl
+
+-- the longest front that meets a test is what stands before the first item that fails it
+pub TakesBefore-take_while : {T : Type 0} (p : T → Bool) → TakesBefore (Some 1) (λ x. not (p x)) (take_while p)
+TakesBefore-take_while p = (refl, take_while-not p)
+
+count-cons : {T : Type 0} (p : T → Bool) (x : T) (l : List T) → count_by p (x ∷ l) ≡ cond (p x) 1 0 + count_by p l
+count-cons p x l = count-from p (0 + cond (p x) 1 0) l ∙ omega arith
+
+-- where no item counts, all stand before the first that does
+pub before-none : {T : Type 0} (counted : T → Bool) (l : List T) → count_by counted l ≡ 0 → take_while (λ x. not (counted x)) l ≡ l
+before-none counted [] none = refl
+before-none counted (x ∷ l) none =
+    take_while-cons (λ y. not (counted y)) x l ∙ head (counted x) (before-none counted l) (sym (count-cons counted x l) ∙ none)
+  where
+    head : (b : Bool) → (count_by counted l ≡ 0 → take_while (λ y. not (counted y)) l ≡ l) → cond b 1 0 + count_by counted l ≡ 0
+        → cond (not b) (x ∷ take_while (λ y. not (counted y)) l) [] ≡ x ∷ l
+    head true later some = absurd (omega (arith, some))
+    head false later rest = ap (λ m. x ∷ m) (later (omega (arith, rest)))
+
+-- where the last item alone counts, the others stand before it
+pub before-last : {T : Type 0} (counted : T → Bool) (n : ℕ) (l : List T) → length l ≡ n + 1 → 1 ≤ count_by counted l → count_by counted (take n l) ≡ 0
+    → take_while (λ x. not (counted x)) l ≡ take n l
+before-last counted n [] long some none = absurd (omega (arith, long))
+before-last counted zero (x ∷ y ∷ l) long some none = absurd (omega (arith, long))
+before-last counted zero (x ∷ []) long some none =
+    take_while-cons (λ y. not (counted y)) x [] ∙ head (counted x) (omega (arith, some, count-cons counted x []))
+  where
+    head : (b : Bool) → 1 ≤ cond {A = ℕ} b 1 0 → cond (not b) (x ∷ []) [] ≡ []
+    head true one = refl
+    head false one = absurd (omega (arith, one))
+before-last counted (suc n) (x ∷ l) long some none =
+    take_while-cons (λ z. not (counted z)) x l
+    ∙ head (counted x) (before-last counted n l (omega (arith, long))) (omega (arith, some, count-cons counted x l)) (sym (count-cons counted x (take n l)) ∙ none)
+  where
+    head : (b : Bool) → (1 ≤ count_by counted l → count_by counted (take n l) ≡ 0 → take_while (λ z. not (counted z)) l ≡ take n l)
+        → 1 ≤ cond b 1 0 + count_by counted l → cond b 1 0 + count_by counted (take n l) ≡ 0
+        → cond (not b) (x ∷ take_while (λ z. not (counted z)) l) [] ≡ x ∷ take n l
+    head true later one others = absurd (omega (arith, others))
+    head false later one others = ap (λ m. x ∷ m) (later (omega (arith, one)) (omega (arith, others)))
+
+-- what is taken of a list in which nothing counts, and of what follows it, counts nothing either
+none-taken : {T : Type 0} (counted : T → Bool) (l r : List T) (n : ℕ) → count_by counted l ≡ 0 → ((m : ℕ) → m < length r → count_by counted (take m r) ≡ 0) → n < length l + length r
+    → count_by counted (take n (l ++ r)) ≡ 0
+none-taken counted l r n none of_right within =
+    ⊎_elim
+    (λ past.
+        let m = n - length l in
+        let parts = sum_by-append (λ x. cond (counted x) 1 0) l (take m r) in
+        let rest = of_right m (omega (arith, past, within)) in
+        let place : n ≡ length l + m = omega (arith, past) in
+        ap (λ k. count_by counted (take k (l ++ r))) place ∙ ap (count_by counted) (take-append-add l r m) ∙ omega (arith, parts, none, rest))
+    (λ inside.
+        let less = sum_by-take-le (λ x. cond (counted x) 1 0) l n in
+        ap (count_by counted) (take-append-le n l r inside) ∙ omega (arith, less, none))
+    (cases_lt (length l) n)
+
+-- behind items that are not enough, a list in which the last counts alone is such a list
+pub CountsLast-append : {T : Type 0} (needed : Option ℕ) (counted : T → Bool) (l r : List T) → (Reaches needed (count_by counted l) → ⊥) → CountsLast needed counted r → CountsLast needed counted (l ++ r)
+CountsLast-append None counted l r under of_right one n within = absurd cc
+CountsLast-append (Some k) counted l r under of_right one n within =
+    let is : k ≡ 1 = cc in
+    let none : count_by counted l ≡ 0 = none-below (count_by counted l) k is under in
+    none-taken counted l r n none (of_right one) (omega (arith, within, length-append l r))
+  where
+    none-below : (m k : ℕ) → k ≡ 1 → (k ≤ m → ⊥) → m ≡ 0
+    none-below m k is few = omega (arith, is, few)
+
+pub CountsLast-none : {T : Type 0} (needed : Option ℕ) (counted : T → Bool) → CountsLast {T = T} needed counted []
+CountsLast-none needed counted one n within = absurd (omega (arith, within))
+
+pub CountsLast-one : {T : Type 0} (needed : Option ℕ) (counted : T → Bool) (x : T) → CountsLast needed counted (x ∷ [])
+CountsLast-one needed counted x one n within =
+    let first : n ≡ 0 = omega (arith, within) in
+    ap (λ m. count_by counted (take m (x ∷ []))) first

@@ -1,5 +1,5 @@
 -- How much of a list is enough.
-use Rattle.std.specs.Prelude.{◌≡◌, ◌<◌, ◌≤◌, ◌⊎◌, ℕ, Bool, true, false, List, [], ◌++◌, Option, Some, None, count_by}
+use Rattle.std.specs.Prelude.{◌≡◌, ◌<◌, ◌≤◌, ◌⊎◌, ℕ, Bool, true, false, not, List, [], ◌++◌, Option, Some, None, count_by, take, take_while, length}
 use Rattle.barriers.specs.declared.demand.Need.{Need}
 use Rattle.barriers.specs.declared.demand.Need.TheVariants.{Never, Reach}
 
@@ -43,3 +43,11 @@ KeepsEnough {T} needed counted value = (front more : List T) → IsEnough needed
 -- what is enough stays enough, whatever stands before it and behind it
 abbrev pub StaysEnough : {T : Type 0} → Option ℕ → (T → Bool) → Type 0
 StaysEnough {T} needed counted = (before part behind : List T) → IsEnough needed counted part → IsEnough needed counted (before ++ part ++ behind)
+
+-- the value is the front before the first item that counts, and one such item is enough
+abbrev pub TakesBefore : {T : Type 0} → Option ℕ → (T → Bool) → (List T → List T) → Type 0
+TakesBefore {T} needed counted value = (needed ≡ Some 1) × ((l : List T) → value l ≡ take_while (λ x. not (counted x)) l)
+
+-- where one counting item is enough, none but the last counts
+abbrev pub CountsLast : {T : Type 0} → Option ℕ → (T → Bool) → List T → Type 0
+CountsLast needed counted xs = needed ≡ Some 1 → (n : ℕ) → n < length xs → count_by counted (take n xs) ≡ 0

@@ -1,8 +1,8 @@
 //! Operations that look at a whole list.
-ghost use Rattle.std.specs.Prelude.{◌≡◌, ℕ, List, Option, IfOk, map};
+ghost use Rattle.std.specs.Prelude.{◌≡◌, ℕ, true, List, Option, IfOk, map};
 ghost use Rattle.stages.specs.declared.flags.Operation.{Operation};
 ghost use Rattle.stages.specs.Flags.{KeepsSound};
-ghost use Rattle.barriers.specs.Needs.{KeepsEnough};
+ghost use Rattle.barriers.specs.Needs.{KeepsEnough, TakesBefore};
 
 use crate::Demand;
 use spliterator::{NoMemory, OrderedValue};
@@ -34,6 +34,9 @@ pub trait Barrier<T: OrderedValue>: Demand<T> {
 
     // where a front of the list is enough, what follows it makes no difference
     ghost enough_law: { (b : Self) → KeepsEnough (Self.needed b) (Self.counted b) (value b) };
+
+    // where it takes the items before the first that counts, its value is these
+    ghost before_law: { (b : Self) → Self.takes_before b ≡ true → TakesBefore (Self.needed b) (Self.counted b) (value b) };
 
     // sound flags and a known size stay so
     ghost flag_law: { (b : Self) → KeepsSound T.order T.order (operation b) (size_after b) (value b) };

@@ -1,5 +1,5 @@
 //! How much of a list is enough.
-ghost use Rattle.std.specs.Prelude.{◌≡◌, ◌<◌, ◌≤◌, ◌-◌, ◌^◌, ℕ, length, take, map, count_by, Bool, Option, Some, None, ⊤};
+ghost use Rattle.std.specs.Prelude.{true, false, ◌≡◌, ◌<◌, ◌≤◌, ◌-◌, ◌^◌, ℕ, length, take, map, count_by, Bool, Option, Some, None, ⊤};
 ghost use Rattle.barriers.specs.Needs.{need_of, every_item, no_item, IsBelow, CountsNone, StaysEnough};
 ghost use Rattle.barriers.specs.NeedLaws.{StaysEnough-always};
 
@@ -36,21 +36,18 @@ pub trait Demand<T: Value> {
         requires { ready self.now }
         ensures { result ≡ counted self.now (T.content x.now) };
 
-    /// How many items of a block count.
-    fn counting(&self, items: &[T]) -> usize
-        requires { ready self.now }
-        ensures { result ≡ count_by (counted self.now) (map T.content items.now) }
+    // whether the front before the first item that counts is what is wanted
+    ghost takes_before: { Self → Bool } = { λ _. false };
+
+    /// Whether it is known that the front before the first item that counts is what is wanted, as by `TakeWhile`.
+    fn takes_before(&self) -> bool
+        ensures { result ≡ true → takes_before self.now ≡ true }
     {
-        // (no item costs a branch, so that a compiler looks at several at once)
-        let mut counting = 0;
-        for item in items {
-            counting += usize::from(self.counts(item));
-        }
-        counting
+        false
     }
 
-    /// How many items of a block are taken until so many count, and how many of these count: all items, where fewer count. No item is
-    /// taken behind the last that is wanted.
+    /// How many items of a block are taken until `wanted` of them count, and how many of these count: all items, where fewer count. No item
+    /// is taken behind the last that is wanted, and none is asked for twice.
     fn front(&self, items: &[T], wanted: u64) -> (usize, u64)
         requires { ready self.now }
         ensures within { result.0 ≤ length items.now }
@@ -60,10 +57,6 @@ pub trait Demand<T: Value> {
         ensures shortest { let before_last = map T.content (take (result.0 - 1) items.now) in
             0 < result.0 → count_by (counted self.now) before_last < wanted }
     {
-        let all = self.counting(items) as u64;
-        if all < wanted {
-            return (items.len(), all);
-        }
         let mut counting = 0;
         for (taken, item) in items.iter().enumerate() {
             if counting >= wanted {
@@ -156,9 +149,5 @@ impl<T: Value, P: Test<T>> Demand<T> for FirstHit<P> {
 
     fn counts(&self, x: &T) -> bool {
         self.test.holds(x)
-    }
-
-    fn counting(&self, items: &[T]) -> usize {
-        self.test.count_meeting(items)
     }
 }

@@ -2,7 +2,7 @@ ghost use Rattle.std.specs.Prelude.{◌≡◌, None, IfOk, map};
 ghost use Rattle.stages.specs.declared.flags.Operation.TheVariants.{Distinct as distinct_row};
 ghost use Rattle.stages.specs.Distinct.{distinct};
 ghost use Rattle.barriers.specs.Needs.{no_item};
-ghost use Rattle.barriers.specs.NeedLaws.{KeepsEnough-never};
+ghost use Rattle.barriers.specs.NeedLaws.{KeepsEnough-never, absurd-false};
 ghost use Rattle.barriers.specs.BarrierFlags.{KeepsSound-distinct};
 
 use crate::{Barrier, Demand, Need};
@@ -37,6 +37,8 @@ impl<T: OrderedValue + Hash + Drop> Barrier<T> for Distinct {
     ghost size_after = { λ _ _. None };
 
     ghost enough_law = { λ _. KeepsEnough-never no_item (distinct T.same) };
+
+    ghost before_law = { λ _ is. absurd-false is };
 
     ghost flag_law = { λ _. KeepsSound-distinct T.same T.same_decides T.order };
 

@@ -1,7 +1,7 @@
 ghost use Rattle.std.specs.Prelude.{◌≡◌, ◌<◌, ◌^◌, Some, take, IsOk, IfOk, map, min, option_map};
 ghost use Rattle.stages.specs.declared.flags.Operation.TheVariants.{Limit as limit_row};
 ghost use Rattle.barriers.specs.Needs.{every_item};
-ghost use Rattle.barriers.specs.NeedLaws.{KeepsEnough-take};
+ghost use Rattle.barriers.specs.NeedLaws.{KeepsEnough-take, absurd-false};
 ghost use Rattle.barriers.specs.BarrierFlags.{KeepsSound-take};
 
 use crate::{Barrier, Demand, Need};
@@ -47,6 +47,8 @@ impl<T: OrderedValue + Drop> Barrier<T> for Limit {
     ghost size_after = { λ b. option_map (min b.most) };
 
     ghost enough_law = { λ b. KeepsEnough-take b.most };
+
+    ghost before_law = { λ _ is. absurd-false is };
 
     ghost flag_law = { λ b. KeepsSound-take T.order b.most };
 

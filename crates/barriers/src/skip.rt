@@ -1,7 +1,7 @@
 ghost use Rattle.std.specs.Prelude.{◌≡◌, ◌-◌, ◌<◌, ◌≤◌, vec_len, ◌^◌, None, drop, IsOk, IfOk, map, option_map};
 ghost use Rattle.stages.specs.declared.flags.Operation.TheVariants.{Skip as skip_row};
 ghost use Rattle.barriers.specs.Needs.{no_item};
-ghost use Rattle.barriers.specs.NeedLaws.{KeepsEnough-never};
+ghost use Rattle.barriers.specs.NeedLaws.{KeepsEnough-never, absurd-false};
 ghost use Rattle.barriers.specs.BarrierFlags.{KeepsSound-drop};
 
 use crate::{Barrier, Demand, Need};
@@ -55,6 +55,8 @@ impl<T: OrderedValue + Drop> Barrier<T> for Skip {
     ghost size_after = { λ b. option_map (λ size. size - b.number) };
 
     ghost enough_law = { λ b. KeepsEnough-never no_item (drop b.number) };
+
+    ghost before_law = { λ _ is. absurd-false is };
 
     ghost flag_law = { λ b. KeepsSound-drop T.order b.number };
 

@@ -1,10 +1,10 @@
 //! The longest front whose items all meet a test, and what follows it.
-ghost use Rattle.std.specs.Prelude.{◌≡◌, ◌≤◌, length, Some, None, not, IsOk, IfOk, map, take_while};
+ghost use Rattle.std.specs.Prelude.{true, ◌≡◌, ◌≤◌, length, Some, None, not, IsOk, IfOk, map, take_while};
 ghost use Rattle.std.specs.List.{prefix_len};
 ghost use Rattle.stages.specs.declared.flags.Operation.TheVariants.{TakeWhile as take_while_row, DropWhile as drop_while_row};
 ghost use Rattle.barriers.specs.Whiles.{drop_while};
 ghost use Rattle.barriers.specs.Needs.{no_item};
-ghost use Rattle.barriers.specs.NeedLaws.{KeepsEnough-never, KeepsEnough-take_while};
+ghost use Rattle.barriers.specs.NeedLaws.{KeepsEnough-never, KeepsEnough-take_while, TakesBefore-take_while, absurd-false};
 ghost use Rattle.barriers.specs.BarrierFlags.{KeepsSound-take_while, KeepsSound-drop_while};
 
 use crate::skip::drop_front;
@@ -13,7 +13,7 @@ use spliterator::{NoMemory, OrderedValue, Value};
 use stages::{Operation, Test};
 
 // The number of items in front that all meet the test, asked item by item.
-fn length_by_items<T: Value, P: Test<T>>(items: &[T], test: &P) -> usize
+fn length_of_front<T: Value, P: Test<T>>(items: &[T], test: &P) -> usize
     requires { P.ready test.now }
     ensures front { result ≡ prefix_len (P.holds test.now) (map T.content items.now) }
     ensures within { result ≤ length items.now }
@@ -24,28 +24,6 @@ fn length_by_items<T: Value, P: Test<T>>(items: &[T], test: &P) -> usize
         }
     }
     items.len()
-}
-
-// The items that are tested at once.
-const BLOCK: usize = 256;
-
-// The number of items in front that all meet the test. Blocks that meet it as a whole are counted, so that a compiler tests several items at once.
-fn length_of_front<T: Value, P: Test<T>>(items: &[T], test: &P) -> usize
-    requires { P.ready test.now }
-    ensures front { result ≡ prefix_len (P.holds test.now) (map T.content items.now) }
-    ensures within { result ≤ length items.now }
-{
-    let mut rest = items;
-    let mut front = 0;
-    'blocks: while BLOCK <= rest.len() {
-        let (block, after) = rest.split_at(BLOCK);
-        if test.count_meeting(block) < BLOCK {
-            return front + length_by_items(rest, test);
-        }
-        front += BLOCK;
-        rest = after;
-    }
-    front + length_by_items(rest, test)
 }
 
 /// The longest front whose items all meet a test (`java.util.stream.Stream`, `takeWhile`). One item that fails it is enough.
@@ -69,8 +47,14 @@ impl<T: Value, P: Test<T>> Demand<T> for TakeWhile<P> {
 
     ghost counted = { λ b x. not (P.holds b.test x) };
 
+    ghost takes_before = { λ _. true };
+
     fn need(&self) -> Need {
         Need::Reach(1)
+    }
+
+    fn takes_before(&self) -> bool {
+        true
     }
 
     fn counts(&self, x: &T) -> bool {
@@ -86,6 +70,8 @@ impl<T: OrderedValue + Drop, P: Test<T>> Barrier<T> for TakeWhile<P> {
     ghost size_after = { λ _ _. None };
 
     ghost enough_law = { λ b. KeepsEnough-take_while (P.holds b.test) };
+
+    ghost before_law = { λ b _. TakesBefore-take_while (P.holds b.test) };
 
     ghost flag_law = { λ b. KeepsSound-take_while T.order (P.holds b.test) };
 
@@ -147,6 +133,8 @@ impl<T: OrderedValue + Drop, P: Test<T>> Barrier<T> for DropWhile<P> {
     ghost size_after = { λ _ _. None };
 
     ghost enough_law = { λ b. KeepsEnough-never no_item (drop_while (P.holds b.test)) };
+
+    ghost before_law = { λ _ is. absurd-false is };
 
     ghost flag_law = { λ b. KeepsSound-drop_while T.order (P.holds b.test) };
 

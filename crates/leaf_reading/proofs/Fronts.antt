@@ -1,10 +1,11 @@
 -- What a keeper keeps of what it is offered.
-use Rattle.std.proofs.Common.{◌≡◌, ◌<◌, ◌≤◌, ◌^◌, ◌+◌, ◌++◌, ◌∷◌, ℕ, Bool, true, false, List, [], Option, Some, None, arith, cond, add-zero, refl, ap, ap₂, sym, ◌∙◌, append_assoc, append-nil, subst, inl, inr, map, take, drop, length, ⊎_elim}
+use Rattle.std.proofs.Common.{◌≡◌, ◌<◌, ◌≤◌, ◌^◌, ◌+◌, ◌-◌, ◌++◌, ◌∷◌, ℕ, Bool, true, false, List, [], Option, Some, None, arith, cond, add-zero, refl, ap, ap₂, sym, ◌∙◌, append_assoc, append-nil, subst, inl, inr, map, take, drop, length, ⊎_elim}
 use Rattle.std.specs.Prelude.{count_by, All, fold, ◌⊎◌}
-use Rattle.std.proofs.lemmas.List.{take-append-drop, map-append, drop_all}
+use Rattle.std.proofs.lemmas.List.{take-append-drop, map-append, drop_all, length-map, length-take, take-map, take-take}
 use Rattle.std.proofs.lemmas.List.Elements.{All-push, All-append}
-use Rattle.std.proofs.lemmas.List.Sums.{fold-append, sum_by-append}
-use Rattle.barriers.specs.Needs.{IsBelow, CountsNone, Reaches}
+use Rattle.std.proofs.lemmas.List.Sums.{fold-append, sum_by-append, sum_by-take-le}
+use Rattle.barriers.specs.Needs.{IsBelow, CountsNone, Reaches, CountsLast}
+use Rattle.barriers.specs.NeedLaws.{CountsLast-append, CountsLast-none, CountsLast-one}
 use Rattle.leaf_reading.specs.declared.leaf_end.Portion.{Portion}
 use Rattle.leaf_reading.specs.Fronts.{IsWithin, Folding, KeepsFront}
 use Rattle.leaf_reading.specs.KeeperLaws.{Offers}
@@ -33,17 +34,38 @@ within_none : (need : Option ℕ) → IsWithin need 0
 within_none None = refl
 within_none (Some r) = omega arith
 
+-- a part of the images of what is taken is the images of a part of the block
+taken-within : {X T : Type 0} (item : X → T) (taken : ℕ) (block front : List X) → take taken block ≡ front → (n : ℕ) → n < length (map item front) → n < taken
+taken-within item taken block front is n within = omega (arith, within, length-map front item, ap length is, length-take taken block)
+
+front-taken : {X T : Type 0} (item : X → T) (taken : ℕ) (block front : List X) → take taken block ≡ front → (n : ℕ) → n < length (map item front) → take n (map item front) ≡ map item (take n block)
+front-taken item taken block front is n within =
+    let less = taken-within item taken block front is n within in
+    take-map item n front ∙ ap (λ l. map item (take n l)) (sym is) ∙ ap (map item) (take-take n taken block (omega (arith, less)))
+
+-- in front of the one item that is wanted none counts
+pub none-shorter : {X T : Type 0} (item : X → T) (counted : T → Bool) (needed count taken : ℕ) (block : List X) → Some needed ≡ Some 1 → (needed ≤ count → ⊥)
+    → (0 < taken → count_by counted (map item (take (taken - 1) block)) < needed - count) → (n : ℕ) → n < taken → count_by counted (map item (take n block)) ≡ 0
+none-shorter item counted needed count taken block is under shortest n within =
+    let one : needed ≡ 1 = cc in
+    let before = take (taken - 1) block in
+    let none = shortest (omega (arith, within)) in
+    let part : map item (take n block) ≡ take n (map item before) = ap (map item) (sym (take-take n (taken - 1) block (omega (arith, within)))) ∙ sym (take-map item n before) in
+    let less = sum_by-take-le (λ x. cond (counted x) 1 0) (map item before) n in
+    let same = ap (count_by counted) part in
+    omega (arith, one, none, less, same)
+
 module _ {T C A : Type 0} (f : Folding T C) (content : A → C) where
   -- what has enough takes nothing more
   pub front_full : (p : Portion A) → Reaches f.needed p.count → (xs : List T) → Offers (KeepsFront f content) p xs p
-  front_full p reached xs whole (front, rest, is, folds, count, within, end) =
-      (front, rest ++ xs, ap (λ l. l ++ xs) is ∙ append_assoc front rest xs, folds, count, within, inr reached)
+  front_full p reached xs whole (front, rest, is, folds, count, within, last, end) =
+      (front, rest ++ xs, ap (λ l. l ++ xs) is ∙ append_assoc front rest xs, folds, count, within, last, inr reached)
 
   -- what has not enough keeps the item
   pub front_more : (p p' : Portion A) (x : T) → CountsNone f.needed f.counted → (Reaches f.needed p.count → ⊥) → f.is_value x → p'.count ≡ p.count + cond (f.counted x) 1 0 → content p'.kept ≡ f.add (content p.kept) x
       → Offers (KeepsFront f content) p (x ∷ []) p'
-  front_more p p' x never under value count adds whole (front, rest, is, folds, counts, within, inr reached) = absurd (under reached)
-  front_more p p' x never under value count adds whole (front, rest, is, folds, counts, within, inl none) =
+  front_more p p' x never under value count adds whole (front, rest, is, folds, counts, within, last, inr reached) = absurd (under reached)
+  front_more p p' x never under value count adds whole (front, rest, is, folds, counts, within, last, inl none) =
       let P : ℕ → Type 0 = λ n. IsWithin f.needed n in
       let same : whole ≡ front = is ∙ ap (λ l. front ++ l) none ∙ append-nil front in
       let one : count_by f.counted (x ∷ []) ≡ cond (f.counted x) 1 0 = omega arith in
@@ -54,15 +76,16 @@ module _ {T C A : Type 0} (f : Folding T C) (content : A → C) where
         (All-push f.is_value front x folds.0 value, adds ∙ ap (λ c. f.add c x) folds.1 ∙ sym (fold-append f.add f.empty front (x ∷ []))),
         omega arith,
         subst P (sym count) (within_more f.needed f.counted x p.count never under within),
+        CountsLast-append f.needed f.counted front (x ∷ []) (λ reached. let R : ℕ → Type 0 = λ n. Reaches f.needed n in under (subst R (sym counts) reached)) (CountsLast-one f.needed f.counted x),
         inl refl,
       )
 
   -- what has not enough keeps a front of a block: all of it, or so much that it is enough
   pub front_block : (p p' : Portion A) (xs ys zs : List T) → xs ≡ ys ++ zs → (Reaches f.needed p.count → ⊥) → All f.is_value ys → p'.count ≡ p.count + count_by f.counted ys
-      → content p'.kept ≡ fold f.add (content p.kept) ys → (IsWithin f.needed p.count → IsWithin f.needed p'.count) → ((zs ≡ []) ⊎ Reaches f.needed p'.count)
+      → content p'.kept ≡ fold f.add (content p.kept) ys → (IsWithin f.needed p.count → IsWithin f.needed p'.count) → CountsLast f.needed f.counted ys → ((zs ≡ []) ⊎ Reaches f.needed p'.count)
       → Offers (KeepsFront f content) p xs p'
-  front_block p p' xs ys zs parts under values count adds stays ends whole (front, rest, is, folds, counts, within, inr reached) = absurd (under reached)
-  front_block p p' xs ys zs parts under values count adds stays ends whole (front, rest, is, folds, counts, within, inl none) =
+  front_block p p' xs ys zs parts under values count adds stays short ends whole (front, rest, is, folds, counts, within, last, inr reached) = absurd (under reached)
+  front_block p p' xs ys zs parts under values count adds stays short ends whole (front, rest, is, folds, counts, within, last, inl none) =
       let same : whole ≡ front = is ∙ ap (λ l. front ++ l) none ∙ append-nil front in
       let both = sum_by-append (λ y. cond (f.counted y) 1 0) front ys in (
         front ++ ys,
@@ -71,6 +94,7 @@ module _ {T C A : Type 0} (f : Folding T C) (content : A → C) where
         (All-append f.is_value front ys folds.0 values, adds ∙ ap (λ c. fold f.add c ys) folds.1 ∙ sym (fold-append f.add f.empty front ys)),
         omega arith,
         stays within,
+        CountsLast-append f.needed f.counted front ys (λ reached. let R : ℕ → Type 0 = λ n. Reaches f.needed n in under (subst R (sym counts) reached)) short,
         ends,
       )
 
@@ -78,9 +102,9 @@ module _ {T C A : Type 0} (f : Folding T C) (content : A → C) where
   pub front_kept : {X : Type 0} (item : X → T) (p p' : Portion A) (block front : List X) (taken counting : ℕ) (need : Option ℕ)
       → need ≡ f.needed → (Reaches f.needed p.count → ⊥) → take taken block ≡ front → All f.is_value (map item front)
       → p'.count ≡ p.count + counting → counting ≡ count_by f.counted (map item (take taken block)) → content p'.kept ≡ fold f.add (content p.kept) (map item front)
-      → (IsWithin need p.count → IsWithin need (p.count + counting)) → ((taken ≡ length block) ⊎ Reaches need (p.count + counting))
+      → (IsWithin need p.count → IsWithin need (p.count + counting)) → (need ≡ Some 1 → (n : ℕ) → n < taken → count_by f.counted (map item (take n block)) ≡ 0) → ((taken ≡ length block) ⊎ Reaches need (p.count + counting))
       → Offers (KeepsFront f content) p (map item block) p'
-  front_kept item p p' block front taken counting need same under is values count counted adds stays ends =
+  front_kept item p p' block front taken counting need same under is values count counted adds stays short ends =
       let left = drop taken block in
       let parts : map item block ≡ map item front ++ map item left =
       ap (map item) (sym (take-append-drop taken block)) ∙ map-append item (take taken block) left ∙ ap (λ l. map item l ++ map item left) is in
@@ -91,10 +115,11 @@ module _ {T C A : Type 0} (f : Folding T C) (content : A → C) where
       front_block p p' (map item block) (map item front) (map item left) parts under values
       (count ∙ ap (λ n. p.count + n) (counted ∙ ap (λ l. count_by f.counted (map item l)) is)) adds
       (λ h. subst N (sym count) (subst W same stays h))
+      (λ one n within. ap (count_by f.counted) (front-taken item taken block front is n within) ∙ short (same ∙ one) n (taken-within item taken block front is n within))
       (⊎_elim (λ e. inl (ap (map item) (drop_all taken block (omega (arith, e))))) (λ r. inr (subst E (sym count) (subst R same r))) ends)
 
   -- a new container keeps nothing of nothing
   pub front_none : (p : Portion A) → content p.kept ≡ f.empty → p.count ≡ 0 → KeepsFront f content [] p
   front_none p new nothing =
       let P : ℕ → Type 0 = λ n. IsWithin f.needed n in
-      ([], [], refl, ((λ k d within. absurd (omega arith)), new), nothing, subst P (sym nothing) (within_none f.needed), inl refl)
+      ([], [], refl, ((λ k d within. absurd (omega arith)), new), nothing, subst P (sym nothing) (within_none f.needed), CountsLast-none f.needed f.counted, inl refl)

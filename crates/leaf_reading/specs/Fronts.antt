@@ -1,7 +1,7 @@
 -- What is kept of a list of items.
 -- java.util.stream, package summary, Mutable reduction; java.util.stream, package summary, Stream operations and pipelines (short-circuiting)
 use Rattle.std.specs.Prelude.{◌≡◌, ◌<◌, ◌≤◌, ◌⊎◌, ℕ, Bool, List, [], ◌++◌, Option, Some, None, All, count_by, fold}
-use Rattle.barriers.specs.Needs.{Reaches, IsOutcome}
+use Rattle.barriers.specs.Needs.{Reaches, IsOutcome, CountsLast}
 use Rattle.leaf_reading.specs.declared.leaf_end.Portion.{Portion}
 use Rattle.leaf_reading.specs.declared.leaf_end.LeafEnd.{LeafEnd}
 use Rattle.leaf_reading.specs.declared.leaf_end.LeafEnd.TheVariants.{Done, Cut}
@@ -30,10 +30,10 @@ abbrev pub IsWithin : Option ℕ → ℕ → Type 0
 IsWithin None n = n ≡ 0
 IsWithin (Some r) n = n ≤ r
 
--- of what was offered a front is kept: all of it, or so much that it is enough, and no more than that
+-- of what was offered a front is kept: all of it, or so much that it is enough, and no more than that; where one counting item is enough, it is the last
 abbrev pub KeepsFront : {T C A : Type 0} → Folding T C → (A → C) → List T → Portion A → Type 0
 KeepsFront f content xs p =
-    (front : List _) × (rest : List _) × (xs ≡ front ++ rest) × Folds f front (content p.kept) × (p.count ≡ count_by f.counted front) × IsWithin f.needed p.count × ((rest ≡ []) ⊎ Reaches f.needed p.count)
+    (front : List _) × (rest : List _) × (xs ≡ front ++ rest) × Folds f front (content p.kept) × (p.count ≡ count_by f.counted front) × IsWithin f.needed p.count × CountsLast f.needed f.counted front × ((rest ≡ []) ⊎ Reaches f.needed p.count)
 
 -- a front is kept by a demand and a collector, of which these are the members
 abbrev pub KeepsBy : {D C T F A : Type 0} → (D → Option ℕ) → (D → T → Bool) → (T → Type 0) → (C → F) → (C → F → T → F) → (C → A → F) → D → C → List T → Portion A → Type 0

@@ -1,5 +1,5 @@
 //! What is kept of a leaf, as a sink.
-ghost use Rattle.std.specs.Prelude.{◌≡◌, ◌<◌, ◌+◌, ◌^◌, ◌≤◌, ◌⊎◌, ◌↔◌, IsTrue, cond, true, All, map, fold, count_by, take, length, OnOk, ⊤};
+ghost use Rattle.std.specs.Prelude.{ℕ, Some, ◌≡◌, ◌<◌, ◌+◌, ◌^◌, ◌≤◌, ◌⊎◌, ◌↔◌, IsTrue, cond, true, All, map, fold, count_by, take, length, OnOk, ⊤};
 ghost use Rattle.std.proofs.Common.{refl};
 ghost use Rattle.barriers.specs.Needs.{need_of, Reaches};
 ghost use Rattle.leaf_reading.specs.Fronts.{IsWithin, KeepsBy};
@@ -52,6 +52,8 @@ fn front_of<T: Value, D: Demand<T>>(demand: &D, need: Need, count: u64, items: &
     ensures counting { result.1 ≡ count_by (D.counted demand.now) (map T.content (take result.0 items.now)) }
     ensures room { count + result.1 < 2 ^ 64 }
     ensures stays { IsWithin (need_of need) count → IsWithin (need_of need) (count + result.1) }
+    ensures last { need_of need ≡ Some 1 → (n : ℕ) → n < result.0
+        → count_by (D.counted demand.now) (map T.content (take n items.now)) ≡ 0 }
     ensures ends { (result.0 ≡ length items.now) ⊎ Reaches (need_of need) (count + result.1) }
 {
     match need {

@@ -205,6 +205,9 @@ fn feed_lent<S: Spliterator, G: Stage<In = S::Item>, K: Sink<G::Out>>(
     ensures ready { OnOk result (K.ready sink.new) }
     ensures more { IfOk result (λ fed. IfSome fed (λ more. MatchBool more (length (S.items source.new) < length (S.items source.old)) (K.takes sink.new (flat_map (G.expand stage.now) (S.items source.new)) sink.new))) }
 {
+    if sink.is_full() {
+        return Ok(Some(false));
+    }
     let Some((items, rest)) = source.lent_block(STRETCH as usize) else {
         return Ok(None);
     };

@@ -9,7 +9,7 @@ use Rattle.stealing_pool.specs.Reports.{Reported, Reports}
 use Rattle.stealing_pool.specs.SpanLaws.{joined-append, sum-counts}
 use Rattle.parallel_streams.specs.Reports.{IsHarmless, IsEntryOf}
 
-joined-split : {T : Type 0} (n : ℕ) (lists : List (List T)) → joined lists ≡ joined (take n lists) ++ joined (drop n lists)
+pub joined-split : {T : Type 0} (n : ℕ) (lists : List (List T)) → joined lists ≡ joined (take n lists) ++ joined (drop n lists)
 joined-split n lists = ap joined (sym (take-append-drop n lists)) ∙ joined-append (take n lists) (drop n lists)
 
 -- the same front of enough leaves, the same answer

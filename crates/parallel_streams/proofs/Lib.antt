@@ -1,4 +1,5 @@
 pub mod Harmless
+pub mod Hits
 pub mod Gathering
 pub mod Firsts
 pub mod Idle

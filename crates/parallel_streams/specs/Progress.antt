@@ -1,5 +1,6 @@
 -- How far the barriers of a stream have come.
-use Rattle.std.specs.Prelude.{◌≡◌, ◌+◌, ℕ, Bool, true, false, List, [], Option, Some, None, Result, Ok, Err, map, length}
+use Rattle.std.specs.Prelude.{◌≡◌, ◌≤◌, ◌+◌, ℕ, Bool, true, false, List, [], Option, Some, None, Result, Ok, Err, map, count_by, length}
+use Rattle.barriers.specs.Needs.{CountsLast}
 use Rattle.collectors.specs.NestedLaws.{push}
 use Rattle.stealing_pool.specs.Jobs.{Work}
 use Rattle.stealing_pool.specs.Spans.{work_of}
@@ -85,3 +86,9 @@ end_with f Cut = Cut
 abbrev pub ended_with : {A B E : Type 0} → (A → B) → Result (LeafEnd A) E → Result (LeafEnd B) E
 ended_with f (Ok end) = Ok (end_with f end)
 ended_with f (Err refused) = Err refused
+
+-- What a run's cut tells of the list that it kept, where one counting item is enough: with no cut none counts; with a cut one does, and it is the last.
+pub record IsToldBy {T : Type 0} (needed : Option ℕ) (counted : T → Bool) (xs : List T) (cut : Option ℕ) : Type 0 where
+  pub none : cut ≡ None → needed ≡ Some 1 → count_by counted xs ≡ 0
+  pub some : (c : ℕ) → cut ≡ Some c → needed ≡ Some 1 → 1 ≤ count_by counted xs
+  pub last : CountsLast needed counted xs

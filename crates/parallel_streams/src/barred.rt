@@ -1,6 +1,8 @@
 //! A barrier behind a stream.
+ghost use Rattle.std.specs.Prelude.{◌≡◌, IfOk, map};
 ghost use Rattle.spliterator.specs.Clones.{ClonesAlike};
 ghost use Rattle.parallel_streams.specs.Leaves.{IsCutList};
+ghost use Rattle.parallel_streams.specs.Progress.{IsToldBy};
 ghost use Rattle.parallel_streams.specs.Reports.{IsBarrierReport};
 ghost use Rattle.stages.specs.Flags.{after};
 
@@ -13,7 +15,7 @@ use leaf_board::Handout;
 use leaf_reading::{LeafEnd, Reading, feed_whole, read_leaf};
 use sources::SliceSplit;
 use split_tree::Tree;
-use spliterator::NoMemory;
+use spliterator::{NoMemory, OrderedValue};
 use stages::{Nothing, Sink, Stage, StreamFlags};
 use std::alloc::Global;
 use stealing_pool::RunEntry;
@@ -39,6 +41,28 @@ impl<U: Stream, B: Barrier<U::Item>> Barred<U, B> {
             (Some(number), None) if leaf == 0 => number.min(MOST_ROOM),
             (Some(number), None) => (number / leaves).min(MOST_ROOM),
             _ => 0,
+        }
+    }
+}
+
+// What a barrier leaves of the list that its run kept. Of a list whose items the run has asked, none is asked again.
+fn left_by<T: OrderedValue + Drop, B: Barrier<T>>(
+    barrier: &B,
+    mut items: Vec<T>,
+    cut: Option<usize>,
+) -> Result<Vec<T>, NoMemory>
+    requires ready { B.Demand.ready barrier.now }
+    requires told { IsToldBy (B.Demand.needed barrier.now) (B.Demand.counted barrier.now) (map T.content items.items) cut }
+    ensures { IfOk result (λ left. map T.content left.items ≡ B.value barrier.now (map T.content items.items)) }
+{
+    if !barrier.takes_before() {
+        return barrier.apply(items);
+    }
+    match cut {
+        None => Ok(items),
+        Some(_) => {
+            items.truncate(items.len().saturating_sub(1));
+            Ok(items)
         }
     }
 }
@@ -221,7 +245,7 @@ impl<U: Stream, B: Barrier<U::Item>> Stream for Barred<U, B> {
             }
             Part::Own(pieces) => {
                 let list = pieces.into_list()?;
-                let items = self.barrier.apply(list)?;
+                let items = left_by(&self.barrier, list, entry.cut())?;
                 let places = Places::cut(alloc, items.as_slice(), workers, target)?;
                 let listed = Listed { items, places };
                 Ok(BarredProgress {

@@ -1,5 +1,5 @@
 //! All the runs of a stream, one after another, each on the workers.
-ghost use Rattle.std.specs.Prelude.{◌≡◌, ◌<◌, ◌++◌, ◌∷◌, [], ℕ, List, None, true, false, IfOk};
+ghost use Rattle.std.specs.Prelude.{◌≡◌, ◌<◌, ◌++◌, ◌∷◌, [], ℕ, List, Some, None, true, false, IfOk};
 ghost use Rattle.barriers.specs.Needs.{no_item};
 ghost use Rattle.leaf_reading.specs.Fronts.{folding};
 ghost use Rattle.stealing_pool.specs.Spans.{work_of, joined};
@@ -7,12 +7,13 @@ ghost use Rattle.leaf_board.specs.Closing.{Outcome};
 ghost use Rattle.parallel_streams.specs.Fronts.{IsGivenOnFront};
 ghost use Rattle.parallel_streams.specs.Reports.{IsReport, IsRunOver};
 ghost use Rattle.parallel_streams.specs.Runs.{IsLawfulRun, AnswersUnder};
+ghost use Rattle.parallel_streams.specs.Terminals.{any_meets};
 
 use crate::handover::{hand_over, list_over};
 use crate::settings::allow;
 use crate::{Run, Stream, StreamError};
 use barriers::{Demand, Need, Whole};
-use collectors::{Collector, combine_containers};
+use collectors::{Collector, Counting, combine_containers};
 use leaf_board::Handout;
 use leaf_reading::{LeafEnd, Reading};
 use spliterator::NoMemory;
@@ -355,4 +356,29 @@ where
     let (progress, _) = run_barriers(rt, alloc, stream, run)?;
     let (acc, _) = run_last(rt, alloc, stream, run, &progress, demand, collector)?;
     Ok(collector.finish(acc)?)
+}
+
+/// Whether some item counts, where one is enough for the demand: whether the run was cut. Each item is asked once at most.
+pub fn some_counts<R: Threads + Sync, X: Stream + Sync, D: Demand<X::Item> + Sync, H: Gate + Sync>(
+    rt: &R,
+    alloc: Global,
+    stream: &X,
+    run: &Run<'_, H>,
+    demand: &D,
+) -> Result<bool, StreamError>
+where
+    X::Item: Send + Sync,
+    X::Progress: Send + Sync,
+    X::Part: Send,
+    requires stream { X.ready stream.now }
+    requires demand { D.ready demand.now }
+    requires one { D.needed demand.now ≡ Some 1 }
+    ensures settings { AnswersUnder run.now.workers run.now.target result }
+    ensures value { IfOk result (λ met. met ≡ any_meets (D.counted demand.now) (X.value stream.now)) }
+{
+    allow(run.workers, run.target)?;
+    let (progress, _) = run_barriers(rt, alloc, stream, run)?;
+    let counting = Counting::<X::Item>::new();
+    let (_, entry) = run_last(rt, alloc, stream, run, &progress, demand, &counting)?;
+    Ok(entry.cut().is_some())
 }

@@ -2,9 +2,9 @@
 #![tactic(auto)]
 
 mod barred;
+mod contrary;
 mod evaluate;
 mod handover;
-mod meets;
 mod part;
 mod places;
 mod run;

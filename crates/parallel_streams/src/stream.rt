@@ -25,8 +25,8 @@ ghost use Rattle.parallel_streams.specs.Runs.{IsLawfulRun, AnswersUnder};
 ghost use Rattle.parallel_streams.specs.Terminals.{any_meets, all_meet, IsLeftIdentity};
 
 use crate::barred::Barred;
-use crate::evaluate::{collect_enough, evaluate};
-use crate::meets::{Contrary, Meets};
+use crate::contrary::Contrary;
+use crate::evaluate::{collect_enough, evaluate, some_counts};
 use crate::part::Listed;
 use crate::settings::allow;
 use crate::staged::Staged;
@@ -41,7 +41,6 @@ use spliterator::{NoMemory, OrderedValue};
 use stages::{Filter, FlatMap, ListValue, Map, Mapping, Operator, Sink, Stage, StreamFlags, Test};
 use std::alloc::Global;
 use std::hash::Hash;
-use std::marker::PhantomData;
 use std::thread::Threads;
 use stealing_pool::{Gate, RunEntry, RunReport};
 
@@ -519,11 +518,7 @@ pub trait Stream {
         ensures settings { AnswersUnder run.now.workers run.now.target result }
         ensures value { IfOk result (λ met. met ≡ any_meets (P.holds test.now) (value self.now)) }
     {
-        let meets = Meets {
-            test,
-            items: PhantomData,
-        };
-        collect_enough(rt, alloc, self, run, &FirstHit::new(test), &meets)
+        some_counts(rt, alloc, self, run, &FirstHit::new(test))
     }
 
     /// Whether every item meets the test, as where there is no item. What follows one that does not may stay unread.

@@ -114,9 +114,9 @@ fn write_copies(number: usize, items: &[i64], room: &mut [i64])
 pub fn copy_each(number: usize, items: &[i64], room: &mut Vec<i64>) -> Result<(), NoMemory>
     ensures { OnOk result (room.new.items ≡ flat_map (replicate number) items.now) }
 {
-    let count = number.checked_mul(items.len()).ok_or(NoMemory)?;
-    let size = count.checked_add(AT_ONCE).ok_or(NoMemory)?;
-    room.resize(size, 0)?;
+    // (of more copies than can be told, the room is refused)
+    let count = number.saturating_mul(items.len());
+    room.resize(count.saturating_add(AT_ONCE), 0)?;
     write_copies(number, items, room.as_mut_slice());
     room.truncate(count);
     Ok(())

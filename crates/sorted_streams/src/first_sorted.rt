@@ -17,8 +17,8 @@ use std::marker::PhantomData;
 /// The most pairs of a light container.
 const LIGHT_PAIRS: usize = 64;
 
-/// The items of the least keys, so many of them or all, in the ascending order of their keys, and those whose keys are equal in encounter order: as
-/// `sorted` and then `limit`, and no more than twice as many items and 64 are kept at a time. The greatest ones by a `Descending` key.
+/// The `number` items of the least keys, or all, in the ascending order of their keys, and those whose keys are equal in encounter order: as
+/// `sorted` and then `limit`. The greatest ones by a `Descending` key.
 ///
 ///     let shortest = FirstSorted::<&str, _>::new(rt.alloc(), Length, 2);
 ///     let words = collect(&shortest, &["not", "to", "be", "or"])?;    // "to", "be"

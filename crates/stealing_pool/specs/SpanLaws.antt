@@ -6,7 +6,8 @@ use Rattle.std.proofs.lemmas.List.Concat.{flat_map-append, flat_map-cons}
 use Rattle.std.proofs.lemmas.Option.{get_or_from_slice_get}
 use Rattle.std.proofs.lemmas.List.Sums.{sum_by-append}
 use Rattle.std.proofs.Math.Seq.{take-suc}
-use Rattle.barriers.specs.Needs.{Reaches}
+use Rattle.barriers.specs.Needs.{Reaches, IsOutcome, CountsLast}
+use Rattle.barriers.specs.NeedLaws.{CountsLast-append}
 use Rattle.leaf_board.specs.Case.{sum_below}
 use Rattle.leaf_reading.specs.declared.leaf_end.LeafEnd.{LeafEnd}
 use Rattle.leaf_reading.specs.declared.leaf_end.LeafEnd.TheVariants.{Done, Cut}
@@ -56,12 +57,12 @@ module _ {T C A : Type 0} (f : Folding T C) (content : A → C) (lists : List (L
   -- what is kept of a leaf's list stands for the leaf
   pub leaf-ends : (leaf cut : ℕ) (whole : List T) → leaf < length lists → get_or lists leaf [] ≡ whole → (end : LeafEnd A) → EndsList f content whole cut leaf end → EndsLeaf (work_of f content lists) cut leaf end
   leaf-ends leaf cut whole within is Cut told = told
-  leaf-ends leaf cut whole within is (Done p) (front, rest, split, folds, counts, small, end) =
+  leaf-ends leaf cut whole within is (Done p) (front, rest, split, folds, counts, small, short, end) =
       let count : List T → ℕ = λ xs. count_by f.counted xs in
       let one : drop leaf (take (leaf + 1) lists) ≡ get_or lists leaf [] ∷ [] = drop-take leaf 1 lists ∙ ap (take 1) (drop_more lists leaf [] within) in
       let list : joined (drop leaf (take (leaf + 1) lists)) ≡ front ++ rest = ap joined one ∙ append-nil (get_or lists leaf []) ∙ is ∙ split in
       let full : full_count f.counted lists leaf ≡ count front + count rest = ap count (is ∙ split) ∙ sum_by-append (λ y. cond (f.counted y) 1 0) front rest in (
-        (front, rest, list, folds, counts, end),
+        (front, rest, list, folds, counts, short, end),
         (
           omega arith,
           elim end [
@@ -75,8 +76,8 @@ module _ {T C A : Type 0} (f : Folding T C) (content : A → C) (lists : List (L
   -- two containers side by side
   pub spans-combine : (left right both : A) → ((l m : List T) → Folds f l (content left) → Folds f m (content right) → Folds f (l ++ m) (content both))
       → Combines (work_of f content lists) left right both
-  spans-combine left right both combines from middle to count more before after (front, rest, split, folds, counts, inr reached) under of_right = absurd (under reached)
-  spans-combine left right both combines from middle to count more before after (front, rest, split, folds, counts, inl none) under (front', rest', split', folds', counts', end) =
+  spans-combine left right both combines from middle to count more before after (front, rest, split, folds, counts, short, inr reached) under of_right = absurd (under reached)
+  spans-combine left right both combines from middle to count more before after (front, rest, split, folds, counts, short, inl none) under (front', rest', split', folds', counts', short', end) =
       let left_list : joined (drop from (take middle lists)) ≡ front = split ∙ ap (λ l. front ++ l) none ∙ append-nil front in
       let list : joined (drop from (take to lists)) ≡ (front ++ front') ++ rest' =
       ap joined (span-split from middle to lists before after) ∙ joined-append (drop from (take middle lists)) (drop middle (take to lists)) ∙ ap (λ l. l ++ joined (drop middle (take to lists))) left_list ∙ ap (λ l. front ++ l) split' ∙ sym (append_assoc front front' rest') in
@@ -86,25 +87,30 @@ module _ {T C A : Type 0} (f : Folding T C) (content : A → C) (lists : List (L
         list,
         combines front front' folds folds',
         omega arith,
+        CountsLast-append f.needed f.counted front front' (λ reached. let R : ℕ → Type 0 = λ n. Reaches f.needed n in under (subst R (sym counts) reached)) short',
         elim end [ inl all ↦ inl all | inr reached ↦ inr (reaches-more f.needed more (count + more) (omega arith) reached) ],
       )
 
-  -- what stands for the run is the fold over a front of all the lists, which is all of them or enough
-  pub run-front : (kept : A) → StandsForRun (work_of f content lists) kept → IsFront f (joined lists) (content kept)
-  run-front kept (to, count, within, (front, rest, split, folds, counts, end), last) =
+  -- what stands for the run is the fold over a front of all the lists, which is all of them or enough, and where one counting item is enough, it is the last
+  pub run-last : (kept : A) → StandsForRun (work_of f content lists) kept
+      → (front : List T) × IsOutcome f.needed f.counted (joined lists) front × Folds f front (content kept) × CountsLast f.needed f.counted front
+  run-last kept (to, count, within, (front, rest, split, folds, counts, short, end), last) =
       let after : List T = joined (drop to lists) in
       let whole : joined lists ≡ front ++ (rest ++ after) =
       ap joined (sym (take-append-drop to lists)) ∙ joined-append (take to lists) (drop to lists) ∙ ap (λ l. l ++ after) split ∙ append_assoc front rest after in
       let R : ℕ → Type 0 = λ n. Reaches f.needed n in
       elim last [
-        | inr enough ↦ (front, (rest ++ after, whole, inr (subst R counts enough)), folds)
+        | inr enough ↦ (front, (rest ++ after, whole, inr (subst R counts enough)), folds, short)
         | inl all ↦
             (let list : joined lists ≡ front ++ rest = ap joined (sym (take_all to lists (omega arith))) ∙ split in
             elim end [
-              | inl none ↦ (front, (rest, list, inl none), folds)
-              | inr enough ↦ (front, (rest, list, inr (subst R counts enough)), folds)
+              | inl none ↦ (front, (rest, list, inl none), folds, short)
+              | inr enough ↦ (front, (rest, list, inr (subst R counts enough)), folds, short)
             ])
       ]
+
+  pub run-front : (kept : A) → StandsForRun (work_of f content lists) kept → IsFront f (joined lists) (content kept)
+  run-front kept stands = let run = run-last kept stands in (run.0, run.1, run.2)
 
   -- the same of calls that may be refused memory
   pub leaf-ends-ok : {E : Type 0} (leaf cut : ℕ) (whole : List T) → leaf < length lists → get_or lists leaf [] ≡ whole → (r : Result (LeafEnd A) E) → IfOk r (EndsList f content whole cut leaf) → IfOk r (EndsLeaf (work_of f content lists) cut leaf)

@@ -1,11 +1,11 @@
 //! Terminal operations of each stream.
-ghost use Rattle.std.specs.Prelude.{◌≡◌, IfOk, OnOk, option_map, map, string_bytes};
+ghost use Rattle.std.specs.Prelude.{◌≡◌, IfOk, OnOk, OnErr, option_map, map, string_bytes};
 ghost use Rattle.spliterator.specs.Clones.{ClonesAlike};
 ghost use Rattle.stages.specs.Distinct.{distinct};
 ghost use Rattle.collectors.specs.Reductions.{delimited};
 ghost use Rattle.derived_collectors.specs.FirstBest.{IsFirstBestBy, is_better};
 ghost use Rattle.derived_collectors.specs.declared.best.Best.TheVariants.{Least, Greatest};
-ghost use Rattle.parallel_streams.specs.Runs.{AnswersUnder};
+ghost use Rattle.parallel_streams.specs.Runs.{AnswersUnder, IsLawfulRun};
 
 use collectors::{Joining, ToList};
 use derived_collectors::{BestByKey, ToSet};
@@ -226,7 +226,8 @@ pub trait Terminals: Stream {
     /// ```
     ///
     /// The workers make the list of the items first: what a stage or a collector does in a run is seen by the value that it answers, so
-    /// an effect has its place behind the run. Where the run answers an error, the sink was handed nothing.
+    /// an effect has its place behind the run. Under settings that are not lawful the sink is handed nothing. Where memory is refused, it has
+    /// been handed nothing or a front of the items, as it says itself of a refusal: a `Vec` has grown by that front.
     // java.util.stream.Stream, forEachOrdered
     final fn for_each_ordered<R: Threads + Sync, H: Gate + Sync, K: Sink<Self::Item>>(
         &self,
@@ -245,6 +246,8 @@ pub trait Terminals: Stream {
         requires clones { ClonesAlike Self.Item.is_clone Self.Item.content }
         ensures settings { AnswersUnder run.now.workers run.now.target result }
         ensures taken { OnOk result (K.takes action.old (Self.value self.now) action.new) }
+        ensures untouched { ¬ IsLawfulRun run.now.workers run.now.target → action.new ≡ action.old }
+        ensures spoilt { OnErr result (K.spoils action.old action.new) }
     {
         let mut items = self.to_list(rt, alloc, run)?;
         action.take_all(&mut items)?;

@@ -10,6 +10,7 @@ use spliterator::NoMemory;
 use stages::{FirstOf, Mapping, Test};
 use std::process::Abort;
 use std::sync::atomic::{AtomicU64, Ordering};
+use summaries::Summarizing;
 
 /// Each number as it is. It counts how often it was asked.
 #[derive(Drop)]
@@ -83,6 +84,7 @@ fn functions_are_asked_once_an_item(rt: HostRuntime) -> Result<(), NoMemory> {
     let parts = PartitioningBy::new(All { asked }, Counting::<i64>::new());
     let groups = GroupingBy::new(alloc, Itself { asked }, Counting::<i64>::new());
     check(&rt, asked, SummingLong::new(Itself { asked }), 10)
+        .and(check(&rt, asked, Summarizing::new(Itself { asked }), 10))
         .and(check(&rt, asked, images, 10))
         .and(check(&rt, asked, passing, 10))
         .and(check(&rt, asked, parts, 10))

@@ -1,12 +1,14 @@
 //! How often a caller's functions are asked.
-ghost use Rattle.std.specs.Prelude.{true};
+ghost use Rattle.std.specs.Prelude.{int_lt};
 
-use super::answers::{check_list, listed, numbers, same};
+use super::answers::{check, check_list, counted, listed, numbers, same};
 use super::{SETTINGS, at};
 use parallel_streams::{Run, Stream, StreamError};
 use spliterator::NoMemory;
 use stages::{Mapping, Test};
 use std::alloc::Global;
+use std::fmt::Debug;
+use std::process::Abort;
 use std::sync::atomic::{AtomicU64, Ordering};
 use std::thread::Threads;
 use stealing_pool::NoGate;
@@ -30,18 +32,19 @@ impl Mapping<i64> for Itself<'_> {
     }
 }
 
-/// All numbers. It counts how often it was asked.
-#[derive(Drop)]
-struct All<'a> {
+/// The numbers below a bound. It counts how often it was asked.
+#[derive(Clone, Copy)]
+struct Under<'a> {
+    bound: i64,
     asked: &'a AtomicU64,
 }
 
-impl Test<i64> for All<'_> {
-    ghost holds = { λ _ _. true };
+impl Test<i64> for Under<'_> {
+    ghost holds = { λ t x. int_lt x t.bound };
 
-    fn holds(&self, _x: &i64) -> bool {
+    fn holds(&self, x: &i64) -> bool {
         self.asked.fetch_add(1, Ordering::SeqCst);
-        true
+        *x < self.bound
     }
 }
 
@@ -77,7 +80,8 @@ where
     let mapped = numbers.map(Itself {
         asked: &asked.mapped,
     });
-    let tested = mapped.filter(All {
+    let tested = mapped.filter(Under {
+        bound: 5,
         asked: &asked.tested,
     });
     behind_two(rt, run, tested, &asked.behind)
@@ -110,6 +114,54 @@ fn functions_are_asked_once_an_item(rt: HostRuntime) -> Result<(), StreamError> 
         let three = three_of_five(&rt, &at(setting), numbers(&rt, 0, 5), &asked);
         check_list(&rt, three, &[2, 3, 4])?;
         same(&rt, times(&asked), [5, 5, 3]);
+    }
+    Ok(())
+}
+
+/// Checks an answer about 200 numbers, and how often its test was asked: as often as is told, and where that is less than 200, more often by others
+/// than one worker over one leaf, but once a number at most.
+fn check_asked<T: Copy + PartialEq + Debug>(
+    rt: &impl Abort,
+    asked: &AtomicU64,
+    (workers, target): (u32, u64),
+    found: Result<T, StreamError>,
+    wanted: (T, u64),
+) -> Result<(), StreamError> {
+    let times = asked.swap(0, Ordering::SeqCst);
+    check(rt, found, wanted.0)?;
+    let is_alone = workers == 1 && target == 200;
+    let is_so = times == wanted.1 || (!is_alone && wanted.1 < times && times <= 200);
+    same(rt, is_so, true);
+    Ok(())
+}
+
+// Of 200 numbers, those below a bound that none, some or all of them meet: matches, and whiles.
+#[test]
+fn tests_are_asked_once_an_item(rt: HostRuntime) -> Result<(), StreamError> {
+    let number = AtomicU64::new(0);
+    let asked = &number;
+    for &setting in &[(1, 200), (1, 1), (7, 1), (2, 7), (7, 0)] {
+        let run = &at(setting);
+        let alloc = rt.alloc();
+        let all = numbers(&rt, 0, 200);
+        for &(bound, any, every) in &[
+            (-1, (false, 200), (false, 1)),
+            (1, (true, 1), (false, 2)),
+            (200, (true, 1), (true, 200)),
+        ] {
+            let test = Under { bound, asked };
+            let met = all.any_match(&rt, alloc, run, &test);
+            check_asked(&rt, asked, setting, met, any)?;
+            let met = all.all_match(&rt, alloc, run, &test);
+            check_asked(&rt, asked, setting, met, every)?;
+        }
+        for &(bound, taken, times) in &[(-1, 0, 1), (50, 50, 51), (200, 200, 200)] {
+            let test = Under { bound, asked };
+            let front = counted(&rt, run, &numbers(&rt, 0, 200).take_while(test));
+            check_asked(&rt, asked, setting, front, (taken, times))?;
+            let rest = counted(&rt, run, &numbers(&rt, 0, 200).drop_while(test));
+            check_asked(&rt, asked, setting, rest, (200 - taken, times))?;
+        }
     }
     Ok(())
 }

@@ -1,13 +1,17 @@
 //! Workers that a gate holds: what is found right of a held leaf takes nobody's place.
 ghost use Rattle.std.specs.Prelude.{pos, int_lt};
 
-use super::answers::{check, check_list, limited, listed, numbers, same, sum_of};
+use super::answers::{check, check_list, counted, limited, listed, numbers, same, sum_of};
 use super::at;
 use super::gates::Watch;
 use super::reports::{Entry, check_report};
 use super::rows::first_above_hundred;
-use parallel_streams::{Run, Stream, StreamError};
+use parallel_streams::{Run, Stream, StreamError, of};
+use parts::Not;
+use sources::SliceSplit;
 use stages::Test;
+use std::fmt::Debug;
+use std::process::Abort;
 use std::sync::atomic::Ordering;
 
 /// A run by two workers.
@@ -73,6 +77,43 @@ fn a_leaf_asks_each_1024_items_whether_it_was_cut(rt: HostRuntime) -> Result<(),
     let told = check_report(&rt, gate.all_came().and(found), &[0], &OF_A_CUT_LEAF);
     let asked = gate.asked.load(Ordering::SeqCst);
     check(&rt, told.and(Ok(asked)), 1024)
+}
+
+/// Checks that a leaf of 4,096 numbers that is cut at its first was asked of 1,024.
+fn check_cut<T: Copy + PartialEq + Debug>(
+    rt: &impl Abort,
+    gate: &Watch,
+    found: Result<T, StreamError>,
+    wanted: T,
+) -> Result<(), StreamError> {
+    let told = check(rt, gate.all_came().and(found), wanted);
+    told.and(check(rt, Ok(gate.asked.load(Ordering::SeqCst)), 1024))
+}
+
+// The same of a leaf that is lent.
+#[test]
+fn a_lent_leaf_asks_each_1024_items_whether_it_was_cut(rt: HostRuntime) -> Result<(), StreamError> {
+    let gate = Watch::until(2, 0);
+    let list = listed(&rt, &at((1, 0)), &numbers(&rt, 0, 8192))?;
+    let lent = of(SliceSplit::new(&list));
+    let met = lent.any_match(
+        &rt,
+        rt.alloc(),
+        &by_two(4096, &gate),
+        &Watched { gate: &gate },
+    );
+    check_cut(&rt, &gate, met, true)
+}
+
+// The same of a leaf that is read in blocks, as before a while.
+#[test]
+fn a_leaf_in_blocks_asks_each_1024_items_whether_it_was_cut(
+    rt: HostRuntime,
+) -> Result<(), StreamError> {
+    let gate = Watch::until(2, 0);
+    let above = numbers(&rt, 0, 8192).take_while(Not(Watched { gate: &gate }));
+    let number = counted(&rt, &by_two(4096, &gate), &above);
+    check_cut(&rt, &gate, number, 0)
 }
 
 #[test]

@@ -1,28 +1,32 @@
 //! A caller's own source.
 ghost use Rattle.std.proofs.Common.{sym, true≢false};
-ghost use Rattle.std.specs.Prelude.{◌<◌, ◌^◌, replicate};
+ghost use Rattle.std.specs.Prelude.{◌≡◌, ◌<◌, ◌^◌, replicate, length};
 ghost use Rattle.spliterator.specs.Spliterator.{IsSplit};
 
 use super::answers::{check, check_items, counted, limited, reduced, same};
 use super::rows::second_and_one;
-use super::{Suite, at_each_setting};
+use super::{Suite, at, at_each_setting};
 use parallel_streams::{Run, Source, Stream, StreamError, of};
 use spliterator::{NoMemory, Spliterator};
 use stages::WrapAdd;
 use std::alloc::Global;
 use std::process::Abort;
+use std::sync::atomic::{AtomicU64, Ordering};
 use std::thread::Threads;
 use stealing_pool::NoGate;
 
-/// One number again and again: a source that never splits, and tells nothing but its order.
+/// One number again and again: a source that never splits, and tells nothing but its order. It lends a block, and counts how often it did.
 #[derive(Clone, Copy)]
-struct Again {
+struct Again<'a> {
     number: i64,
     left: u64,
+    block: &'a [i64],
+    lent: &'a AtomicU64,
     ghost few: { left < 2 ^ 63 },
+    ghost alike: { block.now ≡ replicate (length block.now) number },
 }
 
-impl Spliterator for Again {
+impl Spliterator for Again<'_> {
     type Item = i64;
 
     ghost items = { λ s. replicate s.left s.number };
@@ -45,7 +49,23 @@ impl Spliterator for Again {
         Ok(Some(self.number))
     }
 
-    fn try_split(&mut self) -> Option<Again> {
+    fn lent_block(&self, most: usize) -> Option<(&[i64], Self)> {
+        self.lent.fetch_add(1, Ordering::SeqCst);
+        let number = (most as u64).min(self.left);
+        if number == 0 || number > self.block.len() as u64 {
+            return None;
+        }
+        let (block, _) = self.block.split_at(number as usize);
+        let rest = Again {
+            number: self.number,
+            left: self.left - number,
+            block: self.block,
+            lent: self.lent,
+        };
+        Some((block, rest))
+    }
+
+    fn try_split(&mut self) -> Option<Self> {
         None
     }
 
@@ -64,8 +84,16 @@ impl Spliterator for Again {
     ghost flag_law = { λ s. record { distinct = λ h. absurd (true≢false (sym h)); sorted = λ h. absurd (true≢false (sym h)) } };
 }
 
-fn sevens() -> Source<Again> {
-    of(Again { number: 7, left: 3 })
+/// So many sevens, which are lent 1,024 at a time.
+fn sevens(left: u64, lent: &AtomicU64) -> Source<Again<'_>>
+    requires { left < 2 ^ 63 }
+{
+    of(Again {
+        number: 7,
+        left,
+        block: &[7; 1024],
+        lent,
+    })
 }
 
 /// Rows of one setting.
@@ -73,16 +101,25 @@ pub fn rows<R: Threads + Abort + Alloc<A = Global> + Sync>(
     rt: &R,
     run: &Run<'_, NoGate>,
 ) -> Result<(), StreamError> {
-    let three = sevens();
+    let lent = AtomicU64::new(0);
+    let three = sevens(3, &lent);
     same(rt, three.known_size(), None);
     let sum = reduced(rt, run, &three, 0, &WrapAdd::new());
     check(rt, counted(rt, run, &three), 3)
         .and(check(rt, sum, 21))
-        .and(check_items(rt, limited(rt, run, sevens(), 2), &[7, 7]))
+        .and(check_items(rt, limited(rt, run, sevens(3, &lent), 2), &[7, 7]))
         .and(check_items(rt, second_and_one(rt, run, three), &[8]))
 }
 
 #[test]
 fn a_source_of_the_callers_own(rt: HostRuntime) -> Result<(), StreamError> {
     at_each_setting(&rt, Suite::OwnSource)
+}
+
+// Of a billion blocks one is lent.
+#[test]
+fn a_lent_leaf_that_has_enough_ends(rt: HostRuntime) -> Result<(), StreamError> {
+    let lent = AtomicU64::new(0);
+    let first = limited(&rt, &at((1, 0)), sevens(1 << 40, &lent), 1);
+    check_items(&rt, first, &[7]).and(check(&rt, Ok(lent.load(Ordering::SeqCst)), 1))
 }

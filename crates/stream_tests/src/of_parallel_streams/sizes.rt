@@ -6,7 +6,7 @@ use super::answers::{check, counted, numbers, same};
 use super::gates::Watch;
 use parallel_streams::{Run, Stream, StreamError};
 use parts::{Above, Itself};
-use stages::StreamFlags;
+use stages::{Filter, StreamFlags};
 use std::alloc::Global;
 use std::process::Abort;
 use std::thread::Threads;
@@ -63,7 +63,7 @@ where
     same(rt, (known, count), (Some(size.unsigned_abs()), Ok(size)));
 }
 
-// A filter clears the size, whether it keeps more items than a limit or as many.
+// A filter clears the size alone, whether it keeps more items than a limit or as many: `then` tells the row of its stage.
 fn check_cleared<
     R: Threads + Abort + Alloc<A = Global> + Sync,
     X: Stream<Item = i64> + Drop + Sync,
@@ -73,7 +73,7 @@ where
     X::Part: Send,
     requires { X.ready numbers }
 {
-    let above = numbers.filter(Above(4));
+    let above = numbers.then(Filter::new(Above(4)));
     let (flags, known, count) = behind_limit(rt, run, above, u64::from(most));
     let told = [
         flags.is_distinct(),

@@ -1,12 +1,13 @@
-use Rattle.std.proofs.Common.{◌≤◌, map, count_by, arith}
-use Rattle.barriers.proofs.Fronts.{front-block}
+use Rattle.std.proofs.Common.{arith, sym}
+use Rattle.barriers.proofs.Fronts.{front-more, front-ends}
 use Rattle.barriers.proofs.whiles.length_of_front.Goals as goal
 
-pub blocks-2-preserved : goal.blocks-2-preserved
-blocks-2-preserved g c =
-    let content = g.T.Value.content in
-    let p = g.P.Test.holds c.args.test.now in
-    let block = c.split_at.result.0.now in
-    let all : 256 ≤ count_by p (map content block) = omega (arith, c.count_meeting.ensures, c.if-count_meeting-lt-BLOCK.false) in
-    let front = front-block content p 256 c.blocks-2.rest.now block c.split_at.result.1.now c.split_at.ensures.front c.split_at.ensures.back c.split_at.ensures.front_len all in
-    (omega (arith, c.blocks-2.invariant.0, c.split_at.ensures.back_len, c.blocks-2-test.true), omega (arith, front, c.blocks-2.invariant.1))
+pub loop-place-preserved : goal.loop-place-preserved
+loop-place-preserved g c =
+    let more = front-more g.T.Value.content (g.P.Test.holds c.args.test.now) c.args.items.now c.loop-place.place c.index-items-place.result c.loop-place-test.true c.index-items-place.is (sym c.if-not-holds.ensures) in
+    omega arith
+
+pub returns-then-not-holds-clause-front : goal.returns-then-not-holds-clause-front
+returns-then-not-holds-clause-front g c =
+    let ends = front-ends g.T.Value.content (g.P.Test.holds c.args.test.now) c.args.items.now c.loop-place.place c.index-items-place.result c.loop-place-test.true c.index-items-place.is (sym c.if-not-holds.ensures) in
+    omega arith

@@ -1,4 +1,4 @@
-use Rattle.std.proofs.Common.{rules, ◌≡◌, ◌∙◌, ap, to_z, of_z, FitsSigned, w64}
+use Rattle.std.proofs.Common.{rules, ◌≡◌, ◌∙◌, ap, to_z, of_z, w64}
 use Rattle.parts.proofs.NearNumbers.{natural_both}
 use Rattle.parts.proofs.small_divisor.digits_of.Goals as goal
 

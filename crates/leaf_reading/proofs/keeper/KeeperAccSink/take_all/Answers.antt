@@ -29,5 +29,6 @@ returns-clause-taken g c =
       front_kept f (g.C.Collector.content k.collector.now) g.T.Value.content k.portion c.keep_each.new.portion c.args.items.now.items c.truncate.new.self.items
           taken counting (need_of k.need) needs.same under (sym c.truncate.ensures.items) c.keep_each.ensures.values c.keep_each.ensures.count
           (c.front_of-taken.ensures.counting ∙ ap (λ l. count_by f.counted (map g.T.Value.content (take taken l))) whole) c.in_ok-keep_each.ensures.content
-          c.front_of-taken.ensures.stays (subst Ends (ap length whole) c.front_of-taken.ensures.ends),
+          c.front_of-taken.ensures.stays
+          (λ one n less. ap (λ l. count_by f.counted (map g.T.Value.content (take n l))) (sym whole) ∙ c.front_of-taken.ensures.last one n less) (subst Ends (ap length whole) c.front_of-taken.ensures.ends),
     )

@@ -23,5 +23,5 @@ returns-clause-taken g c =
       refl,
       front_kept f (g.C.Collector.content k.collector.now) g.T.Value.content k.portion c.keep_lent.new.portion c.args.items.now c.split_at.result.0.now
           c.front_of-taken.result.0 c.front_of-taken.result.1 _ needs.same under (sym c.split_at.ensures.front) c.keep_lent.ensures.values
-          c.keep_lent.ensures.count c.front_of-taken.ensures.counting c.in_ok-keep_lent.ensures.content c.front_of-taken.ensures.stays c.front_of-taken.ensures.ends,
+          c.keep_lent.ensures.count c.front_of-taken.ensures.counting c.in_ok-keep_lent.ensures.content c.front_of-taken.ensures.stays c.front_of-taken.ensures.last c.front_of-taken.ensures.ends,
     )

@@ -1,9 +1,11 @@
-use Rattle.std.proofs.Common.{rules, List, length, map, subst, refl, ap, ◌∙◌}
+use Rattle.std.proofs.Common.{rules, List, Option, ℕ, sym, length, map, subst, refl, ap, ◌∙◌}
+use Rattle.leaf_board.specs.Closing.{cut_of}
 use Rattle.parallel_streams.specs.Cuts.{Ascends}
+use Rattle.parallel_streams.specs.Progress.{IsToldBy}
 use Rattle.parallel_streams.specs.Ends.{ends_of}
 use Rattle.parallel_streams.specs.ProgressLaws.{told-before}
 use Rattle.parallel_streams.specs.Reports.{IsEntryOf, IsReport}
-use Rattle.parallel_streams.proofs.Gathering.{gathered-own}
+use Rattle.parallel_streams.proofs.Gathering.{gathered-own, gathered-told}
 use Rattle.parallel_streams.proofs.barred.BarredStream.gather.Goals as goal
 
 pub returns-clause-holds : goal.returns-clause-holds
@@ -47,3 +49,16 @@ returns-clause-entries g c = λ left planned entries told.
 -- bounded: a wrong body would search to its limit
 pub returns-clause-planned : goal.returns-clause-planned
 returns-clause-planned g c = search rules fits 200 depth 4
+
+pub left_by-requires-clause-told : goal.left_by-requires-clause-told
+left_by-requires-clause-told g c =
+    let s = c.args.self.now in
+    let U = g.U.Stream in
+    let p = c.args.progress.before in
+    let needed = g.B.Demand.needed s.barrier in
+    let counted = g.B.Demand.counted s.barrier in
+    let told = gathered-told (U.work s.upstream p) g.U.Item.Value.is_value needed counted (g.B.Barrier.value s.barrier) (g.met.B.Barrier.enough_law s.barrier)
+    g.U.Item.Value.content (U.value s.upstream) (U.parts s.upstream p) (U.done s.upstream p) c.args.part c.in-Own.pieces c.args.entry.now c.in-Own.is c.requires.part c.requires.entry in
+    let P : List _ → Type 0 = λ l. IsToldBy needed counted (map g.U.Item.Value.content l) (cut_of c.args.entry.now) in
+    let Q : Option ℕ → Type 0 = λ cut. IsToldBy needed counted (map g.U.Item.Value.content c.in_ok-list-in-Own.list.items) cut in
+    subst Q (sym c.cut.ensures) (subst P (sym c.in_ok-list-in-Own.ensures) told)

@@ -1,5 +1,5 @@
 use Rattle.std.proofs.Common.{rules}
-use Rattle.parallel_streams.proofs.meets.ContraryTest.holds.Goals as goal
+use Rattle.parallel_streams.proofs.contrary.ContraryTest.holds.Goals as goal
 
 -- bounded: a wrong body would search to its limit
 pub returns : goal.returns
