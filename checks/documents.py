@@ -63,7 +63,7 @@ def lost_names(page, text, words):
     """The paths in code marks that are no files, and the words that no source has. The first column of docs/from-java.md has names of Java's."""
     text = re.sub(r"^\| [^|]* \|", "", text, flags=re.MULTILINE) if page.name == "from-java.md" else text
     for part in " ".join(re.findall(r"`([^`]+)`", text)).split():
-        is_path = re.fullmatch(r"[\w.*-]+(/[\w.*-]+)+", part)
+        is_path = re.fullmatch(r"[\w.*-]+(/(?!out/)[\w.*-]+)+", part)
         found = [top.glob(re.sub(r"\b[A-Z]+\b", "*", part)) for top in (ROOT, page.parent)] if is_path else []
         lost = [part] if is_path else [it for it in re.findall(r"[A-Za-z_]\w*", part) if it not in words | NO_SOURCE]
         yield from (f"`{it}` is in no source" for it in lost if not any(map(any, found)) and not (ROOT / part).exists())
