@@ -133,7 +133,8 @@ def entry(name, shown, lines, at, files):
 
 def page():
     """The whole page."""
-    parts = [INTRODUCTION]
+    index = [f"| [{crate}](#{crate}) | {', '.join(f'`{it}`' for it in names.values())} |" for crate, names in exported().items()]
+    parts = [INTRODUCTION, "\n".join(["| crate | what is exported of it |", "|---|---|", *index, ""])]
     for crate, names in exported().items():
         folder = ROOT / "crates" / crate / "src"
         files = {file: file.read_text().split("\n") for file in sorted(folder.rglob("*.rt"))}
