@@ -39,12 +39,13 @@ replace-with = "installed"
 [source.installed]
 directory = "{folder}"
 """
-# the crate that is checked, and what the check says of each function
+# the crate that is checked, its files, and what the check says of each function
 CRATE, STANDS_ON = "reduce", "mohairjade"
+FILES = {"reduce.txt": "src/lib.rt", "minus.txt": "proofs/MinusOperatorI64/join/Answers.antt"}
 VERDICTS = {
     "sum": "proved",
-    "difference": "no proof: .*`reduce-requires-clause-associative`.*",
-    "sum_from_one": "no proof: .*`reduce-requires-clause-identity`.*",
+    "difference": "no proof: .*; `search` did not prove `reduce-requires-clause-associative`, `reduce-requires-clause-identity`",
+    "sum_from_one": "no proof: .*; `search` did not prove `reduce-requires-clause-identity`",
 }
 # the sequential answers over 0 to 999
 DIFFERENCE, SUM_FROM_ONE = "-499500", "499501"
@@ -88,16 +89,17 @@ def verdicts():
     with tempfile.TemporaryDirectory(dir=BUILT) as folder:
         work = pathlib.Path(folder)
         crates = below(STANDS_ON)
-        source = work / "crates" / CRATE / "src"
-        source.mkdir(parents=True)
-        shutil.copy(WHY / "reduce.txt", source / "lib.rt")
+        for text, file in FILES.items():
+            place = work / "crates" / CRATE / file
+            place.parent.mkdir(parents=True)
+            shutil.copy(WHY / text, place)
         for crate in crates:
             # (other names of the same files: `rt` never writes into one, and copies would take gigabytes)
             shutil.copytree(ROOT / "crates" / crate, work / "crates" / crate, copy_function=os.link, ignore=shutil.ignore_patterns("incremental"))
         (work / "crates.txt").write_text("\n".join([*crates.values(), f"{CRATE}: {STANDS_ON}", ""]))
         shutil.copy(ROOT / "HANDLES", work)
         subprocess.run(["git", "init", "--quiet", work], check=True)
-        _, out, err = ran(["rt", "check", "--jobs", "1"], seconds=1200, cwd=source.parent)
+        _, out, err = ran(["rt", "check", "--jobs", "1"], seconds=1200, cwd=work / "crates" / CRATE)
     found = dict(re.findall(rf"^fn {CRATE}::(\w+): (.*)", out + err, re.MULTILINE))
     return {name: found.get(name, (out + err)[-500:]) for name in VERDICTS}
 
