@@ -85,8 +85,9 @@ def below(names):
 
 def verdicts():
     """What a check of the small crate says of each of its functions, or last of all where it doesn't come to them."""
-    BUILT.mkdir(exist_ok=True)
-    with tempfile.TemporaryDirectory(dir=BUILT) as folder:
+    # (a folder that a killed run leaves in the checkout would stop `rt ci`, and names of files stay on one file system)
+    apart = os.stat(tempfile.gettempdir()).st_dev != os.stat(ROOT).st_dev
+    with tempfile.TemporaryDirectory(dir=BUILT if apart else None) as folder:
         work = pathlib.Path(folder)
         crates = below(STANDS_ON)
         for text, file in FILES.items():
@@ -158,7 +159,6 @@ def java():
 
 def rust():
     """Rust's Vec: the process is aborted, which a shell tells as 134."""
-    BUILT.mkdir(exist_ok=True)
     built = ran(["rustc", "--edition", "2021", "-O", "-o", BUILT / "list", WHY / "list.rs"])
     yield "Rust: it builds", built, (0, "", "")
     status, out, err = ran([BUILT / "list"], preexec_fn=little_memory)
@@ -187,6 +187,7 @@ def findings():
 
 def main():
     need_program()
+    BUILT.mkdir(exist_ok=True)
     conclude(findings())
 
 
