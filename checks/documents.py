@@ -1,12 +1,13 @@
 #!/usr/bin/env python3
-"""Compares the documents with the built program: the man page and docs/language.md with `--help`, and each example that they show.
+"""Compares the documents with the sources and with the built program.
 
     checks/documents.py [--help-of FILE]
 
-The man page has to have the options, defaults, statuses, forms and examples of `--help`, and the faults of docs/faults.md. Each file that
-docs/language.md and docs/faults.md show is run, and what stands behind it in code marks is what it has to print. So are the examples of
-`--help` and the commands of the man page. The program has to be built before (`rt run` in crates/pstream); with a file of the
-help's words, the texts alone are compared.
+A page may have no date and no commit (but in the table of docs/performance.md), no name in code marks that no source has, no "`name` of
+[file](..)" whose file lacks it, no link that leads nowhere, and no more bytes than SIZES tells. docs/signatures.md is what
+checks/signatures.py makes. The man page has the options, defaults, statuses, forms and examples of `--help`, and the faults of
+docs/faults.md. Files that docs/language.md and docs/faults.md show are run, and so are the examples of `--help` and of the man page: each
+prints what stands behind it. The program has to be built before; with a file of the help's words, the texts alone are compared.
 """
 
 import argparse
@@ -18,9 +19,23 @@ import subprocess
 import tempfile
 import textwrap
 
+import signatures
 from built import PSTREAM, ROOT, conclude, need_program, run
 
 DOCS = ROOT / "docs"
+# the most bytes that each page may have, and those that README.md, examples/README.md and docs/ may have in all, docs/signatures.md aside
+SIZES, ALL_SIZES = {
+    "README.md": 7_000, "examples/README.md": 5_500, "examples/why/README.md": 1_800, "bench/README.md": 4_000, "docs/ARCHITECTURE.md": 10_500,
+    "docs/DECISIONS.md": 30_000, "docs/PROVED.md": 14_000, "docs/TOOLCHAIN.md": 10_000, "docs/board.md": 8_000, "docs/faults.md": 6_000,
+    "docs/from-java.md": 20_000, "docs/glossary.md": 6_000, "docs/inside.md": 10_500, "docs/language.md": 10_100, "docs/library.md": 18_500,
+    "docs/many-machines.md": 6_500, "docs/performance.md": 8_000, "docs/pool.md": 8_000, "docs/pstream.1": 6_400, "docs/signatures.md": 250_000,
+}, 170_000
+# names in code marks that no source has: patterns, words of other programs' command lines and messages, methods of Java's behind column one
+NO_SOURCE = {"of_NAME", "KEY", "v3", "plant", "verdict", "man", "retries", "f64", "LibcRuntime", "closure", "findAny", "ofNullable", "ArrayDeque"}
+DATE = re.compile(r"\b20\d\d-\d\d\b(?:-\d\d)?|(?:\b\d+ )?\b(?:Jan|Feb|Mar|Apr|May|Jun|Jul|Aug|Sep|Oct|Nov|Dec)[a-z]*\.? 20\d\d")
+COMMIT = re.compile(r"\b(?=[a-f]*\d)(?=\d*[a-f])(?:[0-9a-f]{7,12}|[0-9a-f]{40})\b")
+FENCED = re.compile(r"^```.*?^```", re.MULTILINE | re.DOTALL)
+LINK = re.compile(r"(?:`([^`]+)`\s+of\s+)?\[[^\]]*\]\((?!http)([^)\s]+)\)")
 FENCE = re.compile(r"^```(pipeline|sh)\n(.*?)^```\n(.*?)(?=^```|^#|\Z)", re.MULTILINE | re.DOTALL)
 # macros of the man page that put no space between their words, and those that begin a paragraph
 JOINING = (".BI", ".BR", ".IR", ".RB")
@@ -31,6 +46,59 @@ OPTION = re.compile(r"^ +(?:-h, )?(--\w+)(?: <(\w)>)? +(.*?)(?: \[default: (\d+)
 def squeezed(text):
     """A text with one space between its words."""
     return " ".join(text.split())
+
+
+def source_words():
+    """The words of all files that are no pages, without the comments of crates, and of their paths."""
+    words = set()
+    for top in ["crates", "checks", "bench", "examples", ".ci", "crates.txt"]:
+        for file in [ROOT / top, *(ROOT / top).rglob("*")]:
+            if file.is_file() and file.suffix not in (".md", ".pyc") and "/out/" not in str(file) and file.name != "documents.py":
+                text = re.sub({".rt": "//.*", ".antt": "--.*"}.get(file.suffix, "(?!)"), "", file.read_text(errors="replace"))
+                words.update(re.findall(r"\w+", f"{file.relative_to(ROOT)} {text}"))
+    return words
+
+
+def lost_names(page, text, words):
+    """The paths in code marks that are no files, and the words that no source has. The first column of docs/from-java.md has names of Java's."""
+    text = re.sub(r"^\| [^|]* \|", "", text, flags=re.MULTILINE) if page.name == "from-java.md" else text
+    for part in " ".join(re.findall(r"`([^`]+)`", text)).split():
+        is_path = re.fullmatch(r"[\w.*-]+(/(?!out/)[\w.*-]+)+", part)
+        found = [top.glob(re.sub(r"\b[A-Z]+\b", "*", part)) for top in (ROOT, page.parent)] if is_path else []
+        lost = [part] if is_path else [it for it in re.findall(r"[A-Za-z_]\w*", part) if it not in words | NO_SOURCE]
+        yield from (f"`{it}` is in no source" for it in lost if not any(map(any, found)) and not (ROOT / part).exists())
+
+
+def anchors(page):
+    """The anchors of a page's headings."""
+    headings = re.findall(r"^#+ (.*)$", FENCED.sub("", page.read_text()).lower(), re.MULTILINE)
+    return {re.sub(r"[^\w\- ]", "", heading).replace(" ", "-") for heading in headings}
+
+
+def lost_links(page, text):
+    """The links that lead nowhere, and those to a file that lacks the name that stands before it."""
+    for name, target in LINK.findall(text):
+        path, _, anchor = target.partition("#")
+        file = page.parent / path if path else page
+        if not file.exists() or anchor and anchor not in anchors(file):
+            yield f"{target} leads nowhere"
+        elif name and file.is_file() and not set(re.findall(r"\w+", name)) <= set(re.findall(r"\w+", file.read_text())):
+            yield f"{target} lacks `{name}`"
+
+
+def pages_alone():
+    """What stands in the pages that may not stand there."""
+    files = [ROOT / "README.md", DOCS / "pstream.1", *(it for top in ["docs", "examples", "bench"] for it in (ROOT / top).rglob("*.md"))]
+    words, sizes = source_words(), {str(it.relative_to(ROOT)): it.stat().st_size for it in files}
+    for page, (path, size) in zip(files, sizes.items()):
+        text = FENCED.sub("", page.read_text())
+        dated = re.sub(r"^\|.*", "", text, flags=re.MULTILINE) if path == "docs/performance.md" else text
+        lost = [*lost_names(page, text, words), *lost_links(page, text)] if page.suffix == ".md" and page != signatures.PAGE else []
+        long = [f"{size} bytes, {SIZES.get(path, 0)} allowed"] * (size > SIZES.get(path, 0))
+        yield f"{path} by itself", [*DATE.findall(text), *COMMIT.findall(dated), *lost, *long], []
+    total = sum(size for path, size in sizes.items() if path.startswith(("docs/", "README", "examples/README"))) - sizes["docs/signatures.md"]
+    yield f"{total} bytes of all pages, {ALL_SIZES} allowed", total <= ALL_SIZES, True
+    yield "docs/signatures.md is what checks/signatures.py makes", signatures.PAGE.read_text() == signatures.page(), True
 
 
 # What `--help` says.
@@ -172,7 +240,7 @@ def main():
         need_program()
     told = Help(options.help_of.read_text() if options.help_of else run(["--help"])[1].decode())
     manual = Manual((DOCS / "pstream.1").read_text())
-    findings = [*man_page(manual, told), *pages(manual, told)]
+    findings = [*pages_alone(), *man_page(manual, told), *pages(manual, told)]
     if not options.help_of:
         findings += [*shown_files(), *help_examples(told), *sessions(manual)]
     conclude(findings)
