@@ -1,12 +1,12 @@
 #!/usr/bin/env python3
-"""Counts what each terminal, barrier and collector asks for: requests, threads, the most bytes that live at a time, and those that live at the end.
+"""Counts what each terminal, barrier and collector asks for: requests for memory, the most bytes that live at a time, those that live at the end, and threads.
 
     checks/memory.py
 
 Those of the language run as pipelines of the program, and the libraries' own as a test of crates/terminal_tests that takes its name from the
 environment (`rt ci` leaves both built). The library that refuses memory counts it too (refusing.py). A run takes what its plan, its board and its
-workers' blocks of 1,024 items take, and a row tells what else, as a function of items and leaves: the most bytes are within a tenth of that, and so
-are the most requests.
+workers' blocks of 1,024 items take, and a row tells what else, as a function of items and leaves: the most bytes and the most requests are within a
+tenth of that.
 """
 
 import collections
@@ -17,19 +17,15 @@ from built import PSTREAM, ROOT, conclude, need_program
 from refusing import Refusing
 
 TESTS = ROOT / "crates/terminal_tests/out/terminal_tests_tests"
-# the room for the largest file, and what is made of a short one
-FILE = 1_054_400
 # how many items, by how many workers; what keeps no list takes no more of many items
-SHAPES = [(400_000, 1), (400_000, 4)]
-MANY = (10_000_000, 3)
-# at least one more thread sorts where there are several processors
-SORTING = int(os.cpu_count() > 1)
-# what a thread keeps for the one that comes next
-OF_THREAD = 600
+SHAPES, MANY = [(400_000, 1), (400_000, 4)], (10_000_000, 3)
+# bytes and requests of any run, and bytes of a worker; the program's have room for the largest file
+OF_PROGRAM, OF_TEST = (1_063_400, 10_000, 42), (1_000, 1_500, 8)
+# what a thread keeps for the one that comes next, and how many threads more sort at least where there are several processors
+OF_THREAD, SORTING = 600, int(os.cpu_count() > 1)
 
 Shape = collections.namedtuple("Shape", "items workers sizes")
-# how many requests and bytes there are for a leaf, and bytes for the items, of which at least nine tenths live; how many runs there are, in how many of them
-# threads combine what the leaves keep, and how many threads sort
+# requests and bytes for a leaf, and bytes for the items, of which at least nine tenths live; runs, those in which threads combine, threads that sort
 Row = collections.namedtuple("Row", "name wanted requests leaf items runs joins sorting", defaults=[0, None, 1, 0, 0])
 
 
@@ -48,19 +44,20 @@ def entries(number):
     return lambda at: number * room(at.items)
 
 
-def texts(image, times=1):
+def texts(image):
     """Each leaf writes its items with `, ` between them, and what was written stays."""
 
     def of_leaves(at):
         ends = [0, *itertools.accumulate(at.sizes)]
         images = [map(image, range(start, end)) for start, end in zip(ends, ends[1:])]
-        return sum(room(sum(times * (len(str(it)) + 2) for it in leaf if it is not None)) for leaf in images)
+        return sum(room(sum(len(str(it)) + 2 for it in leaf if it is not None)) for leaf in images)
 
     return of_leaves
 
 
-def by_workers(one, several):
-    return lambda at: at.items * (one if at.workers == 1 else several)
+def an_item(one, several=None):
+    """So many bytes an item, by one worker and by several."""
+    return lambda at: at.items * (one if at.workers == 1 else several or one)
 
 
 def pieces(at):
@@ -72,13 +69,13 @@ def listed(items):
     return f"[{', '.join(map(str, items))}]"
 
 
-def tens(of):
-    return lambda n: f"{{{', '.join(f'{k}={of(n, k)}' for k in range(10))}}}"
+def told_map(values):
+    return f"{{{', '.join(f'{key}={value}' for key, value in enumerate(values))}}}"
 
 
 # the lines behind `range 0 N`, where HALF is half of N, and what is written
 PIPELINES = [
-    Row("map mod 7\nsum", lambda n: sum(x % 7 for x in range(n % 7)) + n // 7 * 21, 9),
+    Row("map mod 10\nsum", lambda n: 9 * n // 2, 9),
     Row("product", lambda n: 0, 9),
     Row("map mod 7\nmax", lambda n: "Optional[6]", 9),
     Row("map mod 7\nmin", lambda n: "Optional[0]", 9),
@@ -93,68 +90,61 @@ PIPELINES = [
     Row("takewhile less HALF\nmap mod 10\nsum", lambda n: 9 * n // 4, 120, 1_500, runs=2),
     Row("dropwhile less HALF\nmap mod 10\nsum", lambda n: 9 * n // 4, 120, 1_500, runs=2),
     Row("map mod 1000\ndistinct\nsum", lambda n: 499_500, 52, 40_000, runs=2, joins=1),
-    Row("groupby mod 10 counting", tens(lambda n, k: n // 10), 18, 700),
-    Row("groupby mod 10 sum", tens(lambda n, k: n // 10 * (n - 10) // 2 + n // 10 * k), 18, 1_900),
+    Row("groupby mod 10 counting", lambda n: told_map([n // 10] * 10), 18, 700),
+    Row("groupby mod 10 sum", lambda n: told_map(n // 10 * (n // 2 - 5 + k) for k in range(10)), 18, 1_900),
     Row("partition less HALF count", lambda n: f"{{false={n // 2}, true={n // 2}}}", 9, 400),
     Row("teeing min max", lambda n: f"[Optional[0], Optional[{n - 1}]]", 9, 400),
-    Row("tomap mod 10 self last", tens(lambda n, k: n - 10 + k), 18, 700),
+    Row("tomap mod 10 self last", lambda n: told_map(range(n - 10, n)), 18, 700),
     Row("map add 1\ntolist", lambda n: listed(range(1, n + 1)), 28, 0, texts(lambda x: x + 1)),
     Row("map mul 3\ntolist", lambda n: listed(range(0, 3 * n, 3)), 28, 0, texts(lambda x: 3 * x)),
     Row("filter divisible 3\ntolist", lambda n: listed(range(0, n, 3)), 28, 0, texts(lambda x: None if x % 3 else x)),
     Row("dropwhile less 9\ntolist", lambda n: listed(range(9, n)), 120, 0, texts(lambda x: x)),
-    Row("partition less HALF tolist", lambda n: f"{{false={listed(range(n // 2, n))}, true={listed(range(n // 2))}}}", 48, 0, by_workers(23, 23)),
-    Row("groupby mod 10 tolist", tens(lambda n, k: listed(range(k, n, 10))), 190, 0, by_workers(23, 23)),
-    Row("teeing tolist count", lambda n: f"[{listed(range(n))}, {n}]", 28, 0, by_workers(24, 24)),
-    Row("tomap self self last", lambda n: f"{{{', '.join(f'{x}={x}' for x in range(n))}}}", 80, 0, entries(51), joins=1),
-    Row("groupby self count", lambda n: f"{{{', '.join(f'{x}=1' for x in range(n))}}}", 100, 0, entries(53), joins=1),
+    # numbers of eight bytes in lists, the lists' texts, and these in the whole
+    Row("groupby mod 10 tolist", lambda n: told_map(listed(range(k, n, 10)) for k in range(10)), 190, 0, an_item(23)),
+    Row("teeing tolist count", lambda n: f"[{listed(range(n))}, {n}]", 28, 0, an_item(24)),
+    Row("tomap self self last", lambda n: told_map(range(n)), 80, 0, entries(51), joins=1),
+    Row("groupby self count", lambda n: told_map([1] * n), 100, 0, entries(53), joins=1),
 ]
 
 # those of crates/terminal_tests/src/each_terminal, which look at their answers themselves
+FOLDS = "sum summary reduce reduce_optional min max min_by_key max_by_key count find_first any_match all_match none_match"
 TERMINALS = [
-    *[Row(name, None, 4) for name in "sum summary reduce reduce_optional min max min_by_key max_by_key count find_first".split()],
-    *[Row(name, None, 4) for name in "any_match all_match none_match".split()],
+    *[Row(name, None, 4) for name in FOLDS.split()],
     Row("collect_concat", None, 8, runs=2),
     Row("first_sorted", None, 10, 2_200),
     Row("to_list", None, 6, 0, lambda at: 8 * at.items if at.workers == 1 else pieces(at), joins=1),
-    # a list, and that of the sink
-    Row("for_each_ordered", None, 6, 0, by_workers(16, 16), joins=1),
+    Row("for_each_ordered", None, 6, 0, an_item(16), joins=1),
     # lent texts of sixteen bytes, the leaves' texts and the whole
     Row("joining", None, 23, 0, lambda at: 16 * at.items + sum(2 * room(2 * it) for it in at.sizes), joins=1),
     Row("to_set", None, 72, 0, entries(39), joins=1),
     Row("to_map_strict", None, 72, 0, entries(44), joins=1),
-    # several workers sort with as much room beside
-    Row("sorted", None, 50, 0, by_workers(8, 16), joins=1, sorting=SORTING),
-    Row("to_sorted_list", None, 50, 0, by_workers(8, 16), joins=1),
-    # the list, and pairs of a key and an item
-    Row("sorted_by_key", None, 8, 0, by_workers(24, 32), joins=1, sorting=SORTING),
+    # several workers sort with as much room beside; pairs have a key of eight bytes
+    Row("sorted", None, 50, 0, an_item(8, 16), joins=1, sorting=SORTING),
+    Row("to_sorted_list", None, 50, 0, an_item(8, 16), joins=1),
+    Row("sorted_by_key", None, 8, 0, an_item(24, 32), joins=1, sorting=SORTING),
     *[Row(name, None, 16, 0, pieces, 2, 1) for name in "limit skip take_while drop_while".split()],
-    Row("distinct", None, 16, 0, lambda at: entries(24)(at) + 8 * at.items, runs=2, joins=1),
+    Row("distinct", None, 16, 0, lambda at: entries(24)(at) + 8 * at.items, 2, 1),
 ]
 
 
-def threads(workers, row):
+def threads(at, row):
     """None where one worker is wanted; else one for each worker of each run, and two for each node near the top of the plan's tree."""
-    return 0 if workers == 1 else row.runs * workers + row.joins * 2 * ((1 << (workers.bit_length() - 1)) - 1) + row.sorting
+    nodes = (1 << (at.workers.bit_length() - 1)) - 1
+    return 0 if at.workers == 1 else row.runs * at.workers + row.joins * 2 * nodes + row.sorting
 
 
 def judged(found, at, row, base):
     """Whether a run asked for as much as its row and its base tell."""
-    bytes_of_run, bytes_of_worker, requests_of_run = base
-    items = row.items(at) if row.items else 0
-    most = bytes_of_run + bytes_of_worker * at.workers + 1.1 * (row.leaf * len(at.sizes) + items)
-    most_requests = 1.1 * (requests_of_run + row.requests * len(at.sizes))
-    wanted_threads = threads(at.workers, row)
-    is_right = (
-        0.9 * items <= found.peak <= most
-        and found.requests <= most_requests
-        and abs(found.live) <= OF_THREAD * found.threads
-        and (found.threads >= wanted_threads if wanted_threads else found.threads == 0)
-    )
-    return is_right or (found[3:], int(items), int(most), int(most_requests), wanted_threads)
+    of_run, of_worker, requests = base
+    items, started = row.items(at) if row.items else 0, threads(at, row)
+    most = int(of_run + of_worker * at.workers + 1.1 * (row.leaf * len(at.sizes) + items))
+    most_requests = int(1.1 * (requests + row.requests * len(at.sizes)))
+    is_small = 0.9 * items <= found.peak <= most and found.requests <= most_requests and abs(found.live) <= OF_THREAD * found.threads
+    is_started = found.threads >= started if started else found.threads == 0
+    return is_small and is_started or (found[3:], items, most, most_requests, started)
 
 
-def rows_of(rows, base, run):
-    """Each row at each shape."""
+def findings(rows, base, run):
     for row in rows:
         for items, workers in [*SHAPES, *([] if row.items else [MANY])]:
             at = Shape(items, workers, split(items, max(items // (4 * workers), 1)))
@@ -172,12 +162,10 @@ def main():
         return found, found[:3] == (0, f"{row.wanted(at.items)}\n".encode(), b"")
 
     def run_terminal(row, at):
-        settings = {"TERMINAL": row.name, "ITEMS": at.items, "WORKERS": at.workers}
-        found = refusing.run([TESTS, "each_terminal::the_named_are_right"], **settings)
+        found = refusing.run([TESTS, "each_terminal::the_named_are_right"], TERMINAL=row.name, ITEMS=at.items, WORKERS=at.workers)
         return found, found.status == 0
 
-    pipelines = rows_of(PIPELINES, (FILE + 9_000, 10_000, 42), run_pipeline)
-    conclude(itertools.chain(pipelines, rows_of(TERMINALS, (1_000, 1_500, 8), run_terminal)))
+    conclude(itertools.chain(findings(PIPELINES, OF_PROGRAM, run_pipeline), findings(TERMINALS, OF_TEST, run_terminal)))
 
 
 if __name__ == "__main__":
