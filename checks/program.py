@@ -12,7 +12,7 @@ file tells a great number, so great a request and so many bytes in all are refus
 import collections
 import itertools
 
-from built import EXAMPLES, PSTREAM, conclude, need_program, run
+from built import EXAMPLES, PSTREAM, conclude, need_program, run, told_list, told_map
 from refusing import MEMORY, Refusing
 
 SUM = EXAMPLES / "01-sum.pipeline"
@@ -163,10 +163,6 @@ def fitting(texts, most):
     return [it for it, end in zip(texts, ends) if end <= most]
 
 
-def told_map(entries):
-    return f"{{{', '.join(f'{key}={value}' for key, value in entries.items())}}}"
-
-
 def long_files():
     """Files of 100,000 bytes and of nearly the most that a file has: the source, the lines behind it, and what is written."""
     for most in 100_000, 1_048_500:
@@ -176,11 +172,11 @@ def long_files():
         tail = itertools.dropwhile(lambda x: x < 0, numbers)
         for lines, wanted in [
             ("sum", sum(numbers)),
-            ("filter divisible 3\nmap add 1\ntolist", f"[{', '.join(str(x + 1) for x in kept)}]"),
+            ("filter divisible 3\nmap add 1\ntolist", told_list(x + 1 for x in kept)),
             ("distinct\ncount", len(set(numbers))),
             ("filter divisible 3\nskip 500\nlimit 2000\nmax", f"Optional[{max(kept[500:2500])}]"),
-            ("dropwhile less 0\ngroupby mod 10 counting", told_map(collections.Counter(x % 10 for x in tail))),
-            ("tomap mod 100 self last", told_map({x % 100: x for x in numbers})),
+            ("dropwhile less 0\ngroupby mod 10 counting", told_map(collections.Counter(x % 10 for x in tail).items())),
+            ("tomap mod 100 self last", told_map({x % 100: x for x in numbers}.items())),
         ]:
             yield f"numbers {' '.join(spelled)}", lines, wanted
         texts = fitting([f"{'abc'[i % 3]} {i * 7919 % 997}" for i in range(300_000)], most)
@@ -188,7 +184,7 @@ def long_files():
         for lines, wanted in [
             ("joining +", "+".join(texts)),
             ("map length\nsum", sum(map(len, texts))),
-            ("flatmap words\ngroupby self counting", told_map(collections.Counter(words))),
+            ("flatmap words\ngroupby self counting", told_map(collections.Counter(words).items())),
             ("flatmap words\ndistinct\nskip 5\njoining -", "-".join([*dict.fromkeys(words)][5:])),
         ]:
             yield "\n".join([f"lines {len(texts)}", *texts]), lines, wanted

@@ -57,7 +57,7 @@ fn joined_length<R: Threads + Abort + Alloc<A = Global> + Sync>(
     Ok(joined.len())
 }
 
-/// Whether the answer over so many numbers, at least ten, is right. What is sorted came in the contrary order.
+/// Whether the answer over so many numbers, at least one, is right. What is sorted came in the contrary order.
 pub fn is_right<R: Threads + Abort + Alloc<A = Global> + Sync>(
     rt: &R,
     run: &Run<'_, Workers>,
@@ -85,8 +85,9 @@ pub fn is_right<R: Threads + Abort + Alloc<A = Global> + Sync>(
             found.as_slice().last() == Some(&0)
         }
         List::FirstSorted => {
-            let first = FirstSorted::<i64, _>::new(alloc, Itself, 10);
-            are_all(all.collect(rt, alloc, run, &first)?.as_slice(), 10)
+            let first = FirstSorted::<i64, _>::new(alloc, Itself, 100);
+            let found = all.collect(rt, alloc, run, &first)?;
+            are_all(found.as_slice(), items.min(100))
         }
         List::SortedList => {
             let found = all
