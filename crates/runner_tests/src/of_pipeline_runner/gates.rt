@@ -5,7 +5,7 @@ use std::hint;
 use std::sync::atomic::{AtomicU64, Ordering};
 
 /// The most turns for which a worker is held.
-const TURNS: u64 = 10_000_000;
+const TURNS: u64 = 50_000_000;
 
 /// Counts the leaves that were entered and ended, and the calls of no worker. It may hold the first worker at its first leaf until another
 /// worker has entered a leaf, or leaf 0 of one run until another worker has, or leaf 0 of each run until so many others of that run have ended, or each
