@@ -126,7 +126,8 @@ def judged(found, at, row, base):
     most = int(of_run + of_worker * at.workers + 1.1 * (row.leaf * len(at.sizes) + items))
     most_requests = int(1.1 * (requests + row.requests * len(at.sizes)))
     is_small = 0.9 * items <= found.peak <= most and found.requests <= most_requests and abs(found.live) <= OF_THREAD * found.threads
-    is_started = found.threads >= started if row.sorting and started else found.threads == started
+    # (a place may be sought in more runs, and a sort has as many threads as there are processors)
+    is_started = found.threads == started or found.threads > started > 0 and (row.runs > 1 or row.sorting > 0)
     return is_small and is_started or (found[3:], items, most, most_requests, started)
 
 
