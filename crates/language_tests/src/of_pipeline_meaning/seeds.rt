@@ -6,6 +6,7 @@ use std::random::RandomSource;
 use std::test::Fail;
 
 /// Gives a byte and those that follow it, or no bytes.
+#[derive(Drop)]
 struct Following(Option<u8>);
 
 impl RandomSource for Following {
@@ -29,7 +30,9 @@ fn hash_of_nothing(source: &Following) -> u64 {
 /// Sixteen bytes, each one more than the one before.
 static BYTES: [[u8; 16]; 2] = [
     [7, 8, 9, 10, 11, 12, 13, 14, 15, 16, 17, 18, 19, 20, 21, 22],
-    [9, 10, 11, 12, 13, 14, 15, 16, 17, 18, 19, 20, 21, 22, 23, 24],
+    [
+        9, 10, 11, 12, 13, 14, 15, 16, 17, 18, 19, 20, 21, 22, 23, 24,
+    ],
 ];
 
 #[test]
