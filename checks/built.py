@@ -23,6 +23,16 @@ def run(words, environment=None, **streams):
     return done.returncode, done.stdout or b"", done.stderr
 
 
+def told_list(items):
+    """The text of a list."""
+    return f"[{', '.join(map(str, items))}]"
+
+
+def told_map(entries):
+    """The text of a map, from keys and values."""
+    return f"{{{', '.join(f'{key}={value}' for key, value in entries)}}}"
+
+
 def conclude(findings):
     """Prints a line for each name with what was found and what was wanted, and last `N passed, M failed`; ends the script."""
     counts = {True: 0, False: 0}

@@ -3,7 +3,7 @@
 
     checks/examples.py
 
-Each file runs with 1, 2, 7 and 64 workers, at target 1 and at the default. `NAME.answer` is the standard output of a run with
+Each file runs with 1, 2, 7 and 64 workers, at target 1 and at the default, and with 3 and 5 at targets between. `NAME.answer` is the standard output of a run with
 status 0; `NAME.error` has the line on standard error, and on a second line the status. The tour's page has a row for each, with
 its answer. The program has to be built before (`rt run` in crates/pstream).
 """
@@ -13,7 +13,8 @@ import sys
 
 from built import EXAMPLES, conclude, need_program, run
 
-SETTINGS = [["--workers", workers, "--target", target] for workers, target in itertools.product(["1", "2", "7", "64"], ["1", "0"])]
+PAIRS = [*itertools.product(["1", "2", "7", "64"], ["1", "0"]), ("3", "3"), ("5", "17"), ("3", "1000"), ("5", "0")]
+SETTINGS = [["--workers", workers, "--target", target] for workers, target in PAIRS]
 
 
 def wanted(file):

@@ -12,7 +12,7 @@ file tells a great number, so great a request and so many bytes in all are refus
 import collections
 import itertools
 
-from built import EXAMPLES, PSTREAM, conclude, need_program, run
+from built import EXAMPLES, PSTREAM, conclude, need_program, run, told_list, told_map
 from refusing import MEMORY, Refusing
 
 SUM = EXAMPLES / "01-sum.pipeline"
@@ -56,6 +56,7 @@ ROWS = {
     ],
 }
 WORKERS = ["1", "7"]
+OTHER_SETTINGS = [("3", "0"), ("3", "17"), ("5", "3"), ("5", "1000")]
 # the most requests of a row, so that each can be refused, and how many of another command line are refused, evenly spread where it makes more
 MOST_OF_ROWS = 1000
 MOST_REFUSALS = 100
@@ -156,10 +157,52 @@ def small_files_with_great_numbers(refusing):
         yield f"no great request for `{lines!r}`", found[:3], wanted
 
 
+def fitting(texts, most):
+    """The first texts that have room in so many bytes, each with one behind it."""
+    ends = itertools.accumulate(len(it) + 1 for it in texts)
+    return [it for it, end in zip(texts, ends) if end <= most]
+
+
+def long_files():
+    """Files of 100,000 bytes and of nearly the most that a file has: the source, the lines behind it, and what is written."""
+    for most in 100_000, 1_048_500:
+        spelled = fitting([str(i * 7919 % 99_991 - 50_000) for i in range(200_000)], most)
+        numbers = [int(it) for it in spelled]
+        kept = [x for x in numbers if x % 3 == 0]
+        tail = itertools.dropwhile(lambda x: x < 0, numbers)
+        for lines, wanted in [
+            ("sum", sum(numbers)),
+            ("filter divisible 3\nmap add 1\ntolist", told_list(x + 1 for x in kept)),
+            ("distinct\ncount", len(set(numbers))),
+            ("filter divisible 3\nskip 500\nlimit 2000\nmax", f"Optional[{max(kept[500:2500])}]"),
+            ("dropwhile less 0\ngroupby mod 10 counting", told_map(collections.Counter(x % 10 for x in tail).items())),
+            ("tomap mod 100 self last", told_map({x % 100: x for x in numbers}.items())),
+        ]:
+            yield f"numbers {' '.join(spelled)}", lines, wanted
+        texts = fitting([f"{'abc'[i % 3]} {i * 7919 % 997}" for i in range(300_000)], most)
+        words = [word for it in texts for word in it.split(" ")]
+        for lines, wanted in [
+            ("joining +", "+".join(texts)),
+            ("map length\nsum", sum(map(len, texts))),
+            ("flatmap words\ngroupby self counting", told_map(collections.Counter(words).items())),
+            ("flatmap words\ndistinct\nskip 5\njoining -", "-".join([*dict.fromkeys(words)][5:])),
+        ]:
+            yield "\n".join([f"lines {len(texts)}", *texts]), lines, wanted
+
+
+def other_settings():
+    """Long files with numbers of workers, and targets, that no row has."""
+    for source, lines, wanted in long_files():
+        file = f"pipeline 1\n{source}\n{lines}\n".encode()
+        ends = [run(["/dev/stdin", "--workers", workers, "--target", target], input=file) for workers, target in OTHER_SETTINGS]
+        others = [end for end in ends if end != (0, f"{wanted}\n".encode(), b"")]
+        yield f"3 and 5 workers, {len(file)} bytes, {lines!r}", [it[::2] for it in others], []
+
+
 def main():
     need_program()
     refusing = Refusing()
-    conclude(itertools.chain(devices(), small_files_with_great_numbers(refusing), refused_rows(refusing), refused_commands(refusing)))
+    conclude(itertools.chain(devices(), other_settings(), small_files_with_great_numbers(refusing), refused_rows(refusing), refused_commands(refusing)))
 
 
 if __name__ == "__main__":

@@ -1,8 +1,8 @@
 //! Preloaded into a program, it refuses the request for memory whose number, counted from 1, stands in `REFUSED_REQUEST`, and the start
 //! of a thread whose number stands in `REFUSED_THREAD`, as where no memory is left for it. It refuses each request that is greater than
 //! `GREATEST_REQUEST`, and each with which more bytes than `MOST_BYTES` would have been asked for in all. Where `TOLD_ON` has the number of an
-//! open file, the program's end writes three numbers to it: how many requests there were, how many starts of threads, and how many of both
-//! were refused.
+//! open file, the program's end writes five numbers to it: how many requests there were, how many starts of threads, how many of both
+//! were refused, the most bytes that lived at a time, and how many live at the end.
 
 #![no_std]
 
@@ -14,6 +14,8 @@ use core::sync::atomic::{AtomicI64, Ordering};
 unsafe extern "C" {
     fn __libc_malloc(size: usize) -> *mut c_void;
     fn __libc_realloc(old: *mut c_void, size: usize) -> *mut c_void;
+    fn __libc_free(old: *mut c_void);
+    fn malloc_usable_size(place: *mut c_void) -> usize;
     fn dlsym(library: *mut c_void, name: *const c_char) -> *mut c_void;
     fn getenv(name: *const c_char) -> *const c_char;
     fn atol(text: *const c_char) -> c_long;
@@ -37,6 +39,10 @@ static BYTES: AtomicI64 = AtomicI64::new(0);
 static THREADS: AtomicI64 = AtomicI64::new(0);
 
 static REFUSED: AtomicI64 = AtomicI64::new(0);
+
+static LIVE: AtomicI64 = AtomicI64::new(0);
+
+static PEAK: AtomicI64 = AtomicI64::new(0);
 
 /// The number in a variable of the environment, if it is there.
 fn number_in(name: &CStr) -> Option<c_long> {
@@ -66,14 +72,33 @@ fn is_memory_refused(size: usize) -> bool {
     told(is_chosen(request, c"REFUSED_REQUEST") || is_above(size as c_long, c"GREATEST_REQUEST") || is_above(bytes, c"MOST_BYTES"))
 }
 
+/// Counts the bytes of a place as living, beside those that lived there before.
+fn counted(place: *mut c_void, before: usize) -> *mut c_void {
+    if !place.is_null() {
+        let more = unsafe { malloc_usable_size(place) } as i64 - before as i64;
+        PEAK.fetch_max(LIVE.fetch_add(more, Ordering::SeqCst) + more, Ordering::SeqCst);
+    }
+    place
+}
+
 #[unsafe(no_mangle)]
 extern "C" fn malloc(size: usize) -> *mut c_void {
-    if is_memory_refused(size) { null_mut() } else { unsafe { __libc_malloc(size) } }
+    if is_memory_refused(size) { null_mut() } else { counted(unsafe { __libc_malloc(size) }, 0) }
 }
 
 #[unsafe(no_mangle)]
 extern "C" fn realloc(old: *mut c_void, size: usize) -> *mut c_void {
-    if is_memory_refused(size) { null_mut() } else { unsafe { __libc_realloc(old, size) } }
+    if is_memory_refused(size) {
+        return null_mut();
+    }
+    let before = unsafe { malloc_usable_size(old) };
+    counted(unsafe { __libc_realloc(old, size) }, before)
+}
+
+#[unsafe(no_mangle)]
+extern "C" fn free(old: *mut c_void) {
+    LIVE.fetch_sub(unsafe { malloc_usable_size(old) } as i64, Ordering::SeqCst);
+    unsafe { __libc_free(old) }
 }
 
 #[unsafe(no_mangle)]
@@ -99,8 +124,8 @@ extern "C" fn _exit(status: c_int) -> ! {
 
 extern "C" fn tell_counts() {
     if let Some(file) = number_in(c"TOLD_ON") {
-        let [requests, threads, refused] = [&REQUESTS, &THREADS, &REFUSED].map(|it| it.load(Ordering::SeqCst));
-        unsafe { dprintf(file as c_int, c"%ld %ld %ld".as_ptr(), requests, threads, refused) };
+        let [requests, threads, refused, peak, live] = [&REQUESTS, &THREADS, &REFUSED, &PEAK, &LIVE].map(|it| it.load(Ordering::SeqCst));
+        unsafe { dprintf(file as c_int, c"%ld %ld %ld %ld %ld".as_ptr(), requests, threads, refused, peak, live) };
     }
 }
 

@@ -12,8 +12,9 @@ CHECKS = pathlib.Path(__file__).resolve().parent
 BUILT = CHECKS / "out"
 MEMORY, THREAD = "REFUSED_REQUEST", "REFUSED_THREAD"
 
-# the end of a run, how many requests for memory it made, how many starts of threads, and how many of both were refused
-Run = collections.namedtuple("Run", "status out err requests threads refused")
+# the end of a run, how many requests for memory it made, how many starts of threads, how many of both were refused, and the most bytes that
+# lived at a time, and those that live at the end
+Run = collections.namedtuple("Run", "status out err requests threads refused peak live")
 
 
 class Refusing:
@@ -36,7 +37,7 @@ class Refusing:
         with open(told, "rb") as counts:
             found = [int(it) for it in counts.read().split()]
         # (a program that was killed tells nothing)
-        return Run(done.returncode, done.stdout, done.stderr, *(found if len(found) == 3 else [0, 0, 0]))
+        return Run(done.returncode, done.stdout, done.stderr, *(found if len(found) == 5 else [0] * 5))
 
     def run_each(self, words, file, kind, numbers):
         """For each number a run in which the request of that number is refused."""

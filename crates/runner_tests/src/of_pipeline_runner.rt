@@ -2,6 +2,7 @@
 
 use gates::Watch;
 use pipeline_runner::{Counted, RunError, Settings, run};
+use seeds::Drawing;
 use std::alloc::{AllocError, Global};
 use std::io;
 use std::io::{ErrorKind, Read, Write};
@@ -22,8 +23,10 @@ mod limits;
 mod numbers;
 mod program;
 mod rows;
+mod seeds;
 mod texts;
 mod values;
+mod workers;
 
 /// The bytes for which an output of the tests asks at once, so that no write of its wants memory.
 const ROOM: usize = 8192;
@@ -128,8 +131,18 @@ fn told(alloc: Global, end: Result<(), RunError>) -> Result<String, AllocError> 
 }
 
 /// What a run tells and writes.
-fn run_with<R: Threads + RandomSource + Abort + Sync>(
+fn run_with<R: Threads + Abort + Sync>(
     rt: &R,
+    alloc: Global,
+    case: &Case<'_>,
+    gate: &Watch,
+) -> Result<(String, String), AllocError> {
+    run_drawing(&Drawing::new(rt), alloc, case, gate)
+}
+
+/// The same by a runtime that draws as is told.
+fn run_drawing<R: Threads + Abort + Sync>(
+    drawing: &Drawing<'_, R>,
     alloc: Global,
     case: &Case<'_>,
     gate: &Watch,
@@ -138,7 +151,7 @@ fn run_with<R: Threads + RandomSource + Abort + Sync>(
         workers: case.workers,
         target: case.target,
     };
-    assert!(rt; (1..=64).contains(&settings.workers) && settings.target <= 1 << 62);
+    assert!(drawing.rt; (1..=64).contains(&settings.workers) && settings.target <= 1 << 62);
     let mut input = Counted::new(Source {
         bytes: case.file,
         step: case.read_step,
@@ -149,7 +162,7 @@ fn run_with<R: Threads + RandomSource + Abort + Sync>(
         step: case.write_step,
         calls: Calls::failing_at(case.write_fails),
     });
-    let end = run(rt, alloc, &mut input, &mut output, &settings, gate);
+    let end = run(drawing, alloc, &mut input, &mut output, &settings, gate);
     let told = told(alloc, end)?;
     let written = String::from_utf8_lossy(alloc, output.get_ref().written.as_slice())?;
     Ok((told, written))

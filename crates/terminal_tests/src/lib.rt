@@ -2,6 +2,8 @@
 #![tactic(auto)]
 
 #[cfg(test)]
+mod each_terminal;
+#[cfg(test)]
 mod of_fused_runs;
 #[cfg(test)]
 mod of_joined_streams;

@@ -5,19 +5,24 @@ use std::hint;
 use std::sync::atomic::{AtomicU64, Ordering};
 
 /// The most turns for which a worker is held.
-const TURNS: u64 = 10_000_000;
+const TURNS: u64 = 50_000_000;
 
 /// Counts the leaves that were entered and ended, and the calls of no worker. It may hold the first worker at its first leaf until another
-/// worker has entered a leaf, or leaf 0 of one run until another worker has, or leaf 0 of each run until so many others of that run have ended.
+/// worker has entered a leaf, or leaf 0 of one run until another worker has, or leaf 0 of each run until so many others of that run have ended, or each
+/// worker at its first leaf of each run until so many have come to one.
 #[derive(Drop)]
 pub struct Watch {
     holds: bool,
     held_run: u64,
     others: u64,
+    // the workers of each run, and its leaves
+    wanted: u32,
+    leaves: u64,
     runs: AtomicU64,
     others_ended: AtomicU64,
-    /// A bit for each worker that has entered a leaf.
+    /// A bit for each worker that has entered a leaf, and that has entered one of each run, in turn.
     workers: AtomicU64,
+    came: [AtomicU64; 2],
     entered: AtomicU64,
     ended: AtomicU64,
     strays: AtomicU64,
@@ -31,9 +36,12 @@ impl Watch {
             holds,
             held_run: 0,
             others: 0,
+            wanted: 0,
+            leaves: 1,
             runs: AtomicU64::new(0),
             others_ended: AtomicU64::new(0),
             workers: AtomicU64::new(0),
+            came: [AtomicU64::new(0), AtomicU64::new(0)],
             entered: AtomicU64::new(0),
             ended: AtomicU64::new(0),
             strays: AtomicU64::new(0),
@@ -52,6 +60,14 @@ impl Watch {
     pub fn of_run(run: u64) -> Watch {
         let mut gate = Watch::new(false);
         gate.held_run = run;
+        gate
+    }
+
+    /// A gate that holds each worker at its first leaf of a run until so many have come to one. Each run but the last has so many leaves.
+    pub fn of_workers(wanted: u32, leaves: u64) -> Watch {
+        let mut gate = Watch::new(false);
+        gate.wanted = wanted;
+        gate.leaves = leaves.max(1);
         gate
     }
 
@@ -74,12 +90,27 @@ impl Watch {
         self.missed.load(Ordering::SeqCst) > 0
     }
 
-    /// Counts a call of a worker, which has to be one of the 64.
-    fn count(&self, calls: &AtomicU64, worker: u32) {
-        calls.fetch_add(1, Ordering::SeqCst);
+    /// Counts a call of a worker, which has to be one of the 64. Answers how many came before.
+    fn count(&self, calls: &AtomicU64, worker: u32) -> u64 {
         if worker >= 64 {
             self.strays.fetch_add(1, Ordering::SeqCst);
         }
+        calls.fetch_add(1, Ordering::SeqCst)
+    }
+
+    /// Turns until as many workers have come as are wanted, where this one comes first to a leaf of the run.
+    fn meet(&self, run: u64, own: u64) {
+        let came = &self.came[usize::from(run % 2 == 1)];
+        if came.fetch_or(own, Ordering::SeqCst) & own != 0 {
+            return;
+        }
+        for _ in 0..TURNS {
+            if came.load(Ordering::SeqCst).count_ones() >= self.wanted {
+                return;
+            }
+            hint::spin_loop();
+        }
+        self.missed.fetch_add(1, Ordering::SeqCst);
     }
 
     /// Turns until the number is at least this.
@@ -96,8 +127,9 @@ impl Watch {
 
 impl Gate for Watch {
     fn before_leaf(&self, worker: u32, leaf: usize) {
-        self.count(&self.entered, worker);
+        let before = self.count(&self.entered, worker);
         let own = 1 << (worker % 64);
+        self.meet(before / self.leaves.max(1), own);
         if self.workers.fetch_or(own, Ordering::SeqCst) == 0 && self.holds {
             // another worker's bit makes a greater number of them
             self.wait_for(&self.workers, own.wrapping_add(1));

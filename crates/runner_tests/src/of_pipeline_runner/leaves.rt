@@ -79,9 +79,22 @@ static COUNTS: [LeafRow<'_>; 15] = [
     (GREATEST, 4, 0, 0),
 ];
 
+/// What the second of eight leaves decides.
+static DECIDED: [LeafRow<'_>; 4] = [
+    (
+        b"pipeline 1\nrange 0 40\nfilter equals 9\nfindfirst\n",
+        1,
+        5,
+        2,
+    ),
+    (b"pipeline 1\nrange 0 40\nanymatch equals 9\n", 1, 5, 2),
+    (b"pipeline 1\nrange 0 40\nallmatch less 9\n", 1, 5, 2),
+    (b"pipeline 1\nrange 0 40\nnonematch equals 9\n", 1, 5, 2),
+];
+
 #[test]
 fn are_those_of_the_split_rule(rt: HostRuntime) -> Result<(), Fail> {
-    for rows in [SUMS.as_slice(), COUNTS.as_slice()] {
+    for rows in [SUMS.as_slice(), COUNTS.as_slice(), DECIDED.as_slice()] {
         for &(file, workers, target, leaves) in rows {
             let gate = Watch::new(false);
             watch(&rt, rt.alloc(), &Case::of(file, workers, target), &gate)?;

@@ -25,7 +25,7 @@ pub static TARGETS_OF_LONG: [u64; 2] = [60, 0];
 pub type Row<'a> = (&'a [u8], &'a str);
 
 /// The bytes of a file.
-fn file_of(alloc: Global, first: &[u8], lines: &[u8]) -> Result<Vec<u8>, AllocError> {
+pub fn file_of(alloc: Global, first: &[u8], lines: &[u8]) -> Result<Vec<u8>, AllocError> {
     let mut file = Vec::new(alloc);
     file.extend_from_slice(first)?;
     file.extend_from_slice(lines)?;

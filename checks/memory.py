@@ -1,0 +1,160 @@
+#!/usr/bin/env python3
+"""Counts what each terminal, barrier and collector asks for: requests for memory, the most bytes that live at a time, and threads.
+
+    checks/memory.py
+
+Those of the language run as pipelines, and the libraries' own as a test of crates/terminal_tests that takes its name from the environment (`rt ci`
+leaves both built). The library that refuses memory counts it too (refusing.py). A run takes what its plan, its board and its workers' blocks of
+1,024 items take, and a row tells what else, as a function of items and leaves: bytes and requests are at most a tenth above that, and none live on.
+"""
+
+import collections
+import itertools
+import os
+
+from built import PSTREAM, ROOT, conclude, need_program, told_list, told_map
+from refusing import Refusing
+
+TESTS = ROOT / "crates/terminal_tests/out/terminal_tests_tests"
+# how many items, by how many workers; what keeps no list takes no more of many items
+SHAPES, MANY = [(400_000, 1), (400_000, 4)], (10_000_000, 3)
+# bytes and requests of any run, and bytes of a worker; the program's have room for the largest file
+OF_PROGRAM, OF_TEST = (1_063_400, 10_000, 42), (1_000, 1_500, 8)
+# what a thread keeps for the one that comes next, and how many threads more sort at least where there are several processors
+OF_THREAD, SORTING = 600, int(os.cpu_count() > 1)
+
+Shape = collections.namedtuple("Shape", "items workers sizes")
+# requests and bytes for a leaf, and bytes for the items, of which at least nine tenths live; runs, those in which threads combine, threads that sort
+Row = collections.namedtuple("Row", "name wanted requests leaf items runs joins sorting", defaults=[0, None, 1, 0, 0])
+
+
+def split(items, target):
+    """The sizes of a range's leaves."""
+    return [items] if items <= target else split(items // 2, target) + split(items - items // 2, target)
+
+
+def room(number):
+    """The room of what grew by doubling."""
+    return 1 << (number - 1).bit_length()
+
+
+def entries(number):
+    """A map or a set of all items, with so many bytes for each entry that has room."""
+    return lambda at: number * room(at.items)
+
+
+def texts(image):
+    """Each leaf writes its items with `, ` between them, and what was written stays."""
+    room_of = lambda leaf: room(sum(len(str(it)) + 2 for it in map(image, leaf) if it is not None))
+    return lambda at: sum(room_of(range(end - size, end)) for size, end in zip(at.sizes, itertools.accumulate(at.sizes)))
+
+
+def an_item(one, several=None):
+    """So many bytes an item, by one worker and by several."""
+    return lambda at: at.items * (one if at.workers == 1 else several or one)
+
+
+def pieces(at):
+    """A list of numbers of eight bytes, and those of the leaves behind the first, which are moved to it."""
+    return 8 * (2 * at.items - at.sizes[0])
+
+
+def counted(values):
+    return told_map(enumerate(values))
+
+
+# the lines of version 2 behind `range 0 N`, where HALF is half of N, and what is written
+PIPELINES = [
+    Row("map mod 10\nsum", lambda n: 9 * n // 2, 9),
+    Row("product", lambda n: 0, 9),
+    Row("map mod 7\nmax", lambda n: "Optional[6]", 9),
+    Row("map mod 7\nmin", lambda n: "Optional[0]", 9),
+    Row("filter divisible 2\ncount", lambda n: n // 2, 9),
+    Row("filter equals 5\nfindfirst", lambda n: "Optional[5]", 9),
+    *[Row(f"map mod 7\n{test}", lambda n: "true", 9) for test in ("allmatch less 7", "nonematch less 0")],
+    Row("map mod 7\nanymatch less 0", lambda n: "false", 9),
+    Row("flatmap repeat 2\nmap mod 10\nsum", lambda n: 9 * n, 9),
+    Row("filter divisible 2\nlimit HALF\nmax", lambda n: f"Optional[{n - 2}]", 175, 1_500, runs=2),
+    Row("filter divisible 2\nskip 9\nmin", lambda n: "Optional[18]", 120, 1_500),
+    *[Row(f"{side}while less HALF\nmap mod 10\nsum", lambda n: 9 * n // 4, 120, 1_500, runs=2) for side in ("take", "drop")],
+    Row("map mod 1000\ndistinct\nsum", lambda n: 499_500, 52, 40_000, runs=2, joins=1),
+    Row("groupby mod 10 counting", lambda n: counted([n // 10] * 10), 18, 700),
+    Row("groupby mod 10 sum", lambda n: counted(n // 10 * (n // 2 - 5 + k) for k in range(10)), 18, 1_900),
+    Row("groupby mod 10 mapping mod 7 max", lambda n: counted(["Optional[6]"] * 10), 18, 2_400),
+    Row("groupby mod 10 filtering less 10 count", lambda n: counted([1] * 10), 18, 2_400),
+    Row("partition less HALF count", lambda n: f"{{false={n // 2}, true={n // 2}}}", 9, 400),
+    Row("teeing min max", lambda n: f"[Optional[0], Optional[{n - 1}]]", 9, 400),
+    Row("tomap mod 10 self last", lambda n: counted(range(n - 10, n)), 18, 700),
+    Row("map add 1\ntolist", lambda n: told_list(range(1, n + 1)), 28, 0, texts(lambda x: x + 1)),
+    Row("filter divisible 3\ntolist", lambda n: told_list(range(0, n, 3)), 28, 0, texts(lambda x: None if x % 3 else x)),
+    Row("dropwhile less 9\ntolist", lambda n: told_list(range(9, n)), 120, 0, texts(lambda x: x)),
+    # numbers of eight bytes in lists, the lists' texts, and these in the whole
+    Row("groupby mod 10 tolist", lambda n: counted(told_list(range(k, n, 10)) for k in range(10)), 190, 0, an_item(23)),
+    Row("teeing tolist count", lambda n: f"[{told_list(range(n))}, {n}]", 28, 0, an_item(24)),
+    Row("tomap self self last", lambda n: counted(range(n)), 80, 0, entries(51), joins=1),
+    Row("tomapstrict self self", lambda n: counted(range(n)), 100, 0, entries(53), joins=1),
+    Row("groupby self count", lambda n: counted([1] * n), 100, 0, entries(53), joins=1),
+]
+
+# those of crates/terminal_tests/src/each_terminal, which look at their answers themselves
+FOLDS = "sum summary reduce reduce_optional min max min_by_key max_by_key count find_first any_match all_match none_match".split()
+TERMINALS = [
+    *[Row(name, None, 4) for name in FOLDS],
+    Row("collect_concat", None, 8, runs=2),
+    Row("first_sorted", None, 14, 8_800, joins=1),
+    Row("to_list", None, 6, 0, lambda at: 8 * at.items if at.workers == 1 else pieces(at), joins=1),
+    Row("for_each_ordered", None, 6, 0, an_item(16), joins=1),
+    # lent texts of sixteen bytes, the leaves' texts and the whole
+    Row("joining", None, 23, 0, lambda at: 16 * at.items + sum(2 * room(2 * it) for it in at.sizes), joins=1),
+    Row("to_set", None, 72, 0, entries(39), joins=1),
+    Row("to_map_strict", None, 72, 0, entries(44), joins=1),
+    # several workers sort with as much room beside; pairs have a key of eight bytes
+    Row("sorted", None, 50, 0, an_item(8, 16), joins=1, sorting=SORTING),
+    Row("to_sorted_list", None, 50, 0, an_item(8, 16), joins=1),
+    Row("sorted_by_key", None, 8, 0, an_item(24, 32), joins=1, sorting=SORTING),
+    *[Row(name, None, 16, 0, pieces, 2, 1) for name in "limit skip take_while drop_while".split()],
+    Row("distinct", None, 16, 0, lambda at: entries(24)(at) + 8 * at.items, 2, 1),
+]
+
+
+def judged(found, at, row, base):
+    """Whether a run asked for as much as its row and its base tell. One worker starts no thread; several have one each, and two for each node near the
+    top of the plan's tree."""
+    of_run, of_worker, requests = base
+    items, nodes = row.items(at) if row.items else 0, (1 << (at.workers.bit_length() - 1)) - 1
+    started = row.runs * at.workers + row.joins * 2 * nodes + row.sorting if at.workers > 1 else 0
+    most = int(of_run + of_worker * at.workers + 1.1 * (row.leaf * len(at.sizes) + items))
+    most_requests = int(1.1 * (requests + row.requests * len(at.sizes)))
+    is_small = 0.9 * items <= found.peak <= most and found.requests <= most_requests and abs(found.live) <= OF_THREAD * found.threads
+    # (a place may be sought in more runs, and a sort has as many threads as there are processors)
+    is_started = found.threads == started or found.threads > started > 0 and (row.runs > 1 or row.sorting > 0)
+    return is_small and is_started or (found[3:], items, most, most_requests, started)
+
+
+def findings(rows, base, run):
+    """Each row at each shape."""
+    for row in rows:
+        for items, workers in [*SHAPES, *([] if row.items else [MANY])]:
+            at = Shape(items, workers, split(items, max(items // (4 * workers), 1)))
+            found, is_answered = run(row, at)
+            yield f"{workers} workers, {items} items, {row.name!r}", (is_answered, judged(found, at, row, base)), (True, True)
+
+
+def main():
+    need_program()
+    refusing = Refusing()
+
+    def run_pipeline(row, at):
+        file = f"pipeline 2\nrange 0 {at.items}\n{row.name}\n".replace("HALF", str(at.items // 2))
+        found = refusing.run([PSTREAM, "/dev/stdin", "--workers", str(at.workers)], file.encode())
+        return found, found[:3] == (0, f"{row.wanted(at.items)}\n".encode(), b"")
+
+    def run_terminal(row, at):
+        found = refusing.run([TESTS, "each_terminal::the_named_are_right"], TERMINAL=row.name, ITEMS=at.items, WORKERS=at.workers)
+        return found, found.status == 0
+
+    conclude(itertools.chain(findings(PIPELINES, OF_PROGRAM, run_pipeline), findings(TERMINALS, OF_TEST, run_terminal)))
+
+
+if __name__ == "__main__":
+    main()

@@ -1,0 +1,144 @@
+//! Each terminal operation of the libraries, and each barrier, over the numbers from 0 on: how many leaves and how many workers there are.
+//! checks/memory.py runs one of them by its name over many numbers, and counts the memory that it takes.
+
+mod behind;
+mod folds;
+mod lists;
+mod workers;
+
+use parallel_streams::{Run, Source, StreamError, of};
+use sources::RangeSplit;
+use std::alloc::Global;
+use std::env;
+use std::process::Abort;
+use std::test::Fail;
+use std::thread::Threads;
+use workers::Workers;
+
+/// A terminal operation, or one behind a barrier.
+#[derive(Clone, Copy)]
+enum Terminal {
+    Fold(folds::Fold),
+    List(lists::List),
+    Behind(behind::Behind),
+}
+
+/// The numbers from 0 on, so many of them.
+fn numbers(rt: &impl Abort, items: u32) -> Source<RangeSplit> {
+    of(RangeSplit::range(0, i64::from(items)).expect(rt, "a range"))
+}
+
+/// The sum of these numbers.
+fn sum_of(items: u32) -> i64 {
+    let end = i64::from(items);
+    end.wrapping_mul(end.wrapping_sub(1)) / 2
+}
+
+/// Whether the answer over so many numbers is right.
+fn is_right<R: Threads + Abort + Alloc<A = Global> + Sync>(
+    rt: &R,
+    run: &Run<'_, Workers>,
+    terminal: Terminal,
+    items: u32,
+) -> Result<bool, StreamError> {
+    match terminal {
+        Terminal::Fold(fold) => folds::is_right(rt, run, fold, items),
+        Terminal::List(list) => lists::is_right(rt, run, list, items),
+        Terminal::Behind(behind) => behind::is_right(rt, run, behind, items),
+    }
+}
+
+/// Each with its name, and how many runs it has.
+static ALL: [(&str, Terminal, u64); 28] = [
+    ("sum", Terminal::Fold(folds::Fold::Sum), 1),
+    ("summary", Terminal::Fold(folds::Fold::Summary), 1),
+    ("reduce", Terminal::Fold(folds::Fold::Reduce), 1),
+    (
+        "reduce_optional",
+        Terminal::Fold(folds::Fold::ReduceOptional),
+        1,
+    ),
+    ("min", Terminal::Fold(folds::Fold::Min), 1),
+    ("max", Terminal::Fold(folds::Fold::Max), 1),
+    ("min_by_key", Terminal::Fold(folds::Fold::MinByKey), 1),
+    ("max_by_key", Terminal::Fold(folds::Fold::MaxByKey), 1),
+    ("count", Terminal::Fold(folds::Fold::Count), 1),
+    ("find_first", Terminal::Fold(folds::Fold::FindFirst), 1),
+    ("any_match", Terminal::Fold(folds::Fold::AnyMatch), 1),
+    ("all_match", Terminal::Fold(folds::Fold::AllMatch), 1),
+    ("none_match", Terminal::Fold(folds::Fold::NoneMatch), 1),
+    ("to_list", Terminal::List(lists::List::ToList), 1),
+    ("to_set", Terminal::List(lists::List::ToSet), 1),
+    (
+        "for_each_ordered",
+        Terminal::List(lists::List::ForEachOrdered),
+        1,
+    ),
+    ("joining", Terminal::List(lists::List::Joining), 1),
+    ("to_map_strict", Terminal::List(lists::List::StrictMap), 1),
+    ("sorted", Terminal::List(lists::List::Sorted), 1),
+    ("sorted_by_key", Terminal::List(lists::List::SortedByKey), 1),
+    ("first_sorted", Terminal::List(lists::List::FirstSorted), 1),
+    ("to_sorted_list", Terminal::List(lists::List::SortedList), 1),
+    ("limit", Terminal::Behind(behind::Behind::Limit), 2),
+    ("skip", Terminal::Behind(behind::Behind::Skip), 2),
+    ("take_while", Terminal::Behind(behind::Behind::TakeWhile), 2),
+    ("drop_while", Terminal::Behind(behind::Behind::DropWhile), 2),
+    ("distinct", Terminal::Behind(behind::Behind::Distinct), 2),
+    (
+        "collect_concat",
+        Terminal::Behind(behind::Behind::Concat),
+        2,
+    ),
+];
+
+/// Workers, a target, and how many leaves the split rule cuts 40 items into.
+static SETTINGS: [(u32, u64, u64); 4] = [(1, 0, 4), (3, 5, 8), (5, 0, 24), (5, 3, 16)];
+
+#[test]
+fn each_has_its_workers_and_leaves(rt: HostRuntime) -> Result<(), StreamError> {
+    for &(name, terminal, runs) in &ALL {
+        for &(workers, target, leaves) in &SETTINGS {
+            let gate = &Workers::new(workers, leaves);
+            let run = Run {
+                workers,
+                target,
+                gate,
+            };
+            let is_right = is_right(&rt, &run, terminal, 40)?;
+            let counts = gate.counts();
+            assert!(rt;
+                is_right && counts == (runs.wrapping_mul(leaves), 0),
+                "{name}, {workers} workers at {target}: {is_right}, {counts:?}"
+            );
+        }
+    }
+    Ok(())
+}
+
+// The names, the number of items and that of workers are variables of the environment. Where there are none, each runs over 1,000 items.
+#[test]
+fn the_named_are_right(rt: HostRuntime) -> Result<(), Fail> {
+    let number = |name: &str, usual: u32| match env::var(&rt, name) {
+        Ok(text) => text.as_str().parse::<u32>().unwrap_or(usual),
+        Err(_) => usual,
+    };
+    let named = env::var(&rt, "TERMINAL");
+    let items = number("ITEMS", 1_000);
+    let workers = number("WORKERS", 4);
+    for &(name, terminal, _) in &ALL {
+        let is_named = match &named {
+            Ok(wanted) => wanted.as_str() == name,
+            Err(_) => true,
+        };
+        if is_named {
+            let run = Run {
+                workers,
+                target: 0,
+                gate: &Workers::new(0, 1),
+            };
+            assert!(rt; is_right(&rt, &run, terminal, items)?, "{name}");
+        }
+    }
+    Ok(())
+}
