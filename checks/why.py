@@ -43,7 +43,6 @@ directory = "{folder}"
 CRATE, STANDS_ON = "reduce", "mohairjade"
 FILES = {"reduce.txt": "src/lib.rt", "minus.txt": "proofs/MinusOperatorI64/join/Answers.antt"}
 VERDICTS = {
-    "sum": "proved",
     "difference": "no proof: .*; `search` did not prove `reduce-requires-clause-associative`, `reduce-requires-clause-identity`",
     "sum_from_one": "no proof: .*; `search` did not prove `reduce-requires-clause-identity`",
 }
