@@ -12,19 +12,8 @@ def wrap(x):
     return (x + 2**63) % 2**64 - 2**63
 
 
-FUNCTIONS = {
-    "add": lambda x, n: wrap(x + n),
-    "mul": lambda x, n: wrap(x * n),
-    "mod": lambda x, n: x % n,
-    "negate": lambda x: wrap(-x),
-    "self": lambda x: x,
-}
-TESTS = {
-    "less": lambda x, n: x < n,
-    "greater": lambda x, n: x > n,
-    "equals": lambda x, n: x == n,
-    "divisible": lambda x, n: x % n == 0,
-}
+FUNCTIONS = {"add": lambda x, n: wrap(x + n), "mul": lambda x, n: wrap(x * n), "mod": lambda x, n: x % n, "negate": lambda x: wrap(-x)}
+TESTS = {"less": int.__lt__, "greater": int.__gt__, "equals": int.__eq__, "divisible": lambda x, n: x % n == 0}
 
 
 class TooMany(Exception):
@@ -39,14 +28,6 @@ def counted(items, left):
         yield x
 
 
-def differing(items):
-    seen = set()
-    for x in items:
-        if x not in seen:
-            seen.add(x)
-            yield x
-
-
 def through(stage, items, left):
     """What a stage makes of items, one by one."""
     match stage:
@@ -59,7 +40,8 @@ def through(stage, items, left):
         case ["skip", n]:
             return itertools.islice(items, n, None)
         case ["distinct"]:
-            return differing(items)
+            seen = set()
+            return (x for x in items if x not in seen and not seen.add(x))
         case [word, test, n]:
             keep = {"filter": filter, "takewhile": itertools.takewhile, "dropwhile": itertools.dropwhile}[word]
             return keep(lambda x: TESTS[test](x, n), items)

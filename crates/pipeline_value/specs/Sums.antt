@@ -20,10 +20,9 @@ pairs-both (suc h) =
     let more : suc h + suc h ≡ suc (suc (h + h)) = omega arith in
     let again = (pairs-both h).1 in
     let even : pairs_of (suc (suc (suc (h + h)))) ≡ suc h * suc (suc (suc (h + h))) = omega (arith, again) in
-    let odd : pairs_of (suc (suc (suc (suc (h + h))))) ≡ suc (suc h) * suc (suc (suc (h + h))) = omega (arith, even) in
-    (
-        ap (λ n. pairs_of (suc n)) more ∙ even ∙ ap (λ n. suc h * suc n) (sym more),
-        ap (λ n. pairs_of (suc (suc n))) more ∙ odd ∙ ap (λ n. suc (suc h) * suc n) (sym more),
+    let odd : pairs_of (suc (suc (suc (suc (h + h))))) ≡ suc (suc h) * suc (suc (suc (h + h))) = omega (arith, even) in (
+      ap (λ n. pairs_of (suc n)) more ∙ even ∙ ap (λ n. suc h * suc n) (sym more),
+      ap (λ n. pairs_of (suc (suc n))) more ∙ odd ∙ ap (λ n. suc (suc h) * suc n) (sym more),
     )
 
 pub pairs-even : (n : ℕ) → n % 2 ≡ 0 → (n / 2) * (n + 1) ≡ pairs_of (suc n)

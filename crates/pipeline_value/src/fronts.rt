@@ -55,14 +55,10 @@ pub(crate) fn front_value<R: Threads + Sync, H: Gate + Sync>(
     ensures { IfSome result (Tells (number_body_told body.now (⟦<RangeSplit as Spliterator>⟧.items range))) }
 {
     let stages = body.stages.as_slice();
-    if range.count() / TIMES_LONGER < size || !asks_for_few(stages, &body.terminal) {
+    if range.count() / TIMES_LONGER < size || !asks_for_few(stages, &body.terminal, size) {
         return None;
     }
-    let engine = &engine.with_workers(if size <= ALONE {
-        1
-    } else {
-        engine.run.workers
-    });
+    let engine = &engine.with_workers(if size <= ALONE { 1 } else { engine.run.workers });
     let most = size.saturating_mul(IMAGES).min(MOST);
     let Ok((items, taken)) = first_images(engine, range.first(size), stages, most) else {
         return None;
@@ -71,22 +67,29 @@ pub(crate) fn front_value<R: Threads + Sync, H: Gate + Sync>(
     value_by_front(engine, items, rest, &body.terminal, most)
 }
 
-/// Whether something asks for few items: a limit, a `takewhile`, or a terminal that a first hit decides, behind a barrier.
-fn asks_for_few(stages: &[NumberStage], terminal: &NumberTerminal) -> bool {
-    let mut is_behind_barrier = false;
+/// Whether something asks for few items behind a barrier or a repeat: a `takewhile`, a limit that a front of so many numbers may fill, or a
+/// terminal that a first hit decides. Where none stands before it, the source is cut without a front.
+fn asks_for_few(stages: &[NumberStage], terminal: &NumberTerminal, size: u64) -> bool {
+    let mut is_behind = false;
+    let mut images = size;
     for stage in stages {
         match *stage {
-            NumberStage::Barrier(Barrier::Limit(_)) | NumberStage::Barrier(Barrier::TakeWhile(_)) =>
+            NumberStage::Map(_) | NumberStage::Filter(_) => {}
+            NumberStage::FlatMap(number) => {
+                images = images.saturating_mul(number);
+                is_behind = true;
+            }
+            NumberStage::Barrier(Barrier::TakeWhile(_)) if is_behind => return true,
+            NumberStage::Barrier(Barrier::Limit(most)) if is_behind && most <= images =>
                 return true,
-            NumberStage::Barrier(_) => is_behind_barrier = true,
-            NumberStage::Map(_) | NumberStage::Filter(_) | NumberStage::FlatMap(_) => {}
+            NumberStage::Barrier(_) => is_behind = true,
         }
     }
     match *terminal {
         NumberTerminal::FindFirst
         | NumberTerminal::AllMatch(_)
         | NumberTerminal::AnyMatch(_)
-        | NumberTerminal::NoneMatch(_) => is_behind_barrier,
+        | NumberTerminal::NoneMatch(_) => is_behind,
         _ => false,
     }
 }

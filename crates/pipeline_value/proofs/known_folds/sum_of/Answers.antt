@@ -45,7 +45,7 @@ returns c =
     let steps : c.wrapping_product.result ≡ wrapped_product d (wrapped (pos (pairs_of (suc (length later))))) = search (rules, pairs) in
     let total : sum ≡ wrapped_sum c.wrapping_product-firsts.result c.wrapping_product.result = search rules in
     rw as_sum (
-        total ∙ ap₂ wrapped_sum firsts steps ∙ made-sum (suc (length later)) (pairs_of (suc (length later))) x d
-        ∙ sym (steps-sum (suc (length later)) x d)
-        ∙ ap (fold wrapped_sum (pos 0)) (sym (steps-read p.next p.step p.left x y d later _ step one two gap))
+    total ∙ ap₂ wrapped_sum firsts steps ∙ made-sum (suc (length later)) (pairs_of (suc (length later))) x d
+    ∙ sym (steps-sum (suc (length later)) x d)
+    ∙ ap (fold wrapped_sum (pos 0)) (sym (steps-read p.next p.step p.left x y d later _ step one two gap))
     )
