@@ -29,10 +29,8 @@ const ALONE: u64 = 1 << 16;
 /// The first part has so many items: of a place that is near, a longer one would read too much, and of one that is far this is a small part.
 const SHORT: u64 = 1 << 11;
 
-/// Each part is so many times as long as the one before it, up to `LONGEST`, which is 16,384 leaves.
+/// Each part is so many times as long as the one before it.
 const TIMES_LONGER: u64 = 32;
-
-const LONGEST: u64 = 1 << 30;
 
 /// How a part of so many items is looked at: by one worker where these are few, and else by all.
 fn engine_over<'e, R, H>(items: u64, engine: &Engine<'e, R, H>) -> Engine<'e, R, H>
@@ -199,6 +197,7 @@ where
     requires few { GivesAtMostOne (A.expand stage.now) }
     requires some { 1 ≤ wanted }
     requires fits { wanted < 2 ^ 63 }
+    requires room { length (S.items part) < 2 ^ 64 }
     ensures { IfOk result (PlaceOrCount (A.expand stage.now) (S.items part) wanted) }
 {
     let engine = &engine_by_leaves(engine);
@@ -253,14 +252,6 @@ where
     Ok(Ok(place))
 }
 
-/// The size of the part behind one of this size.
-fn next_size(size: u64) -> u64
-    requires { 1 ≤ size }
-    ensures { 1 ≤ result }
-{
-    size.saturating_mul(TIMES_LONGER).min(LONGEST)
-}
-
 /// The place of the source item with whose image so many have come, or `None` where there are fewer: by one part after another, the first of at
 /// most so many items.
 fn place_by_parts<R, S, A, H>(
@@ -296,7 +287,8 @@ where
         return Ok(None);
     }
     let rest = source.after_first(size);
-    match place_by_parts(engine, rest, next_size(size), stage, wanted - images)? {
+    let longer = size.saturating_mul(TIMES_LONGER);
+    match place_by_parts(engine, rest, longer, stage, wanted - images)? {
         Some(place) => Ok(Some(size + place)),
         None => Ok(None),
     }
