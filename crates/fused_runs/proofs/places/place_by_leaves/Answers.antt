@@ -18,4 +18,4 @@ pub returns-in-Ok : goal.returns-in-Ok
 returns-in-Ok g c = subst (λ l. IsPlace (g.A.Stage.expand c.args.stage.now) l c.args.wanted c.in_ok-place-in-Ok.place) c.in_ok-plan.ensures.items c.in_ok-place-in-Ok.ensures
 
 pub returns : goal.returns
-returns g c = subst (λ l. AreFewer (g.A.Stage.expand c.args.stage.now) l c.args.wanted c.in-Err.images) c.in_ok-plan.ensures.items c.in-Err.ensures
+returns g c = subst (λ l. AreFewer (g.A.Stage.expand c.args.stage.now) l c.args.wanted c.in-Err.images) c.in_ok-plan.ensures.items c.in-Err.ensures.fewer
