@@ -1,4 +1,4 @@
-use Rattle.std.proofs.Common.{◌≡◌, ◌<◌, List, ℤ, ap, ap₂, arith, length, sym, take, ◌∙◌}
+use Rattle.std.proofs.Common.{◌≡◌, ap, ap₂, arith, sym, take, ◌∙◌}
 use Rattle.std.specs.Prelude.{flat_map}
 use Rattle.std.proofs.lemmas.List.{map-id}
 use Rattle.pipeline_meaning.specs.NumberSteps.{number_images}
@@ -7,8 +7,8 @@ use Rattle.pipeline_value.specs.Narrowing.{stage-more}
 use Rattle.pipeline_value.proofs.StageFronts.{first-front, same-front}
 use Rattle.pipeline_value.proofs.fronts.next_images.Goals as goal
 
-pub returns-then-taken-clause-front : goal.returns-then-taken-clause-front
-returns-then-taken-clause-front g c =
+pub returns-then-taken-gt0-clause-front : goal.returns-then-taken-gt0-clause-front
+returns-then-taken-gt0-clause-front g c =
     let items = c.args.items.now in
     let images = flat_map (number_images c.in_ok-steps.steps) in
     first-front c.args.most c.in_ok-kept.kept.items (number_stages (take c.in_ok-steps.taken c.args.stages.now) items)
@@ -19,8 +19,7 @@ returns-clause-front g c =
     let items = c.args.items.now in
     let stages = c.args.stages.now in
     let images = flat_map (number_images c.in_ok-steps.steps) in
-    let none : c.in_ok-steps.taken ≡ 0 = omega (arith, c.if-taken.false) in
-    let before : images (g.Source.items c.new-source.result) ≡ number_stages (take 0 stages) items =
-    ap images (c.new-source.ensures ∙ map-id _) ∙ c.in_ok-steps.ensures.means items ∙ ap (λ n. number_stages (take n stages) items) none in
-    same-front c.in_ok-kept.kept.items (number_stages (take 1 stages) items)
-    (sym (map-id _) ∙ c.in_ok-kept.ensures ∙ stage-more number_stage stages 0 _ _ items c.requires.some before)
+    let none : c.in_ok-steps.taken ≡ 0 = omega (arith, c.if-taken-gt0.false) in
+    let before = ap images (c.new-source.ensures ∙ map-id _) ∙ c.in_ok-steps.ensures.means items ∙ ap (λ n. number_stages (take n stages) items) none in
+    same-front c.in_ok-kept-2.kept.items (number_stages (take 1 stages) items)
+    (sym (map-id _) ∙ c.in_ok-kept-2.ensures ∙ stage-more number_stage stages 0 _ _ items c.requires.some before)

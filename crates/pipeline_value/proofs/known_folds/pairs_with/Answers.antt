@@ -1,6 +1,5 @@
-use Rattle.std.proofs.Common.{rules, ◌≡◌, ◌+◌, ◌/◌, ◌%◌, ◌∙◌, ap, arith, of_z, pos, to_z, w64}
+use Rattle.std.proofs.Common.{rules, ◌≡◌, ◌+◌, ◌/◌, ◌%◌, arith, of_z, pos, to_z, w64}
 use Rattle.std.proofs.lemmas.Int.{to_z_pos}
-use Rattle.stages.specs.Products.{wrapped_product}
 use Rattle.pipeline_value.specs.Sums.{counted-product, pairs-even, pairs-odd}
 use Rattle.pipeline_value.proofs.known_folds.pairs_with.Goals as goal
 

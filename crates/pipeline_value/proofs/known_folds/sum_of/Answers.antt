@@ -1,4 +1,4 @@
-use Rattle.std.proofs.Common.{rules, ◌≡◌, ◌≤◌, ◌<◌, ◌^◌, ◌+◌, ◌∷◌, ◌∙◌, ◌+ℤ◌, neg_ℤ, ap, ap₂, arith, fold, length, of_z, pos, suc, sym, to_z, FitsSigned, w64}
+use Rattle.std.proofs.Common.{rules, ◌≡◌, ◌+◌, ◌∷◌, ◌∙◌, ◌+ℤ◌, neg_ℤ, ap, ap₂, arith, fold, length, of_z, pos, suc, sym, to_z, FitsSigned, w64}
 use Rattle.std.specs.Int.{int_wrap}
 use Rattle.std.proofs.lemmas.Int.{to_z_pos}
 use Rattle.sources.specs.Progressions.{progression}
