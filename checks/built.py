@@ -18,8 +18,8 @@ def need_program():
 
 def run(words, environment=None, **streams):
     """Status, standard output and standard error of one run, with these variables beside those of the script."""
-    streams.setdefault("stdout", subprocess.PIPE)
-    done = subprocess.run([PSTREAM, *words], stderr=subprocess.PIPE, env=os.environ | (environment or {}), timeout=60, **streams)
+    streams = {"stdout": subprocess.PIPE, "timeout": 60} | streams
+    done = subprocess.run([PSTREAM, *words], stderr=subprocess.PIPE, env=os.environ | (environment or {}), **streams)
     return done.returncode, done.stdout or b"", done.stderr
 
 

@@ -3,7 +3,8 @@
 
     checks/program.py
 
-`rt ci` leaves the program built, and `rt run` in crates/pstream builds it. Memory is refused by a small library of this folder (refusing.py). Of a
+`rt ci` leaves the program built, and `rt run` in crates/pstream builds it. Random pipelines over long ranges that few numbers decide (lazy.py) have to
+be answered soon, in little memory. Memory is refused by a small library of this folder (refusing.py). Of a
 row of the language each request is refused in turn, one a run, with 1 and with 7 workers at target 1, where a row makes few; of another
 command line as well, or some of them, evenly spread, where it makes more than these. So many runs, and so many refusals, are told and compared. Where a
 file tells a great number, so great a request and so many bytes in all are refused as no small file needs.
@@ -11,7 +12,10 @@ file tells a great number, so great a request and so many bytes in all are refus
 
 import collections
 import itertools
+import resource
+import subprocess
 
+import lazy
 from built import EXAMPLES, PSTREAM, conclude, need_program, run, told_list, told_map
 from refusing import MEMORY, Refusing
 
@@ -57,6 +61,24 @@ ROWS = {
 }
 WORKERS = ["1", "7"]
 OTHER_SETTINGS = [("3", "0"), ("3", "17"), ("5", "3"), ("5", "1000")]
+# what their first numbers decide, over ranges that are too long to be read, or to be read in so little memory
+DECIDED = [
+    ("range 0 4611686018427387804\nfilter divisible 100\nlimit 1000\ncount", "1000"),
+    ("range 0 1000000000000\ndropwhile divisible 3\ntakewhile greater 0\nfindfirst", "Optional[1]"),
+    ("range 0 1000000000000\nmap mod 10\nfilter equals 0\ndistinct\nmap mod 1000\nlimit 3\nfindfirst", "Optional[0]"),
+    ("range -7 4611686018427387896\ntakewhile less 519\nflatmap repeat 0\ntakewhile less 756\ntolist", "[]"),
+    ("range 0 4611686018427387904\nfilter equals -1\nflatmap repeat 0\nsum", "0"),
+    ("range 0 9000000\nflatmap repeat 1000\ndropwhile less 5000\nfindfirst", "Optional[5000]"),
+    ("range 0 1000000\nflatmap repeat 1000\nflatmap repeat 1000\nskip 1\nfindfirst", "Optional[0]"),
+    ("range 0 1000000\nflatmap repeat 1000\nflatmap repeat 1000\nskip 1\nlimit 3\ntolist", "[0, 0, 0]"),
+    # places far from the front
+    ("range 0 4611686018427387904\nmap mod 1000000007\nskip 30000000\nlimit 1\ntolist", "[30000000]"),
+    ("range 0 4611686018427387904\nmap mod 1000000007\ndropwhile less 30000000\nfindfirst", "Optional[30000000]"),
+]
+# how many random ones are tried beside these, and what each may take
+MANY = 300
+SECONDS = 5
+MOST_MEMORY = 400_000_000
 # the most requests of a row, so that each can be refused, and how many of another command line are refused, evenly spread where it makes more
 MOST_OF_ROWS = 1000
 MOST_REFUSALS = 100
@@ -79,6 +101,21 @@ def devices():
     yield "no such file", run([EXAMPLES / "none"]), (3, b"", b"read failed\n")
     yield "an endless file", run(["/dev/zero"]), (2, b"", b"line 0: TOO_LARGE\n")
     yield "a word that isn't UTF-8", run([SUM, b"\xff"]), (2, b"", NO_TEXT)
+
+
+def in_little_memory():
+    resource.setrlimit(resource.RLIMIT_AS, (MOST_MEMORY, MOST_MEMORY))
+
+
+def decided_by_few():
+    """What the plain, lazy definition answers after few items is answered soon, in little memory."""
+    for lines, told in itertools.chain(DECIDED, lazy.cases(MANY)):
+        file = f"pipeline 1\n{lines}\n".encode()
+        try:
+            found = run(["/dev/stdin"], input=file, timeout=SECONDS, preexec_fn=in_little_memory)
+        except subprocess.TimeoutExpired:
+            found = "no end"
+        yield f"soon decided: {lines!r}", found, (0, f"{told}\n".encode(), b"")
 
 
 def rows():
@@ -202,7 +239,16 @@ def other_settings():
 def main():
     need_program()
     refusing = Refusing()
-    conclude(itertools.chain(devices(), other_settings(), small_files_with_great_numbers(refusing), refused_rows(refusing), refused_commands(refusing)))
+    conclude(
+        itertools.chain(
+            devices(),
+            other_settings(),
+            decided_by_few(),
+            small_files_with_great_numbers(refusing),
+            refused_rows(refusing),
+            refused_commands(refusing),
+        )
+    )
 
 
 if __name__ == "__main__":

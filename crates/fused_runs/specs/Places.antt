@@ -1,5 +1,5 @@
 -- Places in a list at which so many images have come.
-use Rattle.std.specs.Prelude.{◌≡◌, ◌<◌, ◌≤◌, ◌+◌, ◌-◌, ℕ, suc, Bool, true, false, cond, not, Option, Some, None, List, [], ◌∷◌, ◌++◌, length, take, drop, filter, flat_map, take_while, refl}
+use Rattle.std.specs.Prelude.{◌≡◌, ◌<◌, ◌≤◌, ◌+◌, ◌-◌, ℕ, suc, Bool, true, false, cond, not, Option, Some, None, Result, Ok, Err, List, [], ◌∷◌, ◌++◌, length, take, drop, filter, flat_map, take_while, refl}
 use Rattle.std.specs.List.{prefix_len}
 use Rattle.std.proofs.Common.{ap, sym, ◌∙◌, arith, append-nil}
 use Rattle.std.proofs.lemmas.List.{length-append, length-take, length-drop, take-append-drop, take_at, drop_at, take_all, drop_all, take-take}
@@ -19,6 +19,15 @@ IsPlace images l wanted i = (i < length l) × (length (flat_map images (take i l
 abbrev pub PlaceOrFewer : {A B : Type 0} → (A → List B) → List A → ℕ → Option ℕ → Type 0
 PlaceOrFewer images l wanted (Some i) = IsPlace images l wanted i
 PlaceOrFewer images l wanted None = length (flat_map images l) < wanted
+
+-- so many images, fewer than are wanted
+abbrev pub AreFewer : {A B : Type 0} → (A → List B) → List A → ℕ → ℕ → Type 0
+AreFewer images l wanted n = (n ≡ length (flat_map images l)) × (n < wanted)
+
+-- the place, or how many images there are
+abbrev pub PlaceOrCount : {A B : Type 0} → (A → List B) → List A → ℕ → Result ℕ ℕ → Type 0
+PlaceOrCount images l wanted (Ok i) = IsPlace images l wanted i
+PlaceOrCount images l wanted (Err n) = AreFewer images l wanted n
 
 -- the images of the items of the first leaves
 abbrev pub images_before : {S A B : Type 0} → (S → List A) → (A → List B) → List S → ℕ → List B

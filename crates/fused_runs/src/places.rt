@@ -1,10 +1,10 @@
 //! Places in a source at which so many images of its items have come.
 
-ghost use Rattle.std.specs.Prelude.{◌≡◌, ◌<◌, ◌≤◌, ◌^◌, IfOk, IfSome, IfNone, Some, flat_map, length};
+ghost use Rattle.std.specs.Prelude.{◌≡◌, ◌<◌, ◌≤◌, ◌^◌, IfOk, IfErr, Some, flat_map, length};
 ghost use Rattle.barriers.specs.Needs.{every_item};
 ghost use Rattle.leaf_board.specs.Closing.{count_of, cut_of};
 ghost use Rattle.parts.specs.AtMostOne.{GivesAtMostOne};
-ghost use Rattle.fused_runs.specs.Places.{IsLeafPlace, IsPlace, PlaceOrFewer};
+ghost use Rattle.fused_runs.specs.Places.{AreFewer, IsLeafPlace, IsPlace, PlaceOrCount, PlaceOrFewer};
 ghost use Rattle.split_tree.specs.Plan.{leaves_of};
 ghost use Rattle.stealing_pool.specs.Spans.{full_count, lists_of};
 ghost use Rattle.stealing_pool.specs.Reports.{Reports};
@@ -22,13 +22,15 @@ use stages::Stage;
 use std::thread::Threads;
 use stealing_pool::{Gate, RunEntry, run_leaves};
 
-/// One worker looks at a part of at most so many items, since threads take longer to start than they would save. So long are the first part,
-/// and the leaves of the run behind it, where the target is to be chosen.
+/// One worker looks at a part of at most so many items, since threads take longer to start than they would save. So long are the leaves of a
+/// longer part, where the target is to be chosen.
 const ALONE: u64 = 1 << 16;
 
-/// A front of so many items is read before anything else: of a place that is near, a longer one would read too much, and of one that is far
-/// this is a small part.
+/// The first part has so many items: of a place that is near, a longer one would read too much, and of one that is far this is a small part.
 const SHORT: u64 = 1 << 11;
+
+/// Each part is so many times as long as the one before it.
+const TIMES_LONGER: u64 = 32;
 
 /// How a part of so many items is looked at: by one worker where these are few, and else by all.
 fn engine_over<'e, R, H>(items: u64, engine: &Engine<'e, R, H>) -> Engine<'e, R, H>
@@ -117,28 +119,28 @@ struct LeafPlace {
     images: u64,
 }
 
-/// The leaf of a run with which so many images have come, by what the run counted of its leaves.
+/// The leaf of a run with which so many images have come, by what the run counted of its leaves, or `Err` of how many images there are.
 fn leaf_of<S: Windowed, A: Stage<In = S::Item>>(
     plan: &Plan<S>,
     _stage: &A,
     entry: &RunEntry,
     wanted: u64,
-) -> Option<LeafPlace>
+) -> Result<LeafPlace, u64>
     requires some { 1 ≤ wanted }
     requires counts { let full = full_count every_item (lists_of S.items (A.expand _stage.now) (leaves_of plan.now)) in
         Reports (Some wanted) (length (leaves_of plan.now)) full entry.now.leaves (count_of entry.now) (cut_of entry.now) }
     requires room { length (flat_map S.items (leaves_of plan.now)) < 2 ^ 64 }
-    ensures found { IfSome result (λ p. IsLeafPlace S.items (A.expand _stage.now) (leaves_of plan.now) wanted p.leaf p.items p.images) }
-    ensures none { IfNone result (length (flat_map (A.expand _stage.now) (flat_map S.items (leaves_of plan.now))) < wanted) }
+    ensures found { IfOk result (λ p. IsLeafPlace S.items (A.expand _stage.now) (leaves_of plan.now) wanted p.leaf p.items p.images) }
+    ensures fewer { IfErr result (AreFewer (A.expand _stage.now) (flat_map S.items (leaves_of plan.now)) wanted) }
 {
     let mut items: u64 = 0;
     let mut images: u64 = 0;
     for leaf in 0..plan.leaves() {
         let Some(count) = entry.count(leaf) else {
-            return None;
+            return Err(images);
         };
         if wanted - images <= count {
-            return Some(LeafPlace {
+            return Ok(LeafPlace {
                 leaf,
                 items,
                 images,
@@ -147,7 +149,7 @@ fn leaf_of<S: Windowed, A: Stage<In = S::Item>>(
         items += plan.leaf(leaf).count();
         images += count;
     }
-    None
+    Err(images)
 }
 
 /// The place in a plan's source of the item with whose image so many have come, within the leaf with which they have.
@@ -176,14 +178,14 @@ where
     Ok(found.items + place)
 }
 
-/// The place of the source item with whose image so many have come, or `None` where there are fewer: by the counts of the leaves of one run on all
+/// The place in a long part at which so many images have come, or `Err` of how many it has: by the counts of the leaves of one run on all
 /// workers, and by halves within the leaf in which the last one comes.
 fn place_by_leaves<R, S, A, H>(
     engine: &Engine<'_, R, H>,
-    source: S,
+    part: S,
     stage: &A,
     wanted: u64,
-) -> Result<Option<u64>, NoMemory>
+) -> Result<Result<u64, u64>, NoMemory>
 where
     R: Threads + Sync,
     S: Windowed + Copy + Drop + Send + Sync,
@@ -195,13 +197,11 @@ where
     requires few { GivesAtMostOne (A.expand stage.now) }
     requires some { 1 ≤ wanted }
     requires fits { wanted < 2 ^ 63 }
-    ensures { IfOk result (PlaceOrFewer (A.expand stage.now) (S.items source) wanted) }
+    requires room { length (S.items part) < 2 ^ 64 }
+    ensures { IfOk result (PlaceOrCount (A.expand stage.now) (S.items part) wanted) }
 {
-    if source.count() < wanted {
-        return Ok(None);
-    }
     let engine = &engine_by_leaves(engine);
-    let plan = plan_of(engine, source)?;
+    let plan = plan_of(engine, part)?;
     let gathered = run_leaves(
         engine.rt,
         engine.alloc,
@@ -212,19 +212,52 @@ where
         engine.run.workers,
         engine.run.gate,
     )?;
-    let Some(found) = leaf_of(&plan, stage, &gathered.entry, wanted) else {
-        return Ok(None);
-    };
-    let place = place_in_leaf(engine, &plan, stage, found, wanted)?;
-    Ok(Some(place))
+    match leaf_of(&plan, stage, &gathered.entry, wanted) {
+        Ok(found) => {
+            let place = place_in_leaf(engine, &plan, stage, found, wanted)?;
+            Ok(Ok(place))
+        }
+        Err(images) => Ok(Err(images)),
+    }
 }
 
-/// The place of the source item with whose image so many have come, or `None` where there are fewer.
-///
-/// One worker looks at a first part, and all look at what is behind it by leaves.
+/// The place in a part at which so many images have come, or `Err` of how many it has. One worker looks at a short part.
+fn place_in_part<R, S, A, H>(
+    engine: &Engine<'_, R, H>,
+    part: S,
+    stage: &A,
+    wanted: u64,
+) -> Result<Result<u64, u64>, NoMemory>
+where
+    R: Threads + Sync,
+    S: Windowed + Copy + Drop + Send + Sync,
+    S::Item: Clone + Send + Sync,
+    A: Stage<In = S::Item> + Sync,
+    A::Out: Clone + Send + Sync,
+    H: Gate + Sync,
+    requires stage { A.ready stage.now }
+    requires few { GivesAtMostOne (A.expand stage.now) }
+    requires some { 1 ≤ wanted }
+    requires fits { wanted < 2 ^ 63 }
+    ensures { IfOk result (PlaceOrCount (A.expand stage.now) (S.items part) wanted) }
+{
+    if part.count() > ALONE {
+        return place_by_leaves(engine, part, stage, wanted);
+    }
+    let images = count_images(engine, part, stage)?;
+    if images < wanted {
+        return Ok(Err(images));
+    }
+    let place = place_within(engine, part, stage, wanted)?;
+    Ok(Ok(place))
+}
+
+/// The place of the source item with whose image so many have come, or `None` where there are fewer: by one part after another, the first of at
+/// most so many items.
 fn place_by_parts<R, S, A, H>(
     engine: &Engine<'_, R, H>,
     source: S,
+    size: u64,
     stage: &A,
     wanted: u64,
 ) -> Result<Option<u64>, NoMemory>
@@ -237,29 +270,33 @@ where
     H: Gate + Sync,
     requires stage { A.ready stage.now }
     requires few { GivesAtMostOne (A.expand stage.now) }
+    requires size { 1 ≤ size }
     requires some { 1 ≤ wanted }
     requires fits { wanted < 2 ^ 63 }
     ensures { IfOk result (PlaceOrFewer (A.expand stage.now) (S.items source) wanted) }
 {
-    let part = source.first(ALONE);
-    let count = count_images(engine, part, stage)?;
-    if wanted <= count {
-        let place = place_within(engine, part, stage, wanted)?;
-        return Ok(Some(place));
-    }
-    if source.count() <= ALONE {
+    if source.count() < wanted {
         return Ok(None);
     }
-    let rest = source.after_first(ALONE);
-    match place_by_leaves(engine, rest, stage, wanted - count)? {
-        Some(place) => Ok(Some(ALONE + place)),
+    let part = source.first(size);
+    let images = match place_in_part(engine, part, stage, wanted)? {
+        Ok(place) => return Ok(Some(place)),
+        Err(images) => images,
+    };
+    if source.count() <= size {
+        return Ok(None);
+    }
+    let rest = source.after_first(size);
+    let longer = size.saturating_mul(TIMES_LONGER);
+    match place_by_parts(engine, rest, longer, stage, wanted - images)? {
+        Some(place) => Ok(Some(size + place)),
         None => Ok(None),
     }
 }
 
 /// The place of the source item with whose image so many have come, or `None` where there are fewer.
 ///
-/// A short front is read first, so that a place near the start costs little.
+/// Parts of growing length are read, so that a place near the start costs little, and one in a source that is too long to be read can be found.
 pub(crate) fn place_of<R, S, A, H>(
     engine: &Engine<'_, R, H>,
     source: S,
@@ -279,11 +316,5 @@ where
     requires fits { wanted < 2 ^ 63 }
     ensures { IfOk result (PlaceOrFewer (A.expand stage.now) (S.items source) wanted) }
 {
-    let front = source.first(SHORT);
-    let count = count_images(engine, front, stage)?;
-    if wanted <= count {
-        let place = place_within(engine, front, stage, wanted)?;
-        return Ok(Some(place));
-    }
-    place_by_parts(engine, source, stage, wanted)
+    place_by_parts(engine, source, SHORT, stage, wanted)
 }

@@ -1,8 +1,7 @@
 -- What stages make of a front is a front of what they make of the whole.
-use Rattle.std.proofs.Common.{◌≡◌, ◌≤◌, Bool, true, false, ℕ, zero, suc, ℤ, List, [], ◌∷◌, ◌++◌, length, take, drop, map, flat_map, ap, refl, sym, subst, ◌<◌, ◌+◌, arith, ◌∙◌}
+use Rattle.std.proofs.Common.{◌≡◌, ◌≤◌, Bool, true, false, ℕ, zero, suc, ℤ, List, [], ◌∷◌, ◌++◌, length, take, drop, map, flat_map, ap, refl, sym, subst, append_assoc, append-nil, ◌<◌, ◌+◌, arith, ◌∙◌}
 use Rattle.std.specs.Prelude.{cond, not, filter, take_while, count_by}
 use Rattle.std.specs.List.{list_any, prefix_len, slice_index_or}
-use Rattle.std.specs.Prelude.{Result}
 use Rattle.std.specs.Ordering.{int_eq}
 use Rattle.std.proofs.lemmas.Grind.{flat_map-append}
 use Rattle.std.proofs.lemmas.List.Elements.{filter-append}
@@ -14,16 +13,13 @@ use Rattle.barriers.specs.Whiles.{drop_while}
 use Rattle.stages.specs.Distinct.{distinct_after}
 use Rattle.parallel_streams.specs.Meeting.{KeepsEnough-any, all-by-any}
 use Rattle.parallel_streams.specs.Terminals.{any_meets, all_meet}
-use Rattle.pipeline_language.specs.Typed.{NumberStage, NumberTerminal}
+use Rattle.pipeline_language.specs.Typed.{NumberStage}
 use Rattle.pipeline_language.specs.declared.grammar.Barrier.TheVariants.{Distinct, Limit, Skip, TakeWhile, DropWhile}
 use Rattle.pipeline_language.specs.declared.grammar.Stage.TheVariants.{Map, Filter, FlatMap, Barrier}
 use Rattle.pipeline_meaning.specs.Functions.{number_image, number_holds}
 use Rattle.pipeline_meaning.specs.Stages.{number_stage, number_stages}
 use Rattle.pipeline_value.specs.Fronts.{IsFrontOf}
 use Rattle.pipeline_value.specs.Narrowing.{stages-append}
-use Rattle.pipeline_value.specs.Typed.{number_told}
-use Rattle.pipeline_value.specs.Value.{Tells}
-use Rattle.pipeline_value.specs.declared.told.ValueError.{ValueError}
 
 cons-front : {X : Type 0} (x : X) (front whole : List X) → IsFrontOf front whole → IsFrontOf (x ∷ front) (x ∷ whole)
 cons-front x front whole (rest, joins) = (rest, ap (λ l. x ∷ l) joins)
@@ -116,15 +112,22 @@ pub stages-decided : (stages : List NumberStage) (d s : NumberStage) (front whol
 stages-decided [] d s front whole within is same = absurd (omega arith)
 stages-decided (t ∷ stages) d s front whole within is same = ap (number_stages stages) (subst (λ u. number_stage u whole ≡ number_stage u front) is same)
 
--- what is told of a front that is enough is told of the whole
-pub told-by-front : (terminal : NumberTerminal) (stages before asking : List NumberStage) (size : ℕ) (whole items : List ℤ) (r : Result (List ℕ) ValueError)
-    → before ++ asking ≡ stages → items ≡ number_stages before (take size whole)
-    → ((l : List ℤ) → IsFrontOf items l → number_told terminal (number_stages asking l) ≡ number_told terminal (number_stages asking items))
-    → Tells (number_told terminal (number_stages asking items)) r → Tells (number_told terminal (number_stages stages whole)) r
-told-by-front terminal stages before asking size whole items r joins is enough told =
-    let front : IsFrontOf (number_stages before (take size whole)) (number_stages before whole) =
-    stages-front before (take size whole) whole (drop size whole, sym (take-append-drop size whole)) in
-    let begins : IsFrontOf items (number_stages before whole) = subst (λ l. IsFrontOf l (number_stages before whole)) (sym is) front in
-    let same : number_told terminal (number_stages stages whole) ≡ number_told terminal (number_stages asking items) =
-    ap (λ s. number_told terminal (number_stages s whole)) (sym joins) ∙ ap (number_told terminal) (stages-append before asking whole) ∙ enough (number_stages before whole) begins in
-    subst (λ t. Tells t r) (sym same) told
+-- a front of a front
+pub front-trans : {X : Type 0} (a b c : List X) → IsFrontOf a b → IsFrontOf b c → IsFrontOf a c
+front-trans a b c (r, h) (s, k) = (r ++ s, k ∙ ap (λ l. l ++ s) h ∙ append_assoc a r s)
+
+pub first-front : {X : Type 0} (n : ℕ) (kept whole : List X) → kept ≡ take n whole → IsFrontOf kept whole
+first-front n kept whole is = (drop n whole, sym (take-append-drop n whole) ∙ ap (λ l. l ++ drop n whole) (sym is))
+
+pub same-front : {X : Type 0} (kept whole : List X) → kept ≡ whole → IsFrontOf kept whole
+same-front kept whole is = ([], sym is ∙ sym (append-nil kept))
+
+-- .. behind stages
+pub front-behind : (stages : List NumberStage) (kept front whole : List ℤ) → IsFrontOf kept (number_stages stages front) → IsFrontOf front whole
+    → IsFrontOf kept (number_stages stages whole)
+front-behind stages kept front whole is begins = front-trans kept (number_stages stages front) (number_stages stages whole) is (stages-front stages front whole begins)
+
+-- stages, cut in two
+pub stages-joined : (stages before behind : List NumberStage) (whole : List ℤ) → before ++ behind ≡ stages
+    → number_stages behind (number_stages before whole) ≡ number_stages stages whole
+stages-joined stages before behind whole joins = sym (stages-append before behind whole) ∙ ap (λ s. number_stages s whole) joins

@@ -15,7 +15,8 @@ use Rattle.collectors.specs.Reductions.{reduced}
 
 -- ---- sums
 
-abbrev sum_of : List ℤ → ℤ
+-- the sum of numbers
+abbrev pub sum_of : List ℤ → ℤ
 sum_of [] = pos 0
 sum_of (x ∷ l) = x +ℤ sum_of l
 
@@ -29,10 +30,10 @@ wrapped-zero : pos 0 ≡ wrapped (pos 0)
 unfolding int_wrap
 wrapped-zero = refl
 
-sums : (l : List ℤ) → fold wrapped_sum (pos 0) l ≡ wrapped (sum_of l)
+pub sums : (l : List ℤ) → fold wrapped_sum (pos 0) l ≡ wrapped (sum_of l)
 sums l = ap (λ n. fold wrapped_sum n l) wrapped-zero ∙ sums-from (pos 0) l ∙ ap wrapped (+ℤ_idl (sum_of l))
 
-times-both : (k : ℕ) (a b : ℤ) → pos k *ℤ (a +ℤ b) ≡ pos k *ℤ a +ℤ pos k *ℤ b
+pub times-both : (k : ℕ) (a b : ℤ) → pos k *ℤ (a +ℤ b) ≡ pos k *ℤ a +ℤ pos k *ℤ b
 times-both zero a b = let z = zero-*ℤ (a +ℤ b) in let x = zero-*ℤ a in let y = zero-*ℤ b in omega (arith, ints, z, x, y)
 times-both (suc k) a b =
     let z : pos (suc k) *ℤ (a +ℤ b) ≡ pos k *ℤ (a +ℤ b) +ℤ (a +ℤ b) = suc_ℤ-*ℤ (pos k) (a +ℤ b) in

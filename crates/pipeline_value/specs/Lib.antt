@@ -13,5 +13,6 @@ pub mod Ranges
 pub mod Repeats
 pub mod Settling
 pub mod Spans
+pub mod Sums
 pub mod Typed
 pub mod Value

@@ -148,15 +148,15 @@ module _ (l : List ℤ) (a s last : ℤ) (first : FitsSigned w64 a) (fits : Fits
 
 -- ---- the step, read off the first two
 
-step-read : (a s d : ℤ) → FitsSigned w64 s → FitsSigned w64 d → d ≡ int_wrap w64 (a +ℤ s) +ℤ neg_ℤ a → s ≡ d
-step-read a s d step read is =
+step-read : (a s d : ℤ) → FitsSigned w64 s → d ≡ int_wrap w64 (int_wrap w64 (a +ℤ s) +ℤ neg_ℤ a) → s ≡ d
+step-read a s d step is =
     let back : (a +ℤ s) +ℤ neg_ℤ a ≡ s = omega (arith, ints) in
-    sym (int_wrap_fits w64 s step) ∙ ap (int_wrap w64) (sym back) ∙ sym (int_wrap-add_left w64 (a +ℤ s) (neg_ℤ a)) ∙ ap (int_wrap w64) (sym is) ∙ int_wrap_fits w64 d read
+    sym (int_wrap_fits w64 s step) ∙ ap (int_wrap w64) (sym back) ∙ sym (int_wrap-add_left w64 (a +ℤ s) (neg_ℤ a)) ∙ sym is
 
-pub steps-read : (a s : ℤ) (n : ℕ) (x y d : ℤ) (later rest : List ℤ) → FitsSigned w64 s → FitsSigned w64 d → progression a s n ≡ x ∷ later → later ≡ y ∷ rest → d ≡ y +ℤ neg_ℤ x
+pub steps-read : (a s : ℤ) (n : ℕ) (x y d : ℤ) (later rest : List ℤ) → FitsSigned w64 s → progression a s n ≡ x ∷ later → later ≡ y ∷ rest → d ≡ int_wrap w64 (y +ℤ neg_ℤ x)
     → progression a s n ≡ progression x d (suc (length later))
-steps-read a s zero x y d later rest step read is next gap = absurd (let e = ap length is in omega arith)
-steps-read a s (suc n) x y d later rest step read is next gap = both n tail
+steps-read a s zero x y d later rest step is next gap = absurd (let e = ap length is in omega arith)
+steps-read a s (suc n) x y d later rest step is next gap = both n tail
   where
     head : a ≡ x
     head = ap (λ l. get_or l 0 (pos 0)) is
@@ -168,6 +168,6 @@ steps-read a s (suc n) x y d later rest step read is next gap = both n tail
     both zero same = absurd (let e = ap length (same ∙ next) in omega arith)
     both (suc m) same =
         let second : int_wrap w64 (a +ℤ s) ≡ y = ap (λ l. get_or l 0 (pos 0)) (same ∙ next) in
-        let one = step-read a s d step read (gap ∙ ap₂ (λ u v. u +ℤ neg_ℤ v) (sym second) (sym head)) in
+        let one = step-read a s d step (gap ∙ ap₂ (λ u v. int_wrap w64 (u +ℤ neg_ℤ v)) (sym second) (sym head)) in
         let count : length later ≡ suc m = sym (ap length same) ∙ length-progression (int_wrap w64 (a +ℤ s)) s (suc m) in
         ap (λ z. progression z s (suc (suc m))) head ∙ ap (λ z. progression x z (suc (suc m))) one ∙ ap (λ k. progression x d (suc k)) (sym count)

@@ -1,35 +1,46 @@
-//! Short fronts of a range, read before the whole of it.
+//! Fronts of a long range, read before the whole of it.
 
-ghost use Rattle.std.specs.Prelude.{◌≡◌, ◌≤◌, ℤ, List, IfSome, length, count_by, not, true};
+ghost use Rattle.std.specs.Prelude.{◌≡◌, ◌≤◌, ◌<◌, ◌^◌, ℤ, List, IfOk, IfSome, All, length, count_by, not, take, true};
 ghost use Rattle.pipeline_meaning.specs.Functions.{number_holds};
 ghost use Rattle.pipeline_meaning.specs.Stages.{number_stage, number_stages};
 ghost use Rattle.pipeline_value.specs.Fronts.{IsFrontOf};
-ghost use Rattle.pipeline_value.specs.Ranges.{NumberBodyFits};
+ghost use Rattle.pipeline_value.specs.Ranges.{NumberBodyFits, NumberStageFits};
 ghost use Rattle.pipeline_value.specs.Typed.{number_body_told, number_told};
 ghost use Rattle.pipeline_value.specs.Value.{Tells};
 
 use crate::engine::Engine;
-use crate::numbers::{list_value, range_items};
+use crate::listed::through_barrier;
+use crate::numbers::list_value;
 use crate::told::ValueError;
-use barriers::{Demand, FirstHit, TakeWhile};
+use barriers::{Demand, FirstHit, Limit, TakeWhile};
+use fused_runs::gather;
 use pipeline_language::{Barrier, NumberBody, NumberStage, NumberTerminal, NumberTest};
-use pipeline_meaning::NumberCheck;
-use sources::{RangeSplit, Windowed};
-use spliterator::Spliterator;
+use pipeline_meaning::{NumberCheck, NumberSteps};
+use sources::{RangeSplit, SliceSplit, Windowed};
+use spliterator::{NoMemory, Spliterator};
 use std::thread::Threads;
 use stealing_pool::Gate;
 use value_text::Rope;
 
-/// The sizes of the fronts. One worker reads each, since threads take longer to start than they would save.
-pub(crate) const FRONTS: [u64; 2] = [1 << 12, 1 << 17];
+/// The sizes of the fronts, each eight times the one before it.
+pub(crate) const FRONTS: [u64; 6] = [1 << 12, 1 << 15, 1 << 18, 1 << 21, 1 << 24, 1 << 27];
 
-/// A front is read where the range is at least so many times longer, so that a front in vain costs little.
-const TIMES_LONGER: u64 = 64;
+/// A front is read where the range is at least so many times longer, so that fronts in vain cost little.
+const TIMES_LONGER: u64 = 32;
 
-/// The text of a body's value over a range, where a front of so many items decides it.
+/// One worker reads a front of at most so many numbers, since threads take longer to start than they would save.
+const ALONE: u64 = 1 << 17;
+
+/// Of what stages make of a front so many images are kept for each of its numbers, and at most `MOST`, a list of 16 MiB.
+const IMAGES: u64 = 64;
+
+const MOST: u64 = 1 << 21;
+
+/// The text of a body's value over a range, where a front of so many numbers decides it.
 ///
-/// A barrier looks at all that comes to it, also where what follows asks for few items. Whatever the stages make of a front is a front of
-/// what they make of the whole, so where that is enough for what follows, the rest needn't be read.
+/// Whatever the stages make of a front is a front of what they make of the whole, and so is any front of that. So the stages are taken one
+/// after another over lists of bounded length. Where such a list is enough for what follows, the rest of the range needn't be read. A
+/// front that is refused memory decides nothing.
 ///
 /// ```text
 /// range 0 10000000, filter greater 9, distinct, findfirst    // 10, by the first 4,096 numbers
@@ -43,44 +54,115 @@ pub(crate) fn front_value<R: Threads + Sync, H: Gate + Sync>(
     requires body { NumberBodyFits body.now }
     ensures { IfSome result (Tells (number_body_told body.now (⟦<RangeSplit as Spliterator>⟧.items range))) }
 {
-    let at = asking_at(body.stages.as_slice(), &body.terminal)?;
-    if range.estimate_size() / TIMES_LONGER < size {
+    let stages = body.stages.as_slice();
+    if range.count() / TIMES_LONGER < size || !asks_for_few(stages, &body.terminal, size) {
         return None;
     }
-    let (before, asking) = body.stages.split_at(at);
-    let engine = &engine.with_workers(1);
-    let Ok(items) = range_items(engine, range.first(size), before) else {
-        return Some(Err(ValueError::NoMemory));
+    let engine = &engine.with_workers(if size <= ALONE { 1 } else { engine.run.workers });
+    let most = size.saturating_mul(IMAGES).min(MOST);
+    let Ok((items, taken)) = first_images(engine, range.first(size), stages, most) else {
+        return None;
     };
-    if !is_enough(items.as_slice(), asking, &body.terminal) {
-        return None;
-    }
-    Some(list_value(engine, items, asking, &body.terminal))
+    let (_, rest) = stages.split_at(taken);
+    value_by_front(engine, items, rest, &body.terminal, most)
 }
 
-/// The place of what asks for few items behind a barrier: a limit, a `takewhile`, or a terminal that a first hit decides.
-fn asking_at(stages: &[NumberStage], terminal: &NumberTerminal) -> Option<usize>
-    ensures { IfSome result (λ at. at ≤ length stages.now) }
-{
-    let mut is_behind_barrier = false;
-    for (at, stage) in stages.iter().enumerate() {
+/// Whether something asks for few items behind a barrier or a repeat: a `takewhile`, a limit that a front of so many numbers may fill, or a
+/// terminal that a first hit decides. Where none stands before it, the source is cut without a front.
+fn asks_for_few(stages: &[NumberStage], terminal: &NumberTerminal, size: u64) -> bool {
+    let mut is_behind = false;
+    let mut images = size;
+    for stage in stages {
         match *stage {
-            NumberStage::Barrier(Barrier::Limit(_)) | NumberStage::Barrier(Barrier::TakeWhile(_))
-                if is_behind_barrier => {
-                return Some(at);
+            NumberStage::Map(_) | NumberStage::Filter(_) => {}
+            NumberStage::FlatMap(number) => {
+                images = images.saturating_mul(number);
+                is_behind = true;
             }
-            NumberStage::Map(_) | NumberStage::Filter(_) | NumberStage::FlatMap(_) => {}
-            _ => is_behind_barrier = true,
+            NumberStage::Barrier(Barrier::TakeWhile(_)) if is_behind => return true,
+            NumberStage::Barrier(Barrier::Limit(most)) if is_behind && most <= images =>
+                return true,
+            NumberStage::Barrier(_) => is_behind = true,
         }
     }
     match *terminal {
         NumberTerminal::FindFirst
         | NumberTerminal::AllMatch(_)
         | NumberTerminal::AnyMatch(_)
-        | NumberTerminal::NoneMatch(_)
-            if is_behind_barrier => Some(stages.len()),
-        _ => None,
+        | NumberTerminal::NoneMatch(_) => is_behind,
+        _ => false,
     }
+}
+
+/// The first `most` numbers of what the stages up to the first barrier make of a source, and how many stages these are.
+fn first_images<R, S, H>(
+    engine: &Engine<'_, R, H>,
+    source: S,
+    stages: &[NumberStage],
+    most: u64,
+) -> Result<(Vec<i64>, usize), NoMemory>
+where
+    R: Threads + Sync,
+    S: Spliterator<Item = i64> + Drop + Send + Sync,
+    H: Gate + Sync,
+    requires { most < 2 ^ 63 }
+    ensures within { IfOk result (λ r. r.1 ≤ length stages.now) }
+    ensures front { IfOk result (λ r. IsFrontOf r.0.items (number_stages (take r.1 stages.now) (S.items source))) }
+{
+    let (steps, taken) = NumberSteps::front_of(engine.alloc, stages)?;
+    let items = gather(&engine.lent(), source, &steps, &Limit::new(most))?;
+    Ok((items, taken))
+}
+
+/// The first `most` numbers of what the stages up to the first barrier make of items, or all that this barrier leaves where it stands first. And
+/// how many stages these are.
+fn next_images<R: Threads + Sync, H: Gate + Sync>(
+    engine: &Engine<'_, R, H>,
+    items: &[i64],
+    stages: &[NumberStage],
+    most: u64,
+) -> Result<(Vec<i64>, usize), NoMemory>
+    requires some { 0 < length stages.now }
+    requires fits { All NumberStageFits stages.now }
+    requires most { most < 2 ^ 63 }
+    ensures some { IfOk result (λ r. 1 ≤ r.1) }
+    ensures within { IfOk result (λ r. r.1 ≤ length stages.now) }
+    ensures front { IfOk result (λ r. IsFrontOf r.0.items (number_stages (take r.1 stages.now) items.now)) }
+{
+    let source = SliceSplit::new(items);
+    let (steps, taken) = NumberSteps::front_of(engine.alloc, stages)?;
+    if taken > 0 {
+        let kept = gather(&engine.lent(), source, &steps, &Limit::new(most))?;
+        return Ok((kept, taken));
+    }
+    let kept = through_barrier(engine, source, &steps, &stages[0])?;
+    Ok((kept, 1))
+}
+
+/// The text of the value of stages and a terminal over a list of which there is a front, where the front decides it.
+fn value_by_front<R: Threads + Sync, H: Gate + Sync>(
+    engine: &Engine<'_, R, H>,
+    items: Vec<i64>,
+    stages: &[NumberStage],
+    terminal: &NumberTerminal,
+    most: u64,
+) -> Option<Result<Rope, ValueError>>
+    requires fits { All NumberStageFits stages.now }
+    requires most { most < 2 ^ 63 }
+    ensures { (whole : List ℤ) → IsFrontOf items.items whole → IfSome result (Tells (number_told terminal.now (number_stages stages.now whole))) }
+{
+    if is_enough(items.as_slice(), stages, terminal) {
+        return Some(list_value(engine, items, stages, terminal));
+    }
+    if stages.is_empty() {
+        return None;
+    }
+    let Ok((kept, taken)) = next_images(engine, items.as_slice(), stages, most) else {
+        return None;
+    };
+    drop(items);
+    let (_, rest) = stages.split_at(taken);
+    value_by_front(engine, kept, rest, terminal, most)
 }
 
 /// Whether stages and a terminal tell the same of some items and of each longer list that begins with them.

@@ -1,15 +1,17 @@
 //! Folds of numbers by one step that are known before anything runs.
 
-ghost use Rattle.std.specs.Prelude.{◌≡◌, ℤ, List, Some, IfSome, fold, pos};
+ghost use Rattle.std.specs.Prelude.{◌≡◌, ◌≤◌, ◌^◌, ◌-ℤ◌, ℤ, List, Some, IfSome, fold, pos, suc};
 ghost use Rattle.std.specs.Ordering.{int_cmp};
 ghost use Rattle.stages.specs.Choices.{larger, smaller};
-ghost use Rattle.stages.specs.Wrapping.{wrapped_sum};
+ghost use Rattle.stages.specs.Wrapping.{wrapped, wrapped_sum};
 ghost use Rattle.collectors.specs.Reductions.{reduced};
 ghost use Rattle.pipeline_value.specs.Spans.{IsSpan};
+ghost use Rattle.pipeline_value.specs.Sums.{pairs_of};
 ghost use Rattle.pipeline_value.specs.Typed.{number_body_told};
 ghost use Rattle.pipeline_value.specs.Value.{Tells};
 
 use crate::engine::Engine;
+use crate::powers::wrapping_product;
 use crate::told::{ValueError, told};
 use pipeline_language::{NumberBody, NumberTerminal, NumberTotal};
 use sources::{Progression, Windowed};
@@ -23,15 +25,41 @@ fn wrapping_sum(a: i64, b: i64) -> i64
     a.wrapping_add(b)
 }
 
-/// The sum of numbers by one step, which wraps. The compiler makes a formula of it.
-fn sum_of(mut numbers: Progression) -> i64
+/// A difference that wraps.
+fn wrapping_difference(a: i64, b: i64) -> i64
+    ensures { result ≡ wrapped (a -ℤ b) }
+{
+    a.wrapping_sub(b)
+}
+
+/// How many pairs one number more than so many have, wrapped.
+fn pairs_with(later: u64) -> i64
+    requires { later ≤ 2 ^ 62 }
+    ensures { result ≡ wrapped (pos (pairs_of (suc later))) }
+{
+    let half = later / 2;
+    if later % 2 == 0 {
+        wrapping_product(half.cast_signed(), (later + 1).cast_signed())
+    } else {
+        wrapping_product((half + 1).cast_signed(), later.cast_signed())
+    }
+}
+
+/// The sum of numbers by one step, which wraps: the first as often as there are numbers, and the step as often as there are pairs of them.
+fn sum_of(numbers: Progression) -> i64
     ensures { result ≡ fold wrapped_sum (pos 0) (⟦<Progression as Spliterator>⟧.items numbers) }
 {
-    let mut sum: i64 = 0;
-    while let Some(number) = numbers.try_advance().unwrap() {
-        sum = wrapping_sum(sum, number);
-    }
-    sum
+    let mut rest = numbers;
+    let Some(first) = rest.try_advance().unwrap() else {
+        return 0;
+    };
+    let later = rest.count();
+    let Some(second) = rest.try_advance().unwrap() else {
+        return first;
+    };
+    let step = wrapping_difference(second, first);
+    let firsts = wrapping_product(first, (later + 1).cast_signed());
+    wrapping_sum(firsts, wrapping_product(step, pairs_with(later)))
 }
 
 /// Numbers by one step none of which is wrapped: the first, the step, and the last.

@@ -1,6 +1,6 @@
-//! Ranges, narrowed before anything runs: by limits and skips, and by filters that compare.
+//! Ranges, narrowed before anything runs: by limits and skips, by filters that compare, and by repeats of no copies.
 
-ghost use Rattle.std.specs.Prelude.{◌≡◌, All, IfSome, false, true};
+ghost use Rattle.std.specs.Prelude.{◌≡◌, ℤ, All, IfSome, List, [], false, true};
 ghost use Rattle.pipeline_meaning.specs.Stages.{is_map_stage, number_stage, number_stages};
 ghost use Rattle.pipeline_value.specs.Narrowing.{is_window};
 ghost use Rattle.pipeline_value.specs.Ranges.{NumberStageFits};
@@ -37,6 +37,32 @@ pub(crate) fn narrowed(mut range: RangeSplit, stages: &mut Vec<NumberStage>) -> 
         }
     }
     range
+}
+
+/// A range, or none of its numbers where a repeat of no copies empties whatever comes to it.
+///
+/// ```text
+/// range 0 100, filter divisible 3, flatmap repeat 0, count    // range 0 0, filter divisible 3, flatmap repeat 0, count
+/// ```
+pub(crate) fn emptied(range: RangeSplit, stages: &[NumberStage]) -> RangeSplit
+    ensures { number_stages stages.now (⟦<RangeSplit as Spliterator>⟧.items result) ≡ number_stages stages.now (⟦<RangeSplit as Spliterator>⟧.items range) }
+{
+    for at in 0..stages.len() {
+        if makes_none(&stages[at]) {
+            return range.first(0);
+        }
+    }
+    range
+}
+
+/// Whether the stage makes nothing of whatever comes to it: a repeat of no copies.
+fn makes_none(stage: &NumberStage) -> bool
+    ensures { result ≡ true → (l : List ℤ) → number_stage stage.now l ≡ [] }
+{
+    match *stage {
+        NumberStage::FlatMap(number) => number == 0,
+        _ => false,
+    }
 }
 
 /// Whether the stage is a map.

@@ -12,8 +12,6 @@ use crate::number_end::number_end;
 use crate::repeats::repeated;
 use crate::settled::settle;
 use crate::told::ValueError;
-use barriers::Skip;
-use fused_runs::gather;
 use parts::AtMostOne;
 use pipeline_language::{NumberBody, NumberStage, NumberTerminal};
 use pipeline_meaning::NumberSteps;
@@ -76,40 +74,4 @@ pub(crate) fn list_value<R: Threads + Sync, H: Gate + Sync>(
     let kept = through_barrier(engine, settled.source, &steps, barrier)?;
     drop(items);
     list_value(engine, kept, &stages[taken + 1..], terminal)
-}
-
-/// What stages leave of a range.
-pub(crate) fn range_items<R: Threads + Sync, H: Gate + Sync>(
-    engine: &Engine<'_, R, H>,
-    range: RangeSplit,
-    stages: &[NumberStage],
-) -> Result<Vec<i64>, NoMemory>
-    requires fits { All NumberStageFits stages.now }
-    ensures { IfOk result (λ kept. kept.items ≡ number_stages stages.now (⟦<RangeSplit as Spliterator>⟧.items range)) }
-{
-    let (steps, taken) = NumberSteps::front_of(engine.alloc, stages)?;
-    if taken == stages.len() {
-        return gather(&engine.lent(), range, &steps, &Skip::new(0));
-    }
-    let kept = through_barrier(engine, range, &steps, &stages[taken])?;
-    list_items(engine, kept, &stages[taken + 1..])
-}
-
-/// What stages leave of a list.
-fn list_items<R: Threads + Sync, H: Gate + Sync>(
-    engine: &Engine<'_, R, H>,
-    items: Vec<i64>,
-    stages: &[NumberStage],
-) -> Result<Vec<i64>, NoMemory>
-    requires fits { All NumberStageFits stages.now }
-    ensures { IfOk result (λ kept. kept.items ≡ number_stages stages.now items.items) }
-{
-    let (steps, taken) = NumberSteps::front_of(engine.alloc, stages)?;
-    let source = SliceSplit::new(items.as_slice());
-    if taken == stages.len() {
-        return gather(&engine.lent(), source, &steps, &Skip::new(0));
-    }
-    let kept = through_barrier(engine, source, &steps, &stages[taken])?;
-    drop(items);
-    list_items(engine, kept, &stages[taken + 1..])
 }

@@ -11,7 +11,7 @@ use crate::engine::Engine;
 use crate::fronts::{FRONTS, front_value};
 use crate::known_folds::known_fold;
 use crate::known_size::known_count;
-use crate::narrowed::narrowed;
+use crate::narrowed::{emptied, narrowed};
 use crate::numbers::{list_value, number_value};
 use crate::repeats::{drop_repeats, repeats_first, with_copies};
 use crate::stepped::stepped;
@@ -104,8 +104,8 @@ fn listed_value<R: Threads + Sync, H: Gate + Sync>(
 }
 
 /// The text of the value of a body, over a range. A `distinct` that its numbers come to without repeats is dropped, and so are repeats
-/// before a `distinct`; limits and skips that look at no item narrow the range, and a short front of it may be enough. Sums, products and
-/// negatives that come first are taken by the numbers themselves, whose sum, least and greatest are known, and the copies of repeats before what
+/// before a `distinct`; a repeat of no copies empties the range, limits and skips that look at no item narrow it, and a front of it may be
+/// enough. Sums, products and negatives that come first are taken by the numbers themselves, whose sum, least and greatest are known, and the copies of repeats before what
 /// cuts are made by their source.
 fn narrowed_value<R: Threads + Sync, H: Gate + Sync>(
     engine: &Engine<'_, R, H>,
@@ -115,6 +115,7 @@ fn narrowed_value<R: Threads + Sync, H: Gate + Sync>(
     requires body { NumberBodyFits body }
     ensures { Tells (number_body_told body (⟦<RangeSplit as Spliterator>⟧.items range)) result }
 {
+    let range = emptied(range, body.stages.as_slice());
     drop_repeats(&mut body.stages);
     drop_distincts(&mut body.stages, true);
     let range = narrowed(range, &mut body.stages);

@@ -89,7 +89,7 @@ static RANGES: [Row<'_>; 20] = [
 ];
 
 /// A range that nobody could read to its end: what is decided by its first numbers is answered without the others.
-static ENDLESS: [Row<'_>; 14] = [
+static ENDLESS: [Row<'_>; 19] = [
     (
         b"range 0 4611686018427387904\nfilter greater 3\nfindfirst\n",
         "Optional[4]\n",
@@ -122,6 +122,27 @@ static ENDLESS: [Row<'_>; 14] = [
     (
         b"range 0 4611686018427387904\nnonematch equals 9\n",
         "false\n",
+    ),
+    (
+        b"range 0 4611686018427387904\nfilter divisible 100\nskip 700\nlimit 2\ntolist\n",
+        "[70000, 70100]\n",
+    ),
+    (
+        b"range 0 4611686018427387904\nmap mod 1000\ndropwhile less 998\nskip 1\nlimit 2\ntolist\n",
+        "[999, 0]\n",
+    ),
+    (
+        b"range 0 4611686018427387904\nmap mod 10\nfilter equals 0\ndistinct\nmap mod 9\nlimit 3\nfindfirst\n",
+        "Optional[0]\n",
+    ),
+    (
+        b"range 0 4611686018427387904\nflatmap repeat 1000\nflatmap repeat 1000\nskip 1\nlimit 2\ntolist\n",
+        "[0, 0]\n",
+    ),
+    // a repeat of no copies reads nothing
+    (
+        b"range 0 4611686018427387904\nfilter equals -1\nflatmap repeat 0\nsum\n",
+        "0\n",
     ),
     // comparisons of a range read nothing
     (b"range 0 4611686018427387904\nfilter less 3\nsum\n", "3\n"),

@@ -32,11 +32,15 @@ static BY_FRONT: [Row<'_>; 6] = [
     ),
 ];
 
-/// The first front doesn't decide these; the second decides one of them.
-static BEHIND_FRONT: [Row<'_>; 3] = [
+/// The first front doesn't decide these; a longer one decides two of them.
+static BEHIND_FRONT: [Row<'_>; 4] = [
     (
         b"range 0 9000000\ndropwhile less 5000\nfindfirst\n",
         "Optional[5000]\n",
+    ),
+    (
+        b"range 0 2000000\nfilter divisible 3\nskip 10000\nlimit 2\ntolist\n",
+        "[30000, 30003]\n",
     ),
     (
         b"range 0 300000\nmap mod 7\ndistinct\nanymatch greater 6\n",

@@ -10,8 +10,8 @@ pub loop-leaf-init : goal.loop-leaf-init
 loop-leaf-init g c = (refl, refl, omega (arith, c.requires.some))
 
 -- a leaf without a count would lie behind enough
-pub returns-in_default-clause-none : goal.returns-in_default-clause-none
-returns-in_default-clause-none g c =
+pub returns-in_default-clause-fewer : goal.returns-in_default-clause-fewer
+returns-in_default-clause-fewer g c =
     let leaves = leaves_of c.args.plan.now in
     let entry = c.args.entry.now in
     let within : c.loop-leaf.leaf < length leaves = omega (arith, c.loop-leaf-test.true, c.leaves-leaf-end.ensures.count) in
@@ -50,8 +50,8 @@ loop-leaf-preserved g c =
     (c.requires.counts.each c.loop-leaf.leaf within) (sym c.in-Some.ensures) c.loop-leaf.invariant.1 c.loop-leaf.invariant.2 (λ enough. omega (arith, enough, c.if-wanted-images.false)) in
     (omega (arith, next, c.count-items.ensures), passes.0, passes.1)
 
-pub returns-clause-none : goal.returns-clause-none
-returns-clause-none g c =
+pub returns-clause-fewer : goal.returns-clause-fewer
+returns-clause-fewer g c =
     let leaves = leaves_of c.args.plan.now in
     let all = ap (λ l. length (flat_map (g.A.Stage.expand c.args._stage.now) (flat_map g.S.Spliterator.items l))) (take_all c.loop-leaf.leaf leaves (omega (arith, c.loop-leaf-test.false, c.leaves-leaf-end.ensures.count))) in
-    omega (arith, all, c.loop-leaf.invariant.1, c.loop-leaf.invariant.2)
+    (sym c.loop-leaf.invariant.1 ∙ all, c.loop-leaf.invariant.2)

@@ -1,6 +1,7 @@
-use Rattle.std.proofs.Common.{rules, arith, ◌≡◌, ◌∷◌, ◌∙◌, ◌+ℤ◌, ◌*ℤ◌, ◌<◌, ◌^◌, neg_ℤ, ap, length, pos, to_z, of_z, FitsSigned, w64}
+use Rattle.std.proofs.Common.{rules, arith, ◌≡◌, ◌∷◌, ◌∙◌, ◌+ℤ◌, ◌*ℤ◌, ◌<◌, ◌^◌, neg_ℤ, ap, sym, length, pos, to_z, of_z, FitsSigned, w64}
 use Rattle.std.proofs.Math.IntN.{*ℤ_comm}
-use Rattle.std.proofs.lemmas.Int.{to_z_pos}
+use Rattle.std.specs.Int.{int_wrap}
+use Rattle.std.proofs.lemmas.Int.{int_wrap_fits, to_z_pos}
 use Rattle.sources.specs.Progressions.{progression}
 use Rattle.sources.specs.ProgressionLaws.{length-progression}
 use Rattle.pipeline_value.specs.Spans.{IsSpan, steps-read}
@@ -28,5 +29,5 @@ returns c =
     let count : to_z w64 c.count-later.result ≡ pos (length later) = ap (to_z w64) c.count-later.ensures ∙ to_z_pos w64 (length later) few in
     let reach : c.in_ok-reach.reach ≡ d *ℤ pos (length later) = search (rules, count) in
     let last : c.in_ok-last.last ≡ x +ℤ c.in_ok-reach.reach = search rules in
-    let span : IsSpan (progression p.next p.step p.left) x d c.in_ok-last.last = (length later, steps-read p.next p.step p.left x y d later _ step gap one two read, last ∙ ap (λ z. x +ℤ z) (reach ∙ *ℤ_comm d (pos (length later)))) in
+    let span : IsSpan (progression p.next p.step p.left) x d c.in_ok-last.last = (length later, steps-read p.next p.step p.left x y d later _ step one two (sym (int_wrap_fits w64 d gap) ∙ ap (int_wrap w64) read), last ∙ ap (λ z. x +ℤ z) (reach ∙ *ℤ_comm d (pos (length later)))) in
     rw (as_x, as_d, as_last) span
