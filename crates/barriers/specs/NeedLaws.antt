@@ -120,14 +120,14 @@ none-taken : {T : Type 0} (counted : T → Bool) (l r : List T) (n : ℕ) → co
 none-taken counted l r n none of_right within =
     ⊎_elim
     (λ past.
-        let m = n - length l in
-        let parts = sum_by-append (λ x. cond (counted x) 1 0) l (take m r) in
-        let rest = of_right m (omega (arith, past, within)) in
-        let place : n ≡ length l + m = omega (arith, past) in
-        ap (λ k. count_by counted (take k (l ++ r))) place ∙ ap (count_by counted) (take-append-add l r m) ∙ omega (arith, parts, none, rest))
+    let m = n - length l in
+    let parts = sum_by-append (λ x. cond (counted x) 1 0) l (take m r) in
+    let rest = of_right m (omega (arith, past, within)) in
+    let place : n ≡ length l + m = omega (arith, past) in
+    ap (λ k. count_by counted (take k (l ++ r))) place ∙ ap (count_by counted) (take-append-add l r m) ∙ omega (arith, parts, none, rest))
     (λ inside.
-        let less = sum_by-take-le (λ x. cond (counted x) 1 0) l n in
-        ap (count_by counted) (take-append-le n l r inside) ∙ omega (arith, less, none))
+    let less = sum_by-take-le (λ x. cond (counted x) 1 0) l n in
+    ap (count_by counted) (take-append-le n l r inside) ∙ omega (arith, less, none))
     (cases_lt (length l) n)
 
 -- behind items that are not enough, a list in which the last counts alone is such a list

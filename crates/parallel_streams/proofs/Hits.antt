@@ -1,6 +1,6 @@
 -- Whether some item counts, where one is enough: whether the run was cut.
-use Rattle.std.specs.Prelude.{◌≡◌, ◌<◌, ◌≤◌, ◌+◌, ◌-◌, ℕ, zero, suc, Bool, List, [], ◌++◌, Option, Some, None, true, false, take_while, count_by, cond, take, drop, length, nat_lt, refl}
-use Rattle.std.proofs.Common.{sym, ap, ap₂, ◌∙◌, subst, arith, ⊎_elim}
+use Rattle.std.specs.Prelude.{◌≡◌, ◌<◌, ◌≤◌, ◌+◌, ◌-◌, ℕ, zero, suc, Bool, List, Option, Some, None, true, count_by, cond, take, drop, length, nat_lt, refl}
+use Rattle.std.proofs.Common.{sym, ap, ◌∙◌, subst, arith, ⊎_elim}
 use Rattle.std.proofs.lemmas.List.{take_all}
 use Rattle.std.proofs.lemmas.List.Sums.{sum_by-append, count_by-le-length}
 use Rattle.std.proofs.lemmas.Bool.Decides.{nat_tests}
@@ -28,10 +28,10 @@ none-counts : (full i : ℕ) (count cut : Option ℕ) → cut ≡ None → ((n :
 none-counts full i count cut uncut found told =
     ⊎_elim
     (λ counted.
-        let n = counted.0 in
-        let some : 1 ≤ n → ⊥ = λ one. let at = found n counted.1 one in no-cut cut at.0 uncut at.1 in
-        let lawful = counted.2 in
-        ⊎_elim (λ all. few n full some all) (λ enough. absurd (some enough)) lawful.1)
+    let n = counted.0 in
+    let some : 1 ≤ n → ⊥ = λ one. let at = found n counted.1 one in no-cut cut at.0 uncut at.1 in
+    let lawful = counted.2 in
+    ⊎_elim (λ all. few n full some all) (λ enough. absurd (some enough)) lawful.1)
     (λ skipped. absurd (no-cut cut skipped.1.0 uncut skipped.1.1))
     told
   where
@@ -73,7 +73,7 @@ module _ {T : Type 0} (counted : T → Bool) (lists : List (List T)) (recorded :
 -- what a run kept of a list tells by its cut whether some item counts
 pub front-told : {T : Type 0} (needed : Option ℕ) (counted : T → Bool) (lists : List (List T)) (recorded : ℕ) (count : ℕ → Option ℕ) (cut : Option ℕ) (front : List T)
     → Reports needed (length lists) (full_count counted lists) recorded count cut → IsOutcome needed counted (joined lists) front → CountsLast needed counted front → IsToldBy needed counted front cut
-front-told None counted lists recorded count cut front reports outcome last = record { none = λ uncut one. absurd cc; some = λ c is one. absurd cc; last = last; }
+front-told None counted lists recorded count cut front reports outcome last = record { none = λ uncut one. absurd cc; some = λ c is one. absurd cc; last = last }
 front-told (Some r) counted lists recorded count cut front reports (rest, joins, outcome) last =
     record {
       none = λ uncut one. few (same one) (uncut-none counted lists recorded count cut (at-one one) uncut);

@@ -1,10 +1,9 @@
 -- Whether some item meets a test.
-use Rattle.std.specs.Prelude.{◌≡◌, ◌≤◌, ◌+◌, ℕ, suc, Bool, true, false, cond, not, nat_lt, List, [], ◌∷◌, ◌++◌, Some, count_by, fold, length, refl}
-use Rattle.std.proofs.Common.{sym, ap, ap₂, ◌∙◌, arith}
+use Rattle.std.specs.Prelude.{◌≡◌, ◌≤◌, ◌+◌, ℕ, Bool, true, false, cond, not, nat_lt, List, [], ◌∷◌, ◌++◌, Some, count_by, refl}
+use Rattle.std.proofs.Common.{sym, ap, ◌∙◌, arith}
 use Rattle.std.proofs.lemmas.Bool.Decides.{nat_tests}
 use Rattle.std.proofs.lemmas.List.Sums.{sum_by-cons}
 use Rattle.barriers.specs.Needs.{KeepsEnough}
-use Rattle.collectors.specs.Laws.{CollectorLaws}
 use Rattle.parallel_streams.specs.Terminals.{any_meets, all_meet}
 
 module _ {C : Type 0} (p : C → Bool) where

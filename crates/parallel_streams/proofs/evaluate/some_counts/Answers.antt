@@ -1,5 +1,5 @@
-use Rattle.std.proofs.Common.{◌∙◌, ap, subst, Option, ℕ, List}
-use Rattle.leaf_board.specs.Closing.{Outcome, count_of, cut_of}
+use Rattle.std.proofs.Common.{◌∙◌, ap, subst, Option, ℕ}
+use Rattle.leaf_board.specs.Closing.{count_of, cut_of}
 use Rattle.std.specs.Option.{is_some}
 use Rattle.stealing_pool.specs.Reports.{Reports}
 use Rattle.stealing_pool.specs.Spans.{full_count}
