@@ -1,6 +1,6 @@
 //! A caller's own source.
 ghost use Rattle.std.proofs.Common.{sym, true≢false};
-ghost use Rattle.std.specs.Prelude.{◌≡◌, ◌<◌, ◌^◌, replicate, length};
+ghost use Rattle.std.specs.Prelude.{◌≡◌, ◌<◌, ◌^◌, pos, replicate, length};
 ghost use Rattle.spliterator.specs.Spliterator.{IsSplit};
 
 use super::answers::{check, check_items, counted, limited, reduced, same};
@@ -15,21 +15,20 @@ use std::sync::atomic::{AtomicU64, Ordering};
 use std::thread::Threads;
 use stealing_pool::NoGate;
 
-/// One number again and again: a source that never splits, and tells nothing but its order. It lends a block, and counts how often it did.
+/// The number 7 again and again: a source that never splits, and tells nothing but its order. It lends a block, and counts how often it did.
 #[derive(Clone, Copy)]
 struct Again<'a> {
-    number: i64,
     left: u64,
     block: &'a [i64],
     lent: &'a AtomicU64,
     ghost few: { left < 2 ^ 63 },
-    ghost alike: { block.now ≡ replicate (length block.now) number },
+    ghost alike: { block.now ≡ replicate (length block.now) (pos 7) },
 }
 
 impl Spliterator for Again<'_> {
     type Item = i64;
 
-    ghost items = { λ s. replicate s.left s.number };
+    ghost items = { λ s. replicate s.left (pos 7) };
 
     ghost weight = { λ s. s.left };
 
@@ -39,26 +38,25 @@ impl Spliterator for Again<'_> {
 
     ghost MayRefuse = { λ _. ⊥ };
 
-    ghost split_gives = { IsSplit (λ s. replicate s.left s.number) (λ s. s.left) (λ s. s.left) (λ _. 0x10) };
+    ghost split_gives = { IsSplit (λ s. replicate s.left (pos 7)) (λ s. s.left) (λ s. s.left) (λ _. 0x10) };
 
     fn try_advance(&mut self) -> Result<Option<i64>, NoMemory> {
         if self.left == 0 {
             return Ok(None);
         }
         self.left -= 1;
-        Ok(Some(self.number))
+        Ok(Some(7))
     }
 
     fn lent_block(&self, most: usize) -> Option<(&[i64], Self)> {
         self.lent.fetch_add(1, Ordering::SeqCst);
-        let number = (most as u64).min(self.left);
-        if number == 0 || number > self.block.len() as u64 {
+        let number = most.min(self.block.len());
+        if number == 0 || number as u64 > self.left {
             return None;
         }
-        let (block, _) = self.block.split_at(number as usize);
+        let (block, _) = self.block.split_at(number);
         let rest = Again {
-            number: self.number,
-            left: self.left - number,
+            left: self.left - number as u64,
             block: self.block,
             lent: self.lent,
         };
@@ -89,7 +87,6 @@ fn sevens(left: u64, lent: &AtomicU64) -> Source<Again<'_>>
     requires { left < 2 ^ 63 }
 {
     of(Again {
-        number: 7,
         left,
         block: &[7; 1024],
         lent,
