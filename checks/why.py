@@ -3,8 +3,8 @@
 
     checks/why.py
 
-A small crate of two reduces that are wrong and one that is right is laid out beside the repository's crates, which have to be built
-(`rt ci`), and checked. The built program, Java 17 (`java`), plain Rust (`rustc`) and rayon (Debian's `librust-rayon-dev`, and `cargo`) run
+A small crate of two reduces that are wrong is laid out beside the repository's crates and checked, where `rt check` has checked
+`mohairjade` in this checkout: `rt ci` by itself leaves nothing that a check begins with, and it would prove all the crates below. The built program, Java 17 (`java`), plain Rust (`rustc`) and rayon (Debian's `librust-rayon-dev`, and `cargo`) run
 the other files of that folder. What isn't installed is told, and what needs it is skipped.
 """
 
@@ -168,7 +168,7 @@ def findings():
     """All that is shown, and what isn't."""
     parts = {
         program: [],
-        reduces: ["rt", ROOT / "crates" / STANDS_ON / "out" / "rlib"],
+        reduces: ["rt", ROOT / "crates" / STANDS_ON / "out" / "incremental"],
         java: ["java"],
         rust: ["rustc"],
         rayon_answers: ["cargo", RAYON / "rayon-1*"],
