@@ -117,6 +117,6 @@ fn a_source_of_the_callers_own(rt: HostRuntime) -> Result<(), StreamError> {
 #[test]
 fn a_lent_leaf_that_has_enough_ends(rt: HostRuntime) -> Result<(), StreamError> {
     let lent = AtomicU64::new(0);
-    let first = limited(&rt, &at((1, 0)), sevens(1_099_511_627_776, &lent), 1);
+    let first = limited(&rt, &at((1, 0)), sevens(1 << 40, &lent), 1);
     check_items(&rt, first, &[7]).and(check(&rt, Ok(lent.load(Ordering::SeqCst)), 1))
 }
