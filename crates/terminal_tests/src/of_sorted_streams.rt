@@ -1,12 +1,12 @@
-//! Streams sorted with 1 and with 7 workers, at target 1 and at the default, and lists that are long enough for several threads.
+//! Streams sorted with 1 and with 7 workers, at target 1 and at the default. Longer ones are rows of each_terminal.
 
 use crate::settings::SETTINGS;
 use parallel_streams::{Run, Stream, StreamError, of};
-use parts::{Itself, Modulo, OnFirst, Times};
+use parts::{Itself, OnFirst};
 use sorted_streams::{
     Descending, FirstSorted, sorted, sorted_by_key, to_sorted_list, to_sorted_list_by_key,
 };
-use sources::{RangeSplit, SliceSplit};
+use sources::SliceSplit;
 use std::alloc::Global;
 use std::process::Abort;
 use std::thread::Threads;
@@ -103,20 +103,6 @@ fn collected_rows_at_each_setting(rt: HostRuntime) -> Result<(), StreamError> {
     Ok(())
 }
 
-/// The first numbers below 10,000 by their last three digits, in their order where these are the same.
-static FIRST: [i64; 12] = [
-    0, 1_000, 2_000, 3_000, 4_000, 5_000, 6_000, 7_000, 8_000, 9_000, 1, 1_001,
-];
-
-#[test]
-fn the_first_of_many_are_kept(rt: HostRuntime) -> Result<(), StreamError> {
-    let numbers = of(RangeSplit::range(0, 10_000).expect(&rt, "a range"));
-    let first = FirstSorted::<i64, _>::new(rt.alloc(), Modulo::by(1_000), FIRST.len());
-    let found = numbers.collect(&rt, rt.alloc(), &Run::new(4), &first)?;
-    assert!(&rt; found.as_slice() == FIRST.as_slice());
-    Ok(())
-}
-
 #[test]
 fn rows_at_each_setting(rt: HostRuntime) -> Result<(), StreamError> {
     for &(workers, target) in &SETTINGS {
@@ -129,35 +115,5 @@ fn rows_at_each_setting(rt: HostRuntime) -> Result<(), StreamError> {
             },
         )?;
     }
-    Ok(())
-}
-
-// The multiples of 5,000, each less the multiples of the prime 10,007 in it, are the numbers below it in another order.
-#[test]
-fn a_long_list_ascends(rt: HostRuntime) -> Result<(), StreamError> {
-    let numbers = of(RangeSplit::range(0, 10_007).expect(&rt, "a range"));
-    let shuffled = numbers.map(Times(5_000)).map(Modulo::by(10_007));
-    let found = sorted(&rt, rt.alloc(), &Run::new(4), &shuffled)?;
-    let mut left = found.iter();
-    for wanted in 0..10_007i64 {
-        assert!(&rt; left.next().copied() == Some(wanted));
-    }
-    assert!(&rt; left.next().is_none());
-    Ok(())
-}
-
-// Numbers with one last digit stay in their order.
-#[test]
-fn a_long_list_is_sorted_stably(rt: HostRuntime) -> Result<(), StreamError> {
-    let numbers = of(RangeSplit::range(0, 10_000).expect(&rt, "a range"));
-    let found = sorted_by_key(&rt, rt.alloc(), &Run::new(4), &numbers, &Modulo::by(10))?;
-    let mut left = found.iter();
-    for digit in 0..10i64 {
-        for tens in 0..1_000i64 {
-            let wanted = tens.wrapping_mul(10).wrapping_add(digit);
-            assert!(&rt; left.next().copied() == Some(wanted));
-        }
-    }
-    assert!(&rt; left.next().is_none());
     Ok(())
 }

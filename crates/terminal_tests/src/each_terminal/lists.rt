@@ -3,7 +3,7 @@
 use super::numbers;
 use super::workers::Workers;
 use parallel_streams::{MapError, Run, Stream, StreamError, of};
-use parts::{Itself, Negated};
+use parts::{Divisor, Itself, Modulo, Times};
 use sorted_streams::{FirstSorted, sorted, sorted_by_key, to_sorted_list};
 use sources::SliceSplit;
 use std::alloc::Global;
@@ -27,6 +27,34 @@ pub enum List {
 /// Whether these are the numbers from 0 on, so many of them.
 fn are_all(list: &[i64], items: u32) -> bool {
     list.iter().copied().eq(0..i64::from(items))
+}
+
+/// A prime number. Its multiples up to one of them for each number are, below another number, these numbers in another order.
+const PRIME: i64 = 7_919;
+
+/// The remainder by a number of items.
+fn below(items: u32) -> Modulo {
+    Modulo {
+        divisor: Divisor::new(i64::from(items)),
+    }
+}
+
+/// Whether these are the first of the numbers below an end by their last digits, in their order where these are the same.
+fn are_by_digits(list: &[i64], end: i64) -> bool {
+    let mut left = list.iter();
+    for digit in 0..10i64 {
+        for tens in 0..=end / 10 {
+            let wanted = tens.wrapping_mul(10).wrapping_add(digit);
+            if wanted < end {
+                match left.next() {
+                    Some(&found) if found == wanted => (),
+                    Some(_) => return false,
+                    None => return true,
+                }
+            }
+        }
+    }
+    left.next().is_none()
 }
 
 /// How many entries the map of the numbers to themselves has.
@@ -57,7 +85,7 @@ fn joined_length<R: Threads + Abort + Alloc<A = Global> + Sync>(
     Ok(joined.len())
 }
 
-/// Whether the answer over so many numbers, at least one, is right. What is sorted came in the contrary order.
+/// Whether the answer over so many numbers, at least one and no multiple of the prime number, is right. What is sorted whole came in another order.
 pub fn is_right<R: Threads + Abort + Alloc<A = Global> + Sync>(
     rt: &R,
     run: &Run<'_, Workers>,
@@ -77,23 +105,23 @@ pub fn is_right<R: Threads + Abort + Alloc<A = Global> + Sync>(
             == (items as usize).wrapping_mul(2).wrapping_sub(1),
         List::StrictMap => entries(rt, run, items)? == items as usize,
         List::Sorted => {
-            let found = sorted(rt, alloc, run, &all.map(Negated))?;
-            found.as_slice().first() == Some(&1i64.wrapping_sub(i64::from(items)))
+            let shuffled = all.map(Times(PRIME)).map(below(items));
+            are_all(sorted(rt, alloc, run, &shuffled)?.as_slice(), items)
         }
         List::SortedByKey => {
-            let found = sorted_by_key(rt, alloc, run, &all, &Negated)?;
-            found.as_slice().last() == Some(&0)
+            let found = sorted_by_key(rt, alloc, run, &all, &Modulo::by(10))?;
+            found.len() == items as usize && are_by_digits(found.as_slice(), i64::from(items))
         }
         List::FirstSorted => {
-            let first = FirstSorted::<i64, _>::new(alloc, Itself, 100);
+            let first = FirstSorted::<i64, _>::new(alloc, Modulo::by(10), 100);
             let found = all.collect(rt, alloc, run, &first)?;
-            are_all(found.as_slice(), items.min(100))
+            found.len() == items.min(100) as usize
+                && are_by_digits(found.as_slice(), i64::from(items))
         }
         List::SortedList => {
-            let found = all
-                .map(Negated)
-                .collect(rt, alloc, run, &to_sorted_list::<i64>(alloc))?;
-            found.as_slice().last() == Some(&0)
+            let shuffled = all.map(Times(PRIME)).map(below(items));
+            let found = shuffled.collect(rt, alloc, run, &to_sorted_list::<i64>(alloc))?;
+            are_all(found.as_slice(), items)
         }
     })
 }
