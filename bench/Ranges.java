@@ -10,11 +10,18 @@ class Ranges {
         if (work.equals("sum")) {
             return sum.applyAsLong(stream);
         }
-        long limit = numbers / 10 * 4;
-        return stream.filter(x -> limit < x).findFirst().getAsLong();
+        long limit = numbers / 10 * 4, half = numbers / 2;
+        return switch (work) {
+            case "limit" -> stream.map(x -> x * 3).limit(half).sum();
+            case "skip" -> stream.map(x -> x * 3).skip(half).sum();
+            case "takewhile" -> stream.map(x -> x * 3).takeWhile(x -> x < half * 3).sum();
+            case "dropwhile" -> stream.map(x -> x * 3).dropWhile(x -> x < half * 3).sum();
+            case "distinct" -> stream.map(x -> x % 1000).distinct().sum();
+            default -> stream.filter(x -> limit < x).findFirst().getAsLong();
+        };
     }
 
-    /** Runs each line `CASE WORKERS NUMBERS` of standard input, where CASE is `sum` or `first`, and prints its nanoseconds and its answer. */
+    /** Runs each line `CASE WORKERS NUMBERS` of standard input, where CASE is `sum`, `first` or a barrier, and prints its nanoseconds and its answer. */
     static void runCases(ToLongFunction<LongStream> sum) {
         Scanner lines = new Scanner(System.in);
         while (lines.hasNext()) {

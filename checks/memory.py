@@ -23,14 +23,31 @@ OF_PROGRAM, OF_TEST = (1_063_400, 10_000, 42), (1_000, 1_500, 8)
 # what a thread keeps for the one that comes next, and how many threads more sort at least where there are several processors
 OF_THREAD, SORTING = 600, int(os.cpu_count() > 1)
 
-Shape = collections.namedtuple("Shape", "items workers sizes")
-# requests and bytes for a leaf, and bytes for the items, of which at least nine tenths live; runs, those in which threads combine, threads that sort
-Row = collections.namedtuple("Row", "name wanted requests leaf items runs joins sorting", defaults=[0, None, 1, 0, 0])
+# the sizes of all leaves, and of each segment its items and workers
+Shape = collections.namedtuple("Shape", "items workers sizes segments")
+# requests and bytes for a leaf, and bytes for the items, of which at least nine tenths live; runs of a segment, those in which threads combine, threads that
+# sort, and whether the source has more than one segment
+Row = collections.namedtuple("Row", "name wanted requests leaf items runs joins sorting segmented", defaults=[0, None, 1, 0, 0, False])
 
 
 def split(items, target):
     """The sizes of a range's leaves."""
     return [items] if items <= target else split(items // 2, target) + split(items - items // 2, target)
+
+
+def shape(items, workers, segmented):
+    """A range, as one segment or as the library cuts it: each may have twice as many items as the one before it, and those of at most 2^14 take one
+    worker."""
+    segments, parts, most = [], [items], 1 << 12 if segmented else items
+    while parts:
+        part = parts.pop()
+        while part > most:
+            parts.append(part - part // 2)
+            part //= 2
+        segments.append((part, 1 if segmented and most <= 1 << 14 else workers))
+        most = min(2 * most, 1 << 20)
+    sizes = [leaf for part, own in segments for leaf in split(part, max(part // (4 * own), 1))]
+    return Shape(items, workers, sizes, segments)
 
 
 def room(number):
@@ -57,6 +74,12 @@ def an_item(one, several=None):
 def pieces(at):
     """A list of numbers of eight bytes, and those of the leaves behind the first, which are moved to it."""
     return 8 * (2 * at.items - at.sizes[0])
+
+
+def of_segment(at):
+    """The same of the longest segment."""
+    longest, own = max(at.segments)
+    return 8 * (2 * longest - longest // (4 * own))
 
 
 def counted(values):
@@ -108,12 +131,14 @@ TERMINALS = [
     Row("joining", None, 23, 0, lambda at: 16 * at.items + sum(2 * room(2 * it) for it in at.sizes), joins=1),
     Row("to_set", None, 72, 0, entries(39), joins=1),
     Row("to_map_strict", None, 72, 0, entries(44), joins=1),
-    # several workers sort with as much room beside; pairs have a key of eight bytes
-    Row("sorted", None, 50, 0, an_item(8, 16), joins=1, sorting=SORTING),
-    Row("to_sorted_list", None, 50, 0, an_item(8, 16), joins=1),
-    Row("sorted_by_key", None, 8, 0, an_item(24, 32), joins=1, sorting=SORTING),
-    *[Row(name, None, 16, 0, pieces, 2, 1) for name in "limit skip take_while drop_while".split()],
-    Row("distinct", None, 16, 0, lambda at: entries(24)(at) + 8 * at.items, 2, 1),
+    # a sort has as much room beside; pairs have a key of eight bytes
+    Row("sorted", None, 50, 0, an_item(16), joins=1, sorting=SORTING),
+    Row("to_sorted_list", None, 50, 0, an_item(16), joins=1),
+    Row("sorted_by_key", None, 8, 0, an_item(32), joins=1, sorting=SORTING),
+    *[Row(name, None, 16, 0, of_segment, 2, 1, segmented=True) for name in "limit skip drop_while".split()],
+    # (of many items a while's lists have a quarter more room)
+    Row("take_while", None, 16, 0, lambda at: of_segment(at) * (5 if at.items > 1_000_000 else 4) // 4, 2, 1, segmented=True),
+    Row("distinct", None, 16, 0, lambda at: entries(24)(at) + of_segment(at), 2, 1, segmented=True),
 ]
 
 
@@ -122,7 +147,7 @@ def judged(found, at, row, base):
     top of the plan's tree."""
     of_run, of_worker, requests = base
     items, nodes = row.items(at) if row.items else 0, (1 << (at.workers.bit_length() - 1)) - 1
-    started = row.runs * at.workers + row.joins * 2 * nodes + row.sorting if at.workers > 1 else 0
+    started = sum(row.runs * own + row.joins * 2 * nodes + row.sorting for _, own in at.segments if own > 1)
     most = int(of_run + of_worker * at.workers + 1.1 * (row.leaf * len(at.sizes) + items))
     most_requests = int(1.1 * (requests + row.requests * len(at.sizes)))
     is_small = 0.9 * items <= found.peak <= most and found.requests <= most_requests and abs(found.live) <= OF_THREAD * found.threads
@@ -134,8 +159,8 @@ def judged(found, at, row, base):
 def findings(rows, base, run):
     """Each row at each shape."""
     for row in rows:
-        for items, workers in [*SHAPES, *([] if row.items else [MANY])]:
-            at = Shape(items, workers, split(items, max(items // (4 * workers), 1)))
+        for items, workers in [*SHAPES, *([] if row.items and not row.segmented else [MANY])]:
+            at = shape(items, workers, row.segmented)
             found, is_answered = run(row, at)
             yield f"{workers} workers, {items} items, {row.name!r}", (is_answered, judged(found, at, row, base)), (True, True)
 

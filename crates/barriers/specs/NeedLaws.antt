@@ -5,7 +5,7 @@ use Rattle.std.proofs.lemmas.List.{take-append-le, length-append}
 use Rattle.std.proofs.lemmas.Bool.{cases_lt}
 use Rattle.std.proofs.Math.Seq.{take-append-add}
 use Rattle.std.proofs.lemmas.List.Sums.{take_while-cons, sum_by-append, sum_by-take-le}
-use Rattle.barriers.specs.Needs.{KeepsEnough, IsOutcome, StaysEnough, TakesBefore, CountsLast, Reaches, every_item}
+use Rattle.barriers.specs.Needs.{KeepsEnough, IsOutcome, StaysEnough, CountsLast, Reaches, every_item}
 
 sum_from : {T : Type 0} (n : ℕ) (l : List T) → fold (λ a x. a + cond (every_item {T = T} x) 1 0) n l ≡ n + length l
 sum_from n [] = omega arith
@@ -63,11 +63,8 @@ pub whole-front : {T : Type 0} (counted : T → Bool) (whole front : List T) →
 whole-front counted whole front (rest, joins, outcome) =
     ⊎_elim (λ none. joins ∙ ap (λ r. front ++ r) none ∙ append-nil front) (λ enough. absurd enough) outcome
 
--- what is false of a barrier needn't be shown
-pub absurd-false : {A : Type 0} → false ≡ true → A
-absurd-false is = absurd cc
-
-take_while-not : {T : Type 0} (p : T → Bool) (l : List T) → take_while p l ≡ take_while (λ x. not (not (p x))) l
+-- the longest front that meets a test is what stands before the first item that fails it
+pub take_while-not : {T : Type 0} (p : T → Bool) (l : List T) → take_while p l ≡ take_while (λ x. not (not (p x))) l
 take_while-not p [] = refl
 take_while-not p (x ∷ l) = take_while-cons p x l ∙ head (p x) (take_while-not p l) ∙ sym (take_while-cons (λ y. not (not (p y))) x l)
   where
@@ -75,11 +72,7 @@ take_while-not p (x ∷ l) = take_while-cons p x l ∙ head (p x) (take_while-no
     head true same = ap (λ m. x ∷ m) same
     head false same = refl
 
--- the longest front that meets a test is what stands before the first item that fails it
-pub TakesBefore-take_while : {T : Type 0} (p : T → Bool) → TakesBefore (Some 1) (λ x. not (p x)) (take_while p)
-TakesBefore-take_while p = (refl, take_while-not p)
-
-count-cons : {T : Type 0} (p : T → Bool) (x : T) (l : List T) → count_by p (x ∷ l) ≡ cond (p x) 1 0 + count_by p l
+pub count-cons : {T : Type 0} (p : T → Bool) (x : T) (l : List T) → count_by p (x ∷ l) ≡ cond (p x) 1 0 + count_by p l
 count-cons p x l = count-from p (0 + cond (p x) 1 0) l ∙ omega arith
 
 -- where no item counts, all stand before the first that does

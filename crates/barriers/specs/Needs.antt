@@ -1,5 +1,5 @@
 -- How much of a list is enough.
-use Rattle.std.specs.Prelude.{◌≡◌, ◌<◌, ◌≤◌, ◌⊎◌, ℕ, Bool, true, false, not, List, [], ◌++◌, Option, Some, None, count_by, take, take_while, length}
+use Rattle.std.specs.Prelude.{◌≡◌, ◌<◌, ◌≤◌, ◌⊎◌, ℕ, Bool, true, false, List, [], ◌++◌, Option, Some, None, count_by, take, length}
 use Rattle.barriers.specs.declared.demand.Need.{Need}
 use Rattle.barriers.specs.declared.demand.Need.TheVariants.{Never, Reach}
 
@@ -44,10 +44,12 @@ KeepsEnough {T} needed counted value = (front more : List T) → IsEnough needed
 abbrev pub StaysEnough : {T : Type 0} → Option ℕ → (T → Bool) → Type 0
 StaysEnough {T} needed counted = (before part behind : List T) → IsEnough needed counted part → IsEnough needed counted (before ++ part ++ behind)
 
--- the value is the front before the first item that counts, and one such item is enough
-abbrev pub TakesBefore : {T : Type 0} → Option ℕ → (T → Bool) → (List T → List T) → Type 0
-TakesBefore {T} needed counted value = (needed ≡ Some 1) × ((l : List T) → value l ≡ take_while (λ x. not (counted x)) l)
-
 -- where one counting item is enough, none but the last counts
 abbrev pub CountsLast : {T : Type 0} → Option ℕ → (T → Bool) → List T → Type 0
 CountsLast needed counted xs = needed ≡ Some 1 → (n : ℕ) → n < length xs → count_by counted (take n xs) ≡ 0
+
+-- What a run's cut tells of the list that it kept, where one counting item is enough: with no cut none counts; with a cut one does, and it is the last.
+pub record IsToldBy {T : Type 0} (needed : Option ℕ) (counted : T → Bool) (xs : List T) (is_cut : Bool) : Type 0 where
+  pub none : is_cut ≡ false → needed ≡ Some 1 → count_by counted xs ≡ 0
+  pub some : is_cut ≡ true → needed ≡ Some 1 → 1 ≤ count_by counted xs
+  pub last : CountsLast needed counted xs

@@ -1,16 +1,22 @@
 //! Operations that look at a whole list.
-ghost use Rattle.std.specs.Prelude.{◌≡◌, ℕ, true, List, Option, IfOk, map};
+ghost use Rattle.std.specs.Prelude.{◌≡◌, ◌++◌, ◌^◌, ℕ, true, ⊤, List, [], Option, IfOk, map};
 ghost use Rattle.stages.specs.declared.flags.Operation.{Operation};
 ghost use Rattle.stages.specs.Flags.{KeepsSound};
-ghost use Rattle.barriers.specs.Needs.{KeepsEnough, TakesBefore};
+ghost use Rattle.barriers.specs.Needs.{need_of, CountsNone, IsBelow, IsToldBy, KeepsEnough};
 
-use crate::Demand;
+use crate::{Demand, Need};
 use spliterator::{NoMemory, OrderedValue};
 use stages::Operation;
+use std::alloc::Global;
 
 /// An operation that looks at a whole list (`java.util.stream`, package summary, Stateful operations). It is its own demand: what it asks of the
 /// list before it.
+///
+/// The list may come in consecutive parts: `carry` takes one after another, with a state that tells what is known of those before.
 pub trait Barrier<T: OrderedValue>: Demand<T> {
+    /// What is known of the items that came so far.
+    type State: Drop;
+
     ghost value: { Self → List T.Content → List T.Content };
 
     // the row of the flags' table
@@ -18,6 +24,15 @@ pub trait Barrier<T: OrderedValue>: Demand<T> {
 
     // the number of items after the barrier, where it follows from the number before
     ghost size_after: { Self → Option ℕ → Option ℕ };
+
+    // what the barrier makes of the items behind those that led to the state
+    ghost value_behind: { Self → Self.State → List T.Content → List T.Content };
+
+    // how many counting items are needed of them
+    ghost needed_behind: { Self → Self.State → Option ℕ };
+
+    // the condition of `carry`, where it clones items
+    ghost can_carry: { Self → Type 0 } = { λ _. ⊤ };
 
     /// The barrier's value of a list. Refused: the list is gone.
     fn apply(&self, items: Vec<T>) -> Result<Vec<T>, NoMemory>
@@ -32,11 +47,47 @@ pub trait Barrier<T: OrderedValue>: Demand<T> {
     fn size_after(&self, size: Option<u64>) -> Option<u64>
         ensures { result ≡ size_after self.now size };
 
+    /// The state before any item.
+    fn fresh(&self, alloc: Global) -> Self::State
+        ensures value { (items : List T.Content) → value_behind self.now result items ≡ value self.now items }
+        ensures needed { needed_behind self.now result ≡ Self.needed self.now };
+
+    /// How many counting items are needed of those still to come: less than 2^63. With `Need::Never` no item counts.
+    fn need_behind(&self, state: &Self::State) -> Need
+        requires { Self.ready self.now }
+        ensures is { need_of result ≡ needed_behind self.now state.now }
+        ensures fits { IsBelow (needed_behind self.now state.now) (2 ^ 63) }
+        ensures never { CountsNone (needed_behind self.now state.now) (Self.counted self.now) };
+
+    /// What the barrier leaves of the next items. The state is then behind them. `is_cut` says whether the run that kept the items was cut,
+    /// since they were enough. Refused: the state is only to be dropped.
+    fn carry(
+        &self,
+        state: &mut Self::State,
+        items: Vec<T>,
+        is_cut: bool,
+    ) -> Result<Vec<T>, NoMemory>
+        requires ready { Self.ready self.now }
+        requires can { can_carry self.now }
+        requires told { IsToldBy (needed_behind self.now state.old) (Self.counted self.now)
+            (map T.content items.items) is_cut }
+        ensures { (more : List T.Content) → IfOk result (λ kept.
+            value_behind self.now state.old (map T.content items.items ++ more)
+            ≡ map T.content kept.items ++ value_behind self.now state.new more) };
+
+    /// Whether nothing that is still to come matters. No is no promise.
+    fn is_over(&self, state: &Self::State) -> bool
+        ensures { result ≡ true → (more : List T.Content) → value_behind self.now state.now more ≡ [] };
+
     // where a front of the list is enough, what follows it makes no difference
     ghost enough_law: { (b : Self) → KeepsEnough (Self.needed b) (Self.counted b) (value b) };
 
-    // where it takes the items before the first that counts, its value is these
-    ghost before_law: { (b : Self) → Self.takes_before b ≡ true → TakesBefore (Self.needed b) (Self.counted b) (value b) };
+    // where a front of what is still to come is enough, what follows it makes no difference
+    ghost enough_behind: { (b : Self) (state : Self.State)
+        → KeepsEnough (needed_behind b state) (Self.counted b) (value_behind b state) };
+
+    // of nothing, nothing is left
+    ghost of_nothing: { (b : Self) (state : Self.State) → value_behind b state [] ≡ [] };
 
     // sound flags and a known size stay so
     ghost flag_law: { (b : Self) → KeepsSound T.order T.order (operation b) (size_after b) (value b) };

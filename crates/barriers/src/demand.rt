@@ -1,5 +1,5 @@
 //! How much of a list is enough.
-ghost use Rattle.std.specs.Prelude.{true, false, ◌≡◌, ◌<◌, ◌≤◌, ◌-◌, ◌^◌, ℕ, length, take, map, count_by, Bool, Option, Some, None, ⊤};
+ghost use Rattle.std.specs.Prelude.{◌≡◌, ◌<◌, ◌≤◌, ◌-◌, ◌^◌, ℕ, length, take, map, count_by, Bool, Option, Some, None, ⊤};
 ghost use Rattle.barriers.specs.Needs.{need_of, every_item, no_item, IsBelow, CountsNone, StaysEnough};
 ghost use Rattle.barriers.specs.NeedLaws.{StaysEnough-always};
 
@@ -35,16 +35,6 @@ pub trait Demand<T: Value> {
     fn counts(&self, x: &T) -> bool
         requires { ready self.now }
         ensures { result ≡ counted self.now (T.content x.now) };
-
-    // whether the front before the first item that counts is what is wanted
-    ghost takes_before: { Self → Bool } = { λ _. false };
-
-    /// Whether it is known that the front before the first item that counts is what is wanted, as by `TakeWhile`.
-    fn takes_before(&self) -> bool
-        ensures { result ≡ true → takes_before self.now ≡ true }
-    {
-        false
-    }
 
     /// How many items of a block are taken until `wanted` of them count, and how many of these count: all items, where fewer count. No item
     /// is taken behind the last that is wanted, and none is asked for twice.

@@ -1,17 +1,19 @@
-ghost use Rattle.std.specs.Prelude.{◌≡◌, None, IfOk, map};
+ghost use Rattle.std.specs.Prelude.{◌≡◌, ◌++◌, List, None, IfOk, map, refl};
 ghost use Rattle.stages.specs.declared.flags.Operation.TheVariants.{Distinct as distinct_row};
-ghost use Rattle.stages.specs.Distinct.{distinct};
+ghost use Rattle.spliterator.specs.Clones.{ClonesAlike};
+ghost use Rattle.stages.specs.Distinct.{distinct, distinct_after};
 ghost use Rattle.barriers.specs.Needs.{no_item};
-ghost use Rattle.barriers.specs.NeedLaws.{KeepsEnough-never, absurd-false};
+ghost use Rattle.barriers.specs.NeedLaws.{KeepsEnough-never};
 ghost use Rattle.barriers.specs.BarrierFlags.{KeepsSound-distinct};
 
 use crate::{Barrier, Demand, Need};
 use indexmap::IndexSet;
 use spliterator::{NoMemory, OrderedValue, Value};
 use stages::Operation;
+use std::alloc::Global;
 use std::hash::Hash;
 
-/// Of equal items the first, in the order of the items (`java.util.stream.Stream`, `distinct`). The items are moved; none is cloned.
+/// Of equal items the first, in the order of the items (`java.util.stream.Stream`, `distinct`). `apply` moves the items; none is cloned.
 #[derive(Clone, Copy, Debug)]
 pub struct Distinct;
 
@@ -29,16 +31,27 @@ impl<T: Value> Demand<T> for Distinct {
     }
 }
 
-impl<T: OrderedValue + Hash + Drop> Barrier<T> for Distinct {
+impl<T: OrderedValue + Hash + Clone + Drop> Barrier<T> for Distinct {
+    /// Of the items that came the first ones, as clones.
+    type State = IndexSet<T>;
+
     ghost value = { λ _. distinct T.same };
 
     ghost operation = { λ _. distinct_row };
 
     ghost size_after = { λ _ _. None };
 
+    ghost value_behind = { λ _ came. distinct_after T.same (map T.content came.keys) };
+
+    ghost needed_behind = { λ _ _. None };
+
+    ghost can_carry = { λ _. ClonesAlike T.is_clone T.content };
+
     ghost enough_law = { λ _. KeepsEnough-never no_item (distinct T.same) };
 
-    ghost before_law = { λ _ is. absurd-false is };
+    ghost enough_behind = { λ _ came. KeepsEnough-never no_item (distinct_after T.same (map T.content came.keys)) };
+
+    ghost of_nothing = { λ _ _. refl };
 
     ghost flag_law = { λ _. KeepsSound-distinct T.same T.same_decides T.order };
 
@@ -58,5 +71,35 @@ impl<T: OrderedValue + Hash + Drop> Barrier<T> for Distinct {
         ensures { result ≡ None }
     {
         None
+    }
+
+    fn fresh(&self, alloc: Global) -> IndexSet<T> {
+        IndexSet::new(alloc)
+    }
+
+    fn need_behind(&self, _state: &IndexSet<T>) -> Need {
+        Need::Never
+    }
+
+    // The items go into the set, and what is new there is cloned: an item that repeats is not.
+    fn carry(
+        &self,
+        state: &mut IndexSet<T>,
+        items: Vec<T>,
+        _is_cut: bool,
+    ) -> Result<Vec<T>, NoMemory>
+        requires { ClonesAlike T.is_clone T.content }
+        ensures { (more : List T.Content) → IfOk result (λ kept.
+            distinct_after T.same (map T.content state.old.keys) (map T.content items.items ++ more)
+            ≡ map T.content kept.items ++ distinct_after T.same (map T.content state.new.keys) more) }
+    {
+        let alloc = *items.allocator();
+        let known = state.len();
+        state.extend(items)?;
+        Ok(Vec::from_clones(alloc, &state.as_slice()[known..])?)
+    }
+
+    fn is_over(&self, _state: &IndexSet<T>) -> bool {
+        false
     }
 }

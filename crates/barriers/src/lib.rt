@@ -2,6 +2,7 @@
 #![tactic(auto)]
 
 mod barrier;
+mod behind;
 mod demand;
 mod distinct;
 mod limit;
@@ -9,6 +10,7 @@ mod skip;
 mod whiles;
 
 pub use barrier::Barrier;
+pub use behind::Behind;
 pub use demand::{Demand, FirstHit, Need, Total, Whole};
 pub use distinct::Distinct;
 pub use limit::Limit;

@@ -1,12 +1,14 @@
-ghost use Rattle.std.specs.Prelude.{◌≡◌, ◌<◌, ◌^◌, Some, take, IsOk, IfOk, map, min, option_map};
+ghost use Rattle.std.specs.Prelude.{◌≡◌, ◌<◌, ◌++◌, ◌^◌, List, Some, take, IsOk, IfOk, map, min, option_map};
 ghost use Rattle.stages.specs.declared.flags.Operation.TheVariants.{Limit as limit_row};
 ghost use Rattle.barriers.specs.Needs.{every_item};
-ghost use Rattle.barriers.specs.NeedLaws.{KeepsEnough-take, absurd-false};
+ghost use Rattle.barriers.specs.NeedLaws.{KeepsEnough-take};
+ghost use Rattle.barriers.specs.Parts.{take-nothing};
 ghost use Rattle.barriers.specs.BarrierFlags.{KeepsSound-take};
 
 use crate::{Barrier, Demand, Need};
 use spliterator::{NoMemory, OrderedValue, Value};
 use stages::Operation;
+use std::alloc::Global;
 
 /// At most the first items (`java.util.stream.Stream`, `limit`). So many items are enough.
 #[derive(Clone, Copy, Debug)]
@@ -40,15 +42,24 @@ impl<T: Value> Demand<T> for Limit {
 }
 
 impl<T: OrderedValue + Drop> Barrier<T> for Limit {
+    /// The limit of what is still to come.
+    type State = Limit;
+
     ghost value = { λ b items. take b.most items };
 
     ghost operation = { λ _. limit_row };
 
     ghost size_after = { λ b. option_map (min b.most) };
 
+    ghost value_behind = { λ _ left items. take left.most items };
+
+    ghost needed_behind = { λ _ left. Some left.most };
+
     ghost enough_law = { λ b. KeepsEnough-take b.most };
 
-    ghost before_law = { λ _ is. absurd-false is };
+    ghost enough_behind = { λ _ left. KeepsEnough-take left.most };
+
+    ghost of_nothing = { λ _ left. take-nothing left.most };
 
     ghost flag_law = { λ b. KeepsSound-take T.order b.most };
 
@@ -71,5 +82,28 @@ impl<T: OrderedValue + Drop> Barrier<T> for Limit {
             Some(size) => Some(self.most.min(size)),
             None => None,
         }
+    }
+
+    fn fresh(&self, _alloc: Global) -> Limit {
+        *self
+    }
+
+    fn need_behind(&self, state: &Limit) -> Need {
+        Need::Reach(state.most)
+    }
+
+    fn carry(&self, state: &mut Limit, items: Vec<T>, _is_cut: bool) -> Result<Vec<T>, NoMemory>
+        ensures goes_on { (more : List T.Content) → IfOk result (λ kept.
+            take state.old.most (map T.content items.items ++ more)
+            ≡ map T.content kept.items ++ take state.new.most more) }
+        ensures answered { IsOk result }
+    {
+        let kept = state.apply(items)?;
+        *state = Limit::new(state.most.saturating_sub(kept.len() as u64));
+        Ok(kept)
+    }
+
+    fn is_over(&self, state: &Limit) -> bool {
+        state.most == 0
     }
 }

@@ -1,16 +1,18 @@
 //! The longest front whose items all meet a test, and what follows it.
-ghost use Rattle.std.specs.Prelude.{true, ◌≡◌, ◌≤◌, length, Some, None, not, IsOk, IfOk, map, take_while};
+ghost use Rattle.std.specs.Prelude.{◌≡◌, ◌++◌, ◌≤◌, List, length, Some, None, not, IsOk, IfOk, map, take_while};
 ghost use Rattle.std.specs.List.{prefix_len};
 ghost use Rattle.stages.specs.declared.flags.Operation.TheVariants.{TakeWhile as take_while_row, DropWhile as drop_while_row};
-ghost use Rattle.barriers.specs.Whiles.{drop_while};
-ghost use Rattle.barriers.specs.Needs.{no_item};
-ghost use Rattle.barriers.specs.NeedLaws.{KeepsEnough-never, KeepsEnough-take_while, TakesBefore-take_while, absurd-false};
+ghost use Rattle.barriers.specs.Whiles.{drop_while, taken_while, left_while};
+ghost use Rattle.barriers.specs.Parts.{KeepsEnough-taken_while, taken-nothing, left-nothing};
+ghost use Rattle.barriers.specs.Needs.{no_item, IsToldBy};
+ghost use Rattle.barriers.specs.NeedLaws.{KeepsEnough-never, KeepsEnough-take_while};
 ghost use Rattle.barriers.specs.BarrierFlags.{KeepsSound-take_while, KeepsSound-drop_while};
 
 use crate::skip::drop_front;
 use crate::{Barrier, Demand, Need};
 use spliterator::{NoMemory, OrderedValue, Value};
 use stages::{Operation, Test};
+use std::alloc::Global;
 
 // The number of items in front that all meet the test, asked item by item.
 fn length_of_front<T: Value, P: Test<T>>(items: &[T], test: &P) -> usize
@@ -47,14 +49,8 @@ impl<T: Value, P: Test<T>> Demand<T> for TakeWhile<P> {
 
     ghost counted = { λ b x. not (P.holds b.test x) };
 
-    ghost takes_before = { λ _. true };
-
     fn need(&self) -> Need {
         Need::Reach(1)
-    }
-
-    fn takes_before(&self) -> bool {
-        true
     }
 
     fn counts(&self, x: &T) -> bool {
@@ -63,15 +59,24 @@ impl<T: Value, P: Test<T>> Demand<T> for TakeWhile<P> {
 }
 
 impl<T: OrderedValue + Drop, P: Test<T>> Barrier<T> for TakeWhile<P> {
+    /// Whether all so far met the test.
+    type State = bool;
+
     ghost value = { λ b. take_while (P.holds b.test) };
 
     ghost operation = { λ _. take_while_row };
 
     ghost size_after = { λ _ _. None };
 
+    ghost value_behind = { λ b is_open. taken_while is_open (P.holds b.test) };
+
+    ghost needed_behind = { λ _ _. Some 1 };
+
     ghost enough_law = { λ b. KeepsEnough-take_while (P.holds b.test) };
 
-    ghost before_law = { λ b _. TakesBefore-take_while (P.holds b.test) };
+    ghost enough_behind = { λ b is_open. KeepsEnough-taken_while is_open (P.holds b.test) };
+
+    ghost of_nothing = { λ b is_open. taken-nothing is_open (P.holds b.test) };
 
     ghost flag_law = { λ b. KeepsSound-take_while T.order (P.holds b.test) };
 
@@ -92,6 +97,36 @@ impl<T: OrderedValue + Drop, P: Test<T>> Barrier<T> for TakeWhile<P> {
         ensures { result ≡ None }
     {
         None
+    }
+
+    fn fresh(&self, _alloc: Global) -> bool {
+        true
+    }
+
+    fn need_behind(&self, _state: &bool) -> Need {
+        Need::Reach(1)
+    }
+
+    // Asks no test: the cut tells which item failed.
+    fn carry(&self, state: &mut bool, mut items: Vec<T>, is_cut: bool) -> Result<Vec<T>, NoMemory>
+        requires told { IsToldBy (Some 1) (λ x. not (P.holds self.now.test x))
+            (map T.content items.items) is_cut }
+        ensures goes_on { (more : List T.Content) → IfOk result (λ kept.
+            taken_while state.old (P.holds self.now.test) (map T.content items.items ++ more)
+            ≡ map T.content kept.items ++ taken_while state.new (P.holds self.now.test) more) }
+        ensures answered { IsOk result }
+    {
+        if !*state {
+            items.clear();
+        } else if is_cut {
+            items.pop();
+            *state = false;
+        }
+        Ok(items)
+    }
+
+    fn is_over(&self, state: &bool) -> bool {
+        !*state
     }
 }
 
@@ -126,15 +161,24 @@ impl<T: Value, P: Test<T>> Demand<T> for DropWhile<P> {
 }
 
 impl<T: OrderedValue + Drop, P: Test<T>> Barrier<T> for DropWhile<P> {
+    /// Whether items are still dropped.
+    type State = bool;
+
     ghost value = { λ b. drop_while (P.holds b.test) };
 
     ghost operation = { λ _. drop_while_row };
 
     ghost size_after = { λ _ _. None };
 
+    ghost value_behind = { λ b is_dropping. left_while is_dropping (P.holds b.test) };
+
+    ghost needed_behind = { λ _ _. None };
+
     ghost enough_law = { λ b. KeepsEnough-never no_item (drop_while (P.holds b.test)) };
 
-    ghost before_law = { λ _ is. absurd-false is };
+    ghost enough_behind = { λ b is_dropping. KeepsEnough-never no_item (left_while is_dropping (P.holds b.test)) };
+
+    ghost of_nothing = { λ b is_dropping. left-nothing is_dropping (P.holds b.test) };
 
     ghost flag_law = { λ b. KeepsSound-drop_while T.order (P.holds b.test) };
 
@@ -156,5 +200,32 @@ impl<T: OrderedValue + Drop, P: Test<T>> Barrier<T> for DropWhile<P> {
         ensures { result ≡ None }
     {
         None
+    }
+
+    fn fresh(&self, _alloc: Global) -> bool {
+        true
+    }
+
+    fn need_behind(&self, _state: &bool) -> Need {
+        Need::Never
+    }
+
+    fn carry(&self, state: &mut bool, items: Vec<T>, _is_cut: bool) -> Result<Vec<T>, NoMemory>
+        requires { P.ready self.now.test }
+        ensures goes_on { (more : List T.Content) → IfOk result (λ kept.
+            left_while state.old (P.holds self.now.test) (map T.content items.items ++ more)
+            ≡ map T.content kept.items ++ left_while state.new (P.holds self.now.test) more) }
+        ensures answered { IsOk result }
+    {
+        if !*state {
+            return Ok(items);
+        }
+        let kept = self.apply(items)?;
+        *state = kept.is_empty();
+        Ok(kept)
+    }
+
+    fn is_over(&self, _state: &bool) -> bool {
+        false
     }
 }

@@ -66,4 +66,4 @@ fold-joined f content a xs ys = ap (fold f a) (map-append content xs ys) ∙ fol
 -- what is kept of a list are its distinct members
 pub kept-members : {C : Type 0} (same : C → C → Bool) → DecidesEquality same → (l : List C) → fold (insert_key same) [] l ≡ distinct same l
 kept-members same decides l =
-    sym (map-id (fold (insert_key same) [] l)) ∙ kept-distinct (λ c. c) same same decides (λ x y. refl) l ∙ ap (distinct same) (map-id l)
+    sym (map-id (fold (insert_key same) [] l)) ∙ kept-distinct same decides (λ c. c) same (λ x y. refl) l ∙ ap (distinct same) (map-id l)

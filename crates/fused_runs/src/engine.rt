@@ -1,10 +1,9 @@
 //! What each run uses.
 
-ghost use Rattle.std.specs.Prelude.{◌≡◌, ◌≢◌, ◌≤◌, ◌^◌, Err, IfOk};
-ghost use Rattle.parallel_streams.specs.Runs.{AnswersUnder, HasLawfulWorkers, IsLawfulRun};
+ghost use Rattle.std.specs.Prelude.{◌≡◌, ◌≤◌, ◌^◌};
+ghost use Rattle.parallel_streams.specs.Runs.{HasLawfulWorkers, IsLawfulRun};
 
-use parallel_streams::{Run, StreamError};
-use split_tree::MAX_TARGET;
+use parallel_streams::Run;
 use std::alloc::Global;
 
 /// What each run uses: threads, memory, and on how many workers and at which target it goes.
@@ -32,22 +31,6 @@ impl<'e, R, H> Engine<'e, R, H> {
                 gate: run.gate,
             },
         }
-    }
-
-    /// Refuses settings that are not lawful, before anything runs.
-    pub fn new(rt: &'e R, alloc: Global, run: &Run<'e, H>) -> Result<Engine<'e, R, H>, StreamError>
-        ensures settings { AnswersUnder run.now.workers run.now.target result }
-        ensures workers { IfOk result (λ engine. engine.run.workers ≡ run.now.workers) }
-        ensures target { IfOk result (λ engine. engine.run.target ≡ run.now.target) }
-        ensures memory { result ≢ Err StreamError.NoMemory }
-    {
-        if !(1..=64).contains(&run.workers) {
-            return Err(StreamError::BadWorkers);
-        }
-        if run.target > MAX_TARGET {
-            return Err(StreamError::BadTarget);
-        }
-        Ok(Engine::under(rt, alloc, run))
     }
 
     /// The same on so many workers.

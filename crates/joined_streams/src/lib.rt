@@ -1,7 +1,6 @@
 //! Two streams, one behind another.
 #![tactic(auto)]
 
-mod containers;
 mod joined;
 
 pub use joined::collect_concat;

@@ -20,13 +20,10 @@ pub use collectors::{
     Teeing, ToList, ToMap, ToMapStrict,
 };
 pub use derived_collectors::{BestByKey, CollectingAndThen, Finisher, FlatMappingTo, ToSet};
-pub use fused_runs::{
-    Engine, collect_distinct, collect_front, collect_limited, collect_rest, collect_skipped,
-};
-pub use parallel_streams::{MapError, Run, Stream, StreamError, of};
+pub use parallel_streams::{MapError, Run, Stream, StreamError, container_of, fold_into, of};
 pub use parts::{
-    Above, And, AtMostOne, Below, Cloned, Composed, Divisible, Equal, Even, Itself, Length, Modulo,
-    Negated, Not, OnFirst, OnSecond, Or, Plus, StartsWith, Times, mapping, operator, test,
+    Above, And, Below, Cloned, Composed, Divisible, Equal, Even, Itself, Length, Modulo, Negated,
+    Not, OnFirst, OnSecond, Or, Plus, StartsWith, Times, mapping, operator, test,
 };
 pub use sources::{
     Concat, DequeSplit, LentSplit, LinesSplit, RangeSplit, RangeTooLong, SliceSplit, Windowed,

@@ -1,18 +1,16 @@
 -- Whether some item counts, where one is enough: whether the run was cut.
-use Rattle.std.specs.Prelude.{◌≡◌, ◌<◌, ◌≤◌, ◌+◌, ◌-◌, ℕ, zero, suc, Bool, List, Option, Some, None, true, count_by, cond, take, drop, length, nat_lt, refl}
-use Rattle.std.proofs.Common.{sym, ap, ◌∙◌, subst, arith, ⊎_elim}
+use Rattle.std.specs.Prelude.{◌≡◌, ◌<◌, ◌≤◌, ◌+◌, ℕ, zero, suc, Bool, List, Option, Some, None, true, false, count_by, cond, take, drop, length, nat_lt, refl}
+use Rattle.std.proofs.Common.{sym, ap, ◌∙◌, subst, arith, ⊎_elim, true≢false}
 use Rattle.std.proofs.lemmas.List.{take_all}
-use Rattle.std.proofs.lemmas.List.Sums.{sum_by-append, count_by-le-length}
+use Rattle.std.proofs.lemmas.List.Sums.{sum_by-append}
 use Rattle.std.proofs.lemmas.Bool.Decides.{nat_tests}
 use Rattle.std.specs.Option.{is_some}
-use Rattle.barriers.specs.Needs.{IsOutcome, CountsLast, TakesBefore}
-use Rattle.barriers.specs.NeedLaws.{before-none, before-last}
+use Rattle.barriers.specs.Needs.{IsOutcome, CountsLast, IsToldBy}
 use Rattle.leaf_board.specs.Case.{sum_below}
 use Rattle.stealing_pool.specs.Spans.{joined, full_count}
 use Rattle.stealing_pool.specs.Reports.{Reported, Reports}
 use Rattle.stealing_pool.specs.SpanLaws.{sum-counts}
 use Rattle.parallel_streams.specs.Meeting.{any-by-count}
-use Rattle.parallel_streams.specs.Progress.{IsToldBy}
 use Rattle.parallel_streams.specs.Terminals.{any_meets}
 use Rattle.parallel_streams.proofs.Harmless.{joined-split}
 
@@ -70,14 +68,22 @@ module _ {T : Type 0} (counted : T → Bool) (lists : List (List T)) (recorded :
       told None is = ap is_some is ∙ sym (any-by-count counted (joined lists) ∙ ap (nat_lt 0) (uncut-none reports is))
       told (Some c) is = ap is_some is ∙ sym (any-by-count counted (joined lists) ∙ some-count (count_by counted (joined lists)) (cut-some c reports is))
 
+no-cut : (cut : Option ℕ) → is_some cut ≡ false → cut ≡ None
+no-cut None is = refl
+no-cut (Some c) is = absurd (true≢false is)
+
+a-cut : (cut : Option ℕ) → is_some cut ≡ true → (c : ℕ) × (cut ≡ Some c)
+a-cut None is = absurd (true≢false (sym is))
+a-cut (Some c) is = (c, refl)
+
 -- what a run kept of a list tells by its cut whether some item counts
 pub front-told : {T : Type 0} (needed : Option ℕ) (counted : T → Bool) (lists : List (List T)) (recorded : ℕ) (count : ℕ → Option ℕ) (cut : Option ℕ) (front : List T)
-    → Reports needed (length lists) (full_count counted lists) recorded count cut → IsOutcome needed counted (joined lists) front → CountsLast needed counted front → IsToldBy needed counted front cut
-front-told None counted lists recorded count cut front reports outcome last = record { none = λ uncut one. absurd cc; some = λ c is one. absurd cc; last = last }
+    → Reports needed (length lists) (full_count counted lists) recorded count cut → IsOutcome needed counted (joined lists) front → CountsLast needed counted front → IsToldBy needed counted front (is_some cut)
+front-told None counted lists recorded count cut front reports outcome last = record { none = λ uncut one. absurd cc; some = λ is one. absurd cc; last = last }
 front-told (Some r) counted lists recorded count cut front reports (rest, joins, outcome) last =
     record {
-      none = λ uncut one. few (same one) (uncut-none counted lists recorded count cut (at-one one) uncut);
-      some = λ c is one. many (same one) (cut-some counted lists recorded count cut c (at-one one) is);
+      none = λ uncut one. few (same one) (uncut-none counted lists recorded count cut (at-one one) (no-cut cut uncut));
+      some = λ is one. let at = a-cut cut is in many (same one) (cut-some counted lists recorded count cut at.0 (at-one one) at.1);
       last = last;
     }
   where
@@ -99,15 +105,3 @@ front-told (Some r) counted lists recorded count cut front reports (rest, joins,
         (λ all. let nothing : count_by counted rest ≡ 0 = ap (count_by counted) all in omega (arith, parts, nothing, some))
         (λ enough. omega (arith, one, enough))
         outcome
-
--- so an operation that takes what stands before the first counting item takes all of it, or all but its last item
-module _ {T : Type 0} (needed : Option ℕ) (counted : T → Bool) (value : List T → List T) (law : TakesBefore needed counted value) (xs : List T) (cut : Option ℕ) (told : IsToldBy needed counted xs cut) where
-  pub uncut-value : cut ≡ None → value xs ≡ xs
-  uncut-value uncut = law.1 xs ∙ before-none counted xs (told.none uncut law.0)
-
-  pub cut-value : (c n : ℕ) → cut ≡ Some c → n ≡ length xs - 1 → value xs ≡ take n xs
-  cut-value c n is place =
-      let some = told.some c is law.0 in
-      let long = count_by-le-length counted xs in
-      let less : length xs ≡ n + 1 = omega (arith, place, some, long) in
-      law.1 xs ∙ before-last counted n xs less some (told.last law.0 n (omega (arith, less)))

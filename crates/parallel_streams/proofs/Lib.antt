@@ -4,3 +4,5 @@ pub mod Gathering
 pub mod Firsts
 pub mod Idle
 pub mod Listing
+pub mod SegmentLaws
+pub mod Stack

@@ -47,6 +47,15 @@ joined-items items (s ∷ leaves) = ap (λ m. items s ++ m) (joined-items items 
 pub joined-leaves : {S C : Type 0} (items : S → List C) (whole : List C) (leaves : List S) → flat_map items leaves ≡ whole → joined (map items leaves) ≡ whole
 joined-leaves items whole leaves h = joined-items items leaves ∙ h
 
+-- and before what stands behind them
+pub leaves-behind : {S C : Type 0} (items : S → List C) (leaves : List S) (behind : List C) → flat_map items leaves ++ behind ≡ joined (map items leaves) ++ behind
+leaves-behind items leaves behind = ap (λ l. l ++ behind) (sym (joined-items items leaves))
+
+-- what is left, through a stage, is the lists of the leaves through it, and what is behind them through it
+pub left-through : {A B : Type 0} (f : A → List B) (lists : List (List A)) (left behind : List A) → left ≡ joined lists ++ behind
+    → flat_map f left ≡ joined (map (flat_map f) lists) ++ flat_map f behind
+left-through f lists left behind is = ap (flat_map f) is ∙ flat_map-append f (joined lists) behind ∙ ap (λ l. l ++ flat_map f behind) (sym (joined-map f lists))
+
 pub count-leaves : {S C : Type 0} (items : S → List C) (leaves : List S) → length (map items leaves) ≡ length leaves
 count-leaves items leaves = length-map leaves items
 

@@ -1,5 +1,4 @@
 pub mod Runs
-pub mod Fronts
 pub mod MapErrors
 pub mod Terminals
 pub mod LeafLaws

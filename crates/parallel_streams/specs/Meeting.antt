@@ -20,7 +20,7 @@ module _ {C : Type 0} (p : C → Bool) where
       at true e = e
       at false e = refl
 
-  any-append : (l more : List C) → any_meets p (l ++ more) ≡ cond (any_meets p l) true (any_meets p more)
+  pub any-append : (l more : List C) → any_meets p (l ++ more) ≡ cond (any_meets p l) true (any_meets p more)
   any-append [] more = refl
   any-append (x ∷ l) more = ap (λ b. cond (p x) true b) (any-append l more) ∙ sym (or-assoc (p x) (any_meets p l) (any_meets p more))
 

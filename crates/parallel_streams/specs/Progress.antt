@@ -1,6 +1,5 @@
 -- How far the barriers of a stream have come.
-use Rattle.std.specs.Prelude.{◌≡◌, ◌≤◌, ◌+◌, ℕ, Bool, true, false, List, [], Option, Some, None, Result, Ok, Err, map, count_by, length}
-use Rattle.barriers.specs.Needs.{CountsLast}
+use Rattle.std.specs.Prelude.{◌≡◌, ◌+◌, ℕ, Bool, true, false, List, [], ◌++◌, Option, Some, None, Result, Ok, Err, map, length}
 use Rattle.collectors.specs.NestedLaws.{push}
 use Rattle.stealing_pool.specs.Jobs.{Work}
 use Rattle.stealing_pool.specs.Spans.{work_of}
@@ -16,25 +15,32 @@ use Rattle.parallel_streams.specs.declared.part.Listed.{Listed}
 use Rattle.parallel_streams.specs.declared.part.Part.{Part}
 use Rattle.parallel_streams.specs.declared.part.Part.TheVariants.{Before, Own}
 
--- what a barrier's run left: the barrier's value, cut into parts
-pub record IsListed {T C : Type 0} (content : T → C) (value : List C) (listed : Listed T) : Type 0 where
-  pub is : map content listed.items.items ≡ value
-  pub cut : Ascends 0 (length listed.items.items) (ends_of listed.places)
+-- a barrier's list is cut into parts
+abbrev pub IsCut : {T : Type 0} → Listed T → Type 0
+IsCut listed = Ascends 0 (length listed.items.items) (ends_of listed.places)
 
-abbrev pub HoldsListed : {T C : Type 0} → (T → C) → List C → Option (Listed T) → Type 0
-HoldsListed content value None = Unit {0}
-HoldsListed content value (Some listed) = IsListed content value listed
+abbrev pub HoldsListed : {T : Type 0} → Option (Listed T) → Type 0
+HoldsListed None = Unit {0}
+HoldsListed (Some listed) = IsCut listed
 
-abbrev pub HoldsBarred : {P T C : Type 0} → (P → Type 0) → (T → C) → List C → BarredProgress P T → Type 0
-HoldsBarred before content value g = before g.before × HoldsListed content value g.listed
+abbrev pub HoldsBarred : {P S T : Type 0} → (P → Type 0) → BarredProgress P S T → Type 0
+HoldsBarred before g = before g.before × HoldsListed g.listed
 
--- a barrier's list is cut for its leaves as so many items are
-abbrev pub IsPlannedList : {T : Type 0} → ℕ → ℕ → Option (Listed T) → Type 0
-IsPlannedList workers target None = Unit {0}
-IsPlannedList workers target (Some listed) = AreLeafEnds workers target (length listed.items.items) (ends_of listed.places)
+-- What a barrier leaves of the present segment and of those behind it: while it has not run, what it makes of all that comes to it; then its list, and what it
+-- makes of the segments behind.
+abbrev pub left_of : {T C : Type 0} → (T → C) → (List C → List C) → List C → List C → Option (Listed T) → List C
+left_of content value_behind left behind None = value_behind left
+left_of content value_behind left behind (Some listed) = map content listed.items.items ++ value_behind behind
 
-abbrev pub IsPlannedBarred : {P T : Type 0} → (P → Type 0) → ℕ → ℕ → BarredProgress P T → Type 0
-IsPlannedBarred before workers target g = before g.before × IsPlannedList workers target g.listed
+-- The segment is the whole: while the barrier has not run, its state is that before any item; then its list is its value, cut for its leaves as so many items are.
+abbrev pub IsPlannedList : {T C : Type 0} → (T → C) → Option ℕ → Option ℕ → (List C → List C) → (List C → List C) → List C → ℕ → ℕ → Option (Listed T) → Type 0
+IsPlannedList content needed needed_behind value value_behind whole workers target None = (needed_behind ≡ needed) × ((l : List _) → value_behind l ≡ value l)
+IsPlannedList content needed needed_behind value value_behind whole workers target (Some listed) =
+    AreLeafEnds workers target (length listed.items.items) (ends_of listed.places) × (map content listed.items.items ≡ value whole)
+
+abbrev pub IsPlannedBarred : {P S T C : Type 0} → (P → Type 0) → (T → C) → Option ℕ → (S → Option ℕ) → (List C → List C) → (S → List C → List C) → List C → ℕ → ℕ → BarredProgress P S T → Type 0
+IsPlannedBarred before content needed needed_behind value value_behind whole workers target g =
+    before g.before × IsPlannedList content needed (needed_behind g.state) value (value_behind g.state) whole workers target g.listed
 
 -- the entries so far: while the last barrier has not run, those of the barriers before
 abbrev pub ToldSoFar : {T : Type 0} → (List Outcome → Type 0) → (List Outcome → Type 0) → Option (Listed T) → List Outcome → Type 0
@@ -86,9 +92,3 @@ end_with f Cut = Cut
 abbrev pub ended_with : {A B E : Type 0} → (A → B) → Result (LeafEnd A) E → Result (LeafEnd B) E
 ended_with f (Ok end) = Ok (end_with f end)
 ended_with f (Err refused) = Err refused
-
--- What a run's cut tells of the list that it kept, where one counting item is enough: with no cut none counts; with a cut one does, and it is the last.
-pub record IsToldBy {T : Type 0} (needed : Option ℕ) (counted : T → Bool) (xs : List T) (cut : Option ℕ) : Type 0 where
-  pub none : cut ≡ None → needed ≡ Some 1 → count_by counted xs ≡ 0
-  pub some : (c : ℕ) → cut ≡ Some c → needed ≡ Some 1 → 1 ≤ count_by counted xs
-  pub last : CountsLast needed counted xs

@@ -14,7 +14,7 @@ use Rattle.parallel_streams.specs.Cuts.{cut_at, cut_at-map, joined-cut_at, lengt
 use Rattle.parallel_streams.specs.Ends.{ends_of}
 use Rattle.parallel_streams.specs.Leaves.{IsCutList}
 use Rattle.parallel_streams.specs.LeafCutLaws.{IsCutList-ends}
-use Rattle.parallel_streams.specs.Progress.{HoldsListed, IsPlannedList, ToldSoFar, is_listed, next_leaves, parts_of, barred_work, end_with, ended_with}
+use Rattle.parallel_streams.specs.Progress.{HoldsListed, IsCut, IsPlannedList, ToldSoFar, is_listed, left_of, next_leaves, parts_of, barred_work, end_with, ended_with}
 use Rattle.parallel_streams.specs.declared.part.Listed.{Listed}
 use Rattle.parallel_streams.specs.declared.part.Part.{Part}
 use Rattle.parallel_streams.specs.declared.part.Part.TheVariants.{Before, Own}
@@ -26,18 +26,41 @@ barred-leaves done before own n (Some l) unrun of_before of_own = absurd (true�
 barred-leaves true before own n None unrun of_before of_own = of_own refl
 barred-leaves false before own n None unrun of_before of_own = of_before refl
 
-pub joined-parts_of : {T C : Type 0} (content : T → C) (value : List C) (listed : Option (Listed T)) → HoldsListed content value listed
-    → is_listed listed ≡ true → joined (parts_of content listed) ≡ value
-joined-parts_of content value None held is = absurd (true≢false (sym is))
-joined-parts_of content value (Some l) held is =
+-- the parts of a list are the list
+pub joined-listed : {T C : Type 0} (content : T → C) (l : Listed T) → IsCut l → joined (cut_at 0 (ends_of l.places) (map content l.items.items)) ≡ map content l.items.items
+joined-listed content l cut =
     let size : length l.items.items ≡ 0 + length (map content l.items.items) = let e = length-map l.items.items content in omega (arith, e) in
-    joined-cut_at 0 (length l.items.items) (ends_of l.places) (map content l.items.items) held.cut size ∙ held.is
+    joined-cut_at 0 (length l.items.items) (ends_of l.places) (map content l.items.items) cut size
 
--- the parts are the barrier's value, cut as a list of so many items is
-pub cut-parts_of : {T C : Type 0} (content : T → C) (value : List C) (workers target : ℕ) (listed : Option (Listed T)) → HoldsListed content value listed → IsPlannedList workers target listed
-    → is_listed listed ≡ true → IsCutList value workers target (parts_of content listed)
-cut-parts_of content value workers target None held planned is = absurd (true≢false (sym is))
-cut-parts_of content value workers target (Some l) held planned is = IsCutList-ends content workers target l.items.items value (ends_of l.places) held.is planned
+-- once the barrier has run, what it leaves are the parts of its list, and what it makes of the segments behind
+pub left-parts_of : {T C : Type 0} (content : T → C) (value_behind : List C → List C) (left behind : List C) (listed : Option (Listed T)) → HoldsListed listed → is_listed listed ≡ true
+    → left_of content value_behind left behind listed ≡ joined (parts_of content listed) ++ value_behind behind
+left-parts_of content value_behind left behind None held is = absurd (true≢false (sym is))
+left-parts_of content value_behind left behind (Some l) held is = ap (λ m. m ++ value_behind behind) (sym (joined-listed content l held))
+
+-- while it has not run, it is what it makes of all that comes to it
+pub left-unlisted : {T C : Type 0} (content : T → C) (value_behind : List C → List C) (left behind : List C) (listed : Option (Listed T)) → is_listed listed ≡ false
+    → left_of content value_behind left behind listed ≡ value_behind left
+left-unlisted content value_behind left behind None unrun = refl
+left-unlisted content value_behind left behind (Some l) unrun = absurd (true≢false unrun)
+
+module _ {T C : Type 0} (content : T → C) (needed needed_behind : Option ℕ) (value value_behind : List C → List C) (whole : List C) (workers target : ℕ) where
+  -- and its state is that before any item
+  pub fresh-unlisted : (listed : Option (Listed T)) → is_listed listed ≡ false → IsPlannedList content needed needed_behind value value_behind whole workers target listed
+      → (needed_behind ≡ needed) × ((l : List C) → value_behind l ≡ value l)
+  fresh-unlisted None unrun planned = planned
+  fresh-unlisted (Some l) unrun planned = absurd (true≢false unrun)
+
+  pub joined-parts_of : (listed : Option (Listed T)) → HoldsListed listed → IsPlannedList content needed needed_behind value value_behind whole workers target listed
+      → is_listed listed ≡ true → joined (parts_of content listed) ≡ value whole
+  joined-parts_of None held planned is = absurd (true≢false (sym is))
+  joined-parts_of (Some l) held planned is = joined-listed content l held ∙ planned.1
+
+  -- the parts are the barrier's value, cut as a list of so many items is
+  pub cut-parts_of : (listed : Option (Listed T)) → HoldsListed listed → IsPlannedList content needed needed_behind value value_behind whole workers target listed
+      → is_listed listed ≡ true → IsCutList (value whole) workers target (parts_of content listed)
+  cut-parts_of None held planned is = absurd (true≢false (sym is))
+  cut-parts_of (Some l) held planned is = IsCutList-ends content workers target l.items.items (value whole) (ends_of l.places) planned.1 planned.0
 
 pub count-parts_of : {T C : Type 0} (content : T → C) (n : ℕ) (listed : Option (Listed T)) → is_listed listed ≡ true → length (parts_of content listed) ≡ next_leaves n listed
 count-parts_of content n None is = absurd (true≢false (sym is))

@@ -1,5 +1,5 @@
 -- What a stream over a source tells.
-use Rattle.std.specs.Prelude.{◌≡◌, ◌<◌, ◌^◌, ℕ, Bool, true, false, IsTrue, if◌then◌else◌, List, length, Option, Some, None, IfSome, refl}
+use Rattle.std.specs.Prelude.{◌≡◌, ◌<◌, ◌+◌, ◌^◌, ◌++◌, [], fold, ℕ, Bool, true, false, IsTrue, if◌then◌else◌, List, length, Option, Some, None, IfSome, refl}
 use Rattle.std.proofs.Common.{ap}
 use Rattle.std.specs.declared.cmp.Ordering.{Ordering}
 use Rattle.spliterator.specs.Characteristics.{tells}
@@ -14,6 +14,14 @@ source_size told estimate = if tells told SIZED then Some estimate else None
 
 abbrev pub source_flags : ℕ → StreamFlags
 source_flags told = flags_of told
+
+-- the items of the parts behind a segment, of which the last stands next
+abbrev pub items_behind : {S C : Type 0} → (S → List C) → List S → List C
+items_behind items parts = fold (λ behind part. items part ++ behind) [] parts
+
+-- a weight of these parts that falls at each split and with each part
+abbrev pub weight_behind : {S : Type 0} → (S → ℕ) → List S → ℕ
+weight_behind weight parts = fold (λ behind part. 2 ^ weight part + behind) 0 parts
 
 -- a source has no barrier: nothing is kept of its leaves
 abbrev pub idle_work : {P : Type 0} → ℕ → Work P

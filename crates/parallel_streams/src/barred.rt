@@ -1,15 +1,13 @@
 //! A barrier behind a stream.
-ghost use Rattle.std.specs.Prelude.{◌≡◌, IfOk, map};
 ghost use Rattle.spliterator.specs.Clones.{ClonesAlike};
 ghost use Rattle.parallel_streams.specs.Leaves.{IsCutList};
-ghost use Rattle.parallel_streams.specs.Progress.{IsToldBy};
 ghost use Rattle.parallel_streams.specs.Reports.{IsBarrierReport};
 ghost use Rattle.stages.specs.Flags.{after};
 
 use crate::Stream;
 use crate::part::{BarredProgress, Listed, Part, end_before, end_own};
 use crate::places::Places;
-use barriers::{Barrier, Demand, Need};
+use barriers::{Barrier, Behind, Demand, Need};
 use collectors::{Collector, ToList, combine_containers};
 use leaf_board::Handout;
 use leaf_reading::{LeafEnd, Reading, feed_whole, read_leaf};
@@ -35,7 +33,7 @@ const MOST_ROOM: u64 = 1 << 20;
 impl<U: Stream, B: Barrier<U::Item>> Barred<U, B> {
     // How many items a leaf's list is made for, where any number may come: those of all leaves for the first one, behind which the others are put.
     fn room(&self, progress: &U::Progress, leaf: usize) -> u64 {
-        let size = self.upstream.known_size();
+        let size = self.upstream.segment_size(progress);
         let leaves = self.upstream.leaves(progress).max(1) as u64;
         match (size, self.barrier.size_after(size)) {
             (Some(number), None) if leaf == 0 => number.min(MOST_ROOM),
@@ -45,39 +43,17 @@ impl<U: Stream, B: Barrier<U::Item>> Barred<U, B> {
     }
 }
 
-// What a barrier leaves of the list that its run kept. Of a list whose items the run has asked, none is asked again.
-fn left_by<T: OrderedValue + Drop, B: Barrier<T>>(
-    barrier: &B,
-    mut items: Vec<T>,
-    cut: Option<usize>,
-) -> Result<Vec<T>, NoMemory>
-    requires ready { B.Demand.ready barrier.now }
-    requires told { IsToldBy (B.Demand.needed barrier.now) (B.Demand.counted barrier.now) (map T.content items.items) cut }
-    ensures { IfOk result (λ left. map T.content left.items ≡ B.value barrier.now (map T.content items.items)) }
-{
-    if !barrier.takes_before() {
-        return barrier.apply(items);
-    }
-    match cut {
-        None => Ok(items),
-        Some(_) => {
-            items.truncate(items.len().saturating_sub(1));
-            Ok(items)
-        }
-    }
-}
-
 impl<U: Stream, B: Barrier<U::Item>> Stream for Barred<U, B> {
-    ghost use Rattle.parallel_streams.specs.Progress.{HoldsBarred, IsPlannedBarred, ToldSoFar, is_listed, waiting_of, next_leaves, parts_of, own_work, barred_work};
-    ghost use Rattle.parallel_streams.specs.ProgressLaws.{barred-leaves, joined-parts_of, cut-parts_of, count-parts_of, told-all};
+    ghost use Rattle.parallel_streams.specs.Progress.{HoldsBarred, IsPlannedBarred, ToldSoFar, is_listed, left_of, waiting_of, next_leaves, parts_of, own_work, barred_work};
+    ghost use Rattle.parallel_streams.specs.ProgressLaws.{barred-leaves, left-parts_of, joined-parts_of, cut-parts_of, count-parts_of, told-all};
 
     type Item = U::Item;
 
-    type Progress = BarredProgress<U::Progress, U::Item>;
+    type Progress = BarredProgress<U::Progress, B::State, U::Item>;
 
     type Part = Part<U::Part, U::Item>;
 
-    ghost ready = { λ s. U.ready s.upstream × B.Demand.ready s.barrier × ClonesAlike U.Item.is_clone U.Item.content };
+    ghost ready = { λ s. U.ready s.upstream × B.Demand.ready s.barrier × B.can_carry s.barrier × ClonesAlike U.Item.is_clone U.Item.content };
 
     ghost value = { λ s. B.value s.barrier (U.value s.upstream) };
 
@@ -85,7 +61,13 @@ impl<U: Stream, B: Barrier<U::Item>> Stream for Barred<U, B> {
 
     ghost told = { λ s. after (U.told s.upstream) (B.operation s.barrier) };
 
-    ghost holds = { λ s. HoldsBarred (U.holds s.upstream) U.Item.content (B.value s.barrier (U.value s.upstream)) };
+    ghost holds = { λ s. HoldsBarred (U.holds s.upstream) };
+
+    ghost left = { λ s p. left_of U.Item.content (B.value_behind s.barrier p.state) (U.left s.upstream p.before) (U.behind s.upstream p.before) p.listed };
+
+    ghost behind = { λ s p. B.value_behind s.barrier p.state (U.behind s.upstream p.before) };
+
+    ghost still = { λ s p. U.still s.upstream p.before };
 
     ghost done = { λ s p. is_listed p.listed };
 
@@ -93,14 +75,17 @@ impl<U: Stream, B: Barrier<U::Item>> Stream for Barred<U, B> {
 
     ghost leaves_next = { λ s p. next_leaves (U.leaves_next s.upstream p.before) p.listed };
 
-    ghost work = { λ s p. let own = own_work (B.Demand.needed s.barrier) (B.Demand.counted s.barrier) U.Item.is_value U.Item.content in
+    ghost work = { λ s p. let own = own_work (B.needed_behind s.barrier p.state) (B.Demand.counted s.barrier) U.Item.is_value U.Item.content in
         barred_work (U.done s.upstream p.before) (U.work s.upstream p.before) (own (U.parts s.upstream p.before)) };
 
     ghost parts = { λ s p. parts_of U.Item.content p.listed };
 
     ghost cut_into = { λ s. IsCutList (B.value s.barrier (U.value s.upstream)) };
 
-    ghost planned = { λ s workers target. IsPlannedBarred (U.planned s.upstream workers target) workers target };
+    ghost planned = { λ s workers target p.
+        let before = IsPlannedBarred (U.planned s.upstream workers target) U.Item.content in
+        let fresh = before (B.Demand.needed s.barrier) (B.needed_behind s.barrier) (B.value s.barrier) (B.value_behind s.barrier) in
+        fresh (U.value s.upstream) workers target p };
 
     ghost reported = { λ s. let until = IsBarrierReport (U.cut_into s.upstream) (U.value s.upstream) (U.reported s.upstream) in
         until (B.Demand.needed s.barrier) (B.Demand.counted s.barrier) (B.value s.barrier) };
@@ -113,7 +98,7 @@ impl<U: Stream, B: Barrier<U::Item>> Stream for Barred<U, B> {
     ghost flag_law = { λ s. B.flag_law s.barrier (U.told s.upstream) (U.size s.upstream) (U.value s.upstream) (U.flag_law s.upstream) };
 
     ghost work_law = { λ s p unrun.
-        let own = own_work (B.Demand.needed s.barrier) (B.Demand.counted s.barrier) U.Item.is_value U.Item.content in
+        let own = own_work (B.needed_behind s.barrier p.state) (B.Demand.counted s.barrier) U.Item.is_value U.Item.content in
         let leaves = barred-leaves (U.done s.upstream p.before) (U.work s.upstream p.before) (own (U.parts s.upstream p.before)) in
         leaves (U.leaves_next s.upstream p.before) p.listed unrun (U.work_law s.upstream p.before) (U.parts_count s.upstream p.before) };
 
@@ -122,9 +107,19 @@ impl<U: Stream, B: Barrier<U::Item>> Stream for Barred<U, B> {
         let all = until (B.Demand.needed s.barrier) (B.Demand.counted s.barrier) (B.value s.barrier) workers target in
         told-all (U.told_so_far s.upstream workers target p.before) all p.listed entries done told };
 
-    ghost parts_law = { λ s p held done. joined-parts_of U.Item.content (B.value s.barrier (U.value s.upstream)) p.listed held.1 done };
+    ghost parts_law = { λ s p held done.
+        let left = left-parts_of U.Item.content (B.value_behind s.barrier p.state) (U.left s.upstream p.before) in
+        left (U.behind s.upstream p.before) p.listed held.1 done };
 
-    ghost cut_law = { λ s workers target p held planned done. cut-parts_of U.Item.content (B.value s.barrier (U.value s.upstream)) workers target p.listed held.1 planned.1 done };
+    ghost whole_law = { λ s workers target p held planned done.
+        let joined = joined-parts_of U.Item.content (B.Demand.needed s.barrier) (B.needed_behind s.barrier p.state) in
+        let value = joined (B.value s.barrier) (B.value_behind s.barrier p.state) (U.value s.upstream) in
+        value workers target p.listed held.1 planned.1 done };
+
+    ghost cut_law = { λ s workers target p held planned done.
+        let cut = cut-parts_of U.Item.content (B.Demand.needed s.barrier) (B.needed_behind s.barrier p.state) in
+        let value = cut (B.value s.barrier) (B.value_behind s.barrier p.state) (U.value s.upstream) in
+        value workers target p.listed held.1 planned.1 done };
 
     ghost parts_count = { λ s p done. count-parts_of U.Item.content (U.leaves_next s.upstream p.before) p.listed done };
 
@@ -136,40 +131,76 @@ impl<U: Stream, B: Barrier<U::Item>> Stream for Barred<U, B> {
         self.upstream.flags().after(self.barrier.operation())
     }
 
+    fn has_barrier(&self) -> bool {
+        true
+    }
+
     fn start(
         &self,
         alloc: Global,
         workers: u32,
         target: u64,
-    ) -> Result<BarredProgress<U::Progress, U::Item>, NoMemory> {
-        let before = self.upstream.start(alloc, workers, target)?;
+        most: Option<u64>,
+    ) -> Result<BarredProgress<U::Progress, B::State, U::Item>, NoMemory> {
+        let before = self.upstream.start(alloc, workers, target, most)?;
+        let state = self.barrier.fresh(alloc);
         Ok(BarredProgress {
             before,
+            state,
             listed: None,
         })
     }
 
-    fn is_gathered(&self, progress: &BarredProgress<U::Progress, U::Item>) -> bool {
+    fn is_last(&self, progress: &BarredProgress<U::Progress, B::State, U::Item>) -> bool {
+        self.upstream.is_last(&progress.before) || self.barrier.is_over(&progress.state)
+    }
+
+    fn go_on(
+        &self,
+        alloc: Global,
+        progress: BarredProgress<U::Progress, B::State, U::Item>,
+        workers: u32,
+        target: u64,
+        most: u64,
+    ) -> Result<BarredProgress<U::Progress, B::State, U::Item>, NoMemory> {
+        let BarredProgress { before, state, .. } = progress;
+        let before = self.upstream.go_on(alloc, before, workers, target, most)?;
+        Ok(BarredProgress {
+            before,
+            state,
+            listed: None,
+        })
+    }
+
+    fn segment_size(
+        &self,
+        progress: &BarredProgress<U::Progress, B::State, U::Item>,
+    ) -> Option<u64> {
+        self.barrier
+            .size_after(self.upstream.segment_size(&progress.before))
+    }
+
+    fn is_gathered(&self, progress: &BarredProgress<U::Progress, B::State, U::Item>) -> bool {
         progress.listed.is_some()
     }
 
-    fn leaves(&self, progress: &BarredProgress<U::Progress, U::Item>) -> usize {
+    fn leaves(&self, progress: &BarredProgress<U::Progress, B::State, U::Item>) -> usize {
         match &progress.listed {
             Some(listed) => listed.places.leaves(),
             None => self.upstream.leaves(&progress.before),
         }
     }
 
-    fn tree<'p>(&self, progress: &'p BarredProgress<U::Progress, U::Item>) -> &'p Tree {
+    fn tree<'p>(&self, progress: &'p BarredProgress<U::Progress, B::State, U::Item>) -> &'p Tree {
         match &progress.listed {
             Some(listed) => listed.places.tree(),
             None => self.upstream.tree(&progress.before),
         }
     }
 
-    fn need(&self, progress: &BarredProgress<U::Progress, U::Item>) -> Need {
+    fn need(&self, progress: &BarredProgress<U::Progress, B::State, U::Item>) -> Need {
         if self.upstream.is_gathered(&progress.before) {
-            self.barrier.need()
+            self.barrier.need_behind(&progress.state)
         } else {
             self.upstream.need(&progress.before)
         }
@@ -178,15 +209,19 @@ impl<U: Stream, B: Barrier<U::Item>> Stream for Barred<U, B> {
     fn run_barrier_leaf<L: Handout>(
         &self,
         alloc: Global,
-        progress: &BarredProgress<U::Progress, U::Item>,
+        progress: &BarredProgress<U::Progress, B::State, U::Item>,
         board: &L,
         seat: &mut L::Seat,
         leaf: usize,
     ) -> Result<LeafEnd<Part<U::Part, U::Item>>, NoMemory> {
         if self.upstream.is_gathered(&progress.before) {
+            let demand = Behind {
+                barrier: &self.barrier,
+                state: &progress.state,
+            };
             let reading = Reading {
                 stage: &Nothing::in_blocks(),
-                demand: &self.barrier,
+                demand: &demand,
                 collector: &ToList::with_room(alloc, self.room(&progress.before, leaf)),
             };
             end_own(
@@ -205,7 +240,7 @@ impl<U: Stream, B: Barrier<U::Item>> Stream for Barred<U, B> {
     fn combine(
         &self,
         alloc: Global,
-        progress: &BarredProgress<U::Progress, U::Item>,
+        progress: &BarredProgress<U::Progress, B::State, U::Item>,
         kept: &mut Part<U::Part, U::Item>,
         following: Part<U::Part, U::Item>,
     ) -> Result<(), NoMemory> {
@@ -227,53 +262,54 @@ impl<U: Stream, B: Barrier<U::Item>> Stream for Barred<U, B> {
     fn gather(
         &self,
         alloc: Global,
-        progress: BarredProgress<U::Progress, U::Item>,
+        progress: BarredProgress<U::Progress, B::State, U::Item>,
         part: Part<U::Part, U::Item>,
         entry: &RunEntry,
         workers: u32,
         target: u64,
-    ) -> Result<BarredProgress<U::Progress, U::Item>, NoMemory> {
+    ) -> Result<BarredProgress<U::Progress, B::State, U::Item>, NoMemory> {
+        let BarredProgress {
+            before,
+            mut state,
+            ..
+        } = progress;
         match part {
             Part::Before(part) => {
                 let before = self
                     .upstream
-                    .gather(alloc, progress.before, part, entry, workers, target)?;
+                    .gather(alloc, before, part, entry, workers, target)?;
                 Ok(BarredProgress {
                     before,
+                    state,
                     listed: None,
                 })
             }
             Part::Own(pieces) => {
                 let list = pieces.into_list()?;
-                let items = left_by(&self.barrier, list, entry.cut())?;
+                let is_cut = entry.cut().is_some();
+                let items = self.barrier.carry(&mut state, list, is_cut)?;
                 let places = Places::cut(alloc, items.as_slice(), workers, target)?;
-                let listed = Listed { items, places };
+                let listed = Some(Listed { items, places });
                 Ok(BarredProgress {
-                    before: progress.before,
-                    listed: Some(listed),
+                    before,
+                    state,
+                    listed,
                 })
             }
         }
     }
 
-    fn into_listed(
+    fn take_listed(
         &self,
-        progress: BarredProgress<U::Progress, U::Item>,
-    ) -> Result<Listed<U::Item>, BarredProgress<U::Progress, U::Item>> {
-        let BarredProgress { before, listed } = progress;
-        match listed {
-            Some(listed) => Ok(listed),
-            None => Err(BarredProgress {
-                before,
-                listed: None,
-            }),
-        }
+        progress: &mut BarredProgress<U::Progress, B::State, U::Item>,
+    ) -> Option<Listed<U::Item>> {
+        progress.listed.take()
     }
 
     fn feed_last_leaf<G: Stage<In = U::Item>, K: Sink<G::Out>>(
         &self,
         alloc: Global,
-        progress: &BarredProgress<U::Progress, U::Item>,
+        progress: &BarredProgress<U::Progress, B::State, U::Item>,
         stage: &G,
         leaf: usize,
         sink: &mut K,
@@ -294,7 +330,7 @@ impl<U: Stream, B: Barrier<U::Item>> Stream for Barred<U, B> {
     >(
         &self,
         alloc: Global,
-        progress: &BarredProgress<U::Progress, U::Item>,
+        progress: &BarredProgress<U::Progress, B::State, U::Item>,
         reading: &Reading<'_, G, D, C>,
         board: &L,
         seat: &mut L::Seat,

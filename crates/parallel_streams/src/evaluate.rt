@@ -1,19 +1,16 @@
-//! All the runs of a stream, one after another, each on the workers.
-ghost use Rattle.std.specs.Prelude.{◌≡◌, ◌<◌, ◌++◌, ◌∷◌, [], ℕ, List, Some, None, true, false, IfOk};
+//! The runs of a segment of a stream, one after another, each on the workers.
+ghost use Rattle.std.specs.Prelude.{◌≡◌, ◌<◌, ◌++◌, ◌∷◌, [], ℕ, List, None, true, false, IfOk};
 ghost use Rattle.barriers.specs.Needs.{no_item};
 ghost use Rattle.leaf_reading.specs.Fronts.{folding};
 ghost use Rattle.stealing_pool.specs.Spans.{work_of, joined};
 ghost use Rattle.leaf_board.specs.Closing.{Outcome};
-ghost use Rattle.parallel_streams.specs.Fronts.{IsGivenOnFront};
 ghost use Rattle.parallel_streams.specs.Reports.{IsReport, IsRunOver};
-ghost use Rattle.parallel_streams.specs.Runs.{IsLawfulRun, AnswersUnder};
-ghost use Rattle.parallel_streams.specs.Terminals.{any_meets};
+ghost use Rattle.parallel_streams.specs.Runs.{IsLawfulRun};
 
 use crate::handover::{hand_over, list_over};
-use crate::settings::allow;
-use crate::{Run, Stream, StreamError};
+use crate::{Run, Stream};
 use barriers::{Demand, Need, Whole};
-use collectors::{Collector, Counting, combine_containers};
+use collectors::{Collector, combine_containers};
 use leaf_board::Handout;
 use leaf_reading::{LeafEnd, Reading};
 use spliterator::NoMemory;
@@ -110,11 +107,15 @@ impl<X: Stream, D: Demand<X::Item>, C: Collector<Item = X::Item>> LeafJob
     }
 }
 
-// Promises of the lists of the last run's leaves that they are the stream's items, end to end, and how they are cut, and that the entries so far are all.
+// Promises of the lists of the last run's leaves that they are the segment's items, end to end; and where the segment is the whole, that they are
+// the stream's, how they are cut, and that the entries so far are all.
 fn promise_whole<X: Stream>(_stream: &X, _progress: &X::Progress)
     requires holds { X.holds _stream.now _progress.now }
     requires done { X.done _stream.now _progress.now ≡ true }
-    ensures whole { joined (X.parts _stream.now _progress.now) ≡ X.value _stream.now }
+    ensures left { X.left _stream.now _progress.now
+        ≡ joined (X.parts _stream.now _progress.now) ++ X.behind _stream.now _progress.now }
+    ensures whole { (workers target : ℕ) → X.planned _stream.now workers target _progress.now
+        → joined (X.parts _stream.now _progress.now) ≡ X.value _stream.now }
     ensures cut { (workers target : ℕ) → X.planned _stream.now workers target _progress.now
         → X.cut_into _stream.now workers target (X.parts _stream.now _progress.now) }
     ensures entries { (workers target : ℕ) (entries : List Outcome)
@@ -146,6 +147,8 @@ where
     requires holds { X.holds stream.now progress }
     requires waits { X.done stream.now progress ≡ false }
     ensures holds { IfOk result (λ r. X.holds stream.now r.0) }
+    ensures left { IfOk result (λ r. X.left stream.now r.0 ≡ X.left stream.now progress) }
+    ensures still { IfOk result (λ r. X.still stream.now r.0 ≡ X.still stream.now progress) }
     ensures planned { let planned = X.planned stream.now run.now.workers run.now.target in
         planned progress → IfOk result (λ r. planned r.0) }
     ensures entries { let planned = X.planned stream.now run.now.workers run.now.target in
@@ -172,12 +175,13 @@ where
     Ok((after, gathered.entry))
 }
 
-// Runs the barriers one after another. Answers how far the stream has come, and the entries of the runs.
-fn run_barriers<R: Threads + Sync, X: Stream + Sync, H: Gate + Sync>(
+/// Runs the barriers over the present segment, one after another. Answers how far the stream has come, and the entries of the runs.
+pub fn run_barriers<R: Threads + Sync, X: Stream + Sync, H: Gate + Sync>(
     rt: &R,
     alloc: Global,
     stream: &X,
     run: &Run<'_, H>,
+    progress: X::Progress,
 ) -> Result<(X::Progress, Vec<RunEntry>), NoMemory>
 where
     X::Item: Send + Sync,
@@ -185,16 +189,23 @@ where
     X::Part: Send,
     requires stream { X.ready stream.now }
     requires settings { IsLawfulRun run.now.workers run.now.target }
+    requires holds { X.holds stream.now progress }
     ensures holds { IfOk result (λ r. X.holds stream.now r.0) }
     ensures done { IfOk result (λ r. X.done stream.now r.0 ≡ true) }
-    ensures whole { IfOk result (λ r. joined (X.parts stream.now r.0) ≡ X.value stream.now) }
-    ensures cut { let lists = X.parts stream.now in
-        IfOk result (λ r. X.cut_into stream.now run.now.workers run.now.target (lists r.0)) }
-    ensures entries { let reported = X.reported stream.now run.now.workers run.now.target in
-        IfOk result (λ r. reported r.1.items) }
+    ensures left { IfOk result (λ r. X.left stream.now progress
+        ≡ joined (X.parts stream.now r.0) ++ X.behind stream.now r.0) }
+    ensures still { IfOk result (λ r. X.still stream.now r.0 ≡ X.still stream.now progress) }
+    ensures whole { X.planned stream.now run.now.workers run.now.target progress
+        → IfOk result (λ r. joined (X.parts stream.now r.0) ≡ X.value stream.now) }
+    ensures cut { let cut_into = X.cut_into stream.now run.now.workers run.now.target in
+        X.planned stream.now run.now.workers run.now.target progress
+        → IfOk result (λ r. cut_into (X.parts stream.now r.0)) }
+    ensures entries { X.planned stream.now run.now.workers run.now.target progress
+        → X.told_so_far stream.now run.now.workers run.now.target progress []
+        → IfOk result (λ r. X.reported stream.now run.now.workers run.now.target r.1.items) }
 {
     let mut entries = Vec::new(alloc);
-    let mut progress = stream.start(alloc, run.workers, run.target)?;
+    let mut progress = progress;
     while !stream.is_gathered(&progress) {
         let (after, entry) = run_barrier(rt, alloc, stream, run, progress)?;
         progress = after;
@@ -204,8 +215,8 @@ where
     Ok((progress, entries))
 }
 
-// Runs the rest of the stream into a collector, as far as the demand asks.
-fn run_last<
+/// Runs the leaves of the last run into a collector, as far as the demand asks.
+pub fn run_last<
     R: Threads + Sync,
     X: Stream + Sync,
     D: Demand<X::Item> + Sync,
@@ -248,8 +259,8 @@ where
     Ok((last.acc, last.entry))
 }
 
-// Runs all the rest of the stream into a collector, or hands it the list that the last barrier left, where it keeps that as it stands.
-fn run_whole<
+/// Runs all the leaves of the last run into a collector, or hands it the list that the last barrier left, where it keeps that as it stands.
+pub fn run_whole<
     R: Threads + Sync,
     X: Stream + Sync,
     C: Collector<Item = X::Item> + Sync,
@@ -259,7 +270,7 @@ fn run_whole<
     alloc: Global,
     stream: &X,
     run: &Run<'_, H>,
-    progress: X::Progress,
+    progress: &mut X::Progress,
     collector: &C,
 ) -> Result<(C::Acc, RunEntry), NoMemory>
 where
@@ -271,25 +282,26 @@ where
     requires stream { X.ready stream.now }
     requires collector { C.ready collector.now }
     requires settings { IsLawfulRun run.now.workers run.now.target }
-    requires holds { X.holds stream.now progress }
-    requires done { X.done stream.now progress ≡ true }
-    requires whole { joined (X.parts stream.now progress) ≡ X.value stream.now }
-    ensures { let all = folding None no_item X.Item.is_value (C.empty collector.now) (C.add collector.now) in
-        IfOk result (λ r. IsRunOver all (C.content collector.now r.0) (X.parts stream.now progress) r.1) }
+    requires holds { X.holds stream.now progress.old }
+    requires done { X.done stream.now progress.old ≡ true }
+    ensures run { let all = folding None no_item X.Item.is_value (C.empty collector.now) (C.add collector.now) in
+        let lists = X.parts stream.now progress.old in
+        IfOk result (λ r. IsRunOver all (C.content collector.now r.0) lists r.1) }
+    ensures holds { X.holds stream.now progress.new }
+    ensures behind { X.behind stream.now progress.new ≡ X.behind stream.now progress.old }
+    ensures still { X.still stream.now progress.new ≡ X.still stream.now progress.old }
 {
     if !collector.keeps_lists() {
-        return run_last(rt, alloc, stream, run, &progress, &Whole, collector);
+        return run_last(rt, alloc, stream, run, progress, &Whole, collector);
     }
-    match stream.into_listed(progress) {
-        Ok(listed) => hand_over(rt, alloc, run.gate, listed, collector),
-        Err(unread) if run.workers == 1 => {
-            list_over(rt, alloc, stream, run.gate, &unread, collector)
-        }
-        Err(unread) => run_last(rt, alloc, stream, run, &unread, &Whole, collector),
+    match stream.take_listed(progress) {
+        Some(listed) => hand_over(rt, alloc, run.gate, listed, collector),
+        None if run.workers == 1 => { list_over(rt, alloc, stream, run.gate, progress, collector) }
+        None => run_last(rt, alloc, stream, run, progress, &Whole, collector),
     }
 }
 
-/// Runs the barriers one after another, and then all the rest of the stream into a collector.
+/// Runs the barriers over the whole source, one after another, and then all that they leave into a collector.
 pub fn evaluate<
     R: Threads + Sync,
     X: Stream + Sync,
@@ -318,67 +330,9 @@ where
         (X.reported stream.now workers target) (IsRunOver all (C.content collector.now e.acc))
         e.entries.items) }
 {
-    let (progress, mut entries) = run_barriers(rt, alloc, stream, run)?;
-    let (acc, entry) = run_whole(rt, alloc, stream, run, progress, collector)?;
+    let whole = stream.start(alloc, run.workers, run.target, None)?;
+    let (mut progress, mut entries) = run_barriers(rt, alloc, stream, run, whole)?;
+    let (acc, entry) = run_whole(rt, alloc, stream, run, &mut progress, collector)?;
     entries.push(entry)?;
     Ok(Evaluated { acc, entries })
-}
-
-/// The result of a collector on a front of the items that is all of them, or is enough for the demand.
-pub fn collect_enough<
-    R: Threads + Sync,
-    X: Stream + Sync,
-    D: Demand<X::Item> + Sync,
-    C: Collector<Item = X::Item> + Sync,
-    H: Gate + Sync,
->(
-    rt: &R,
-    alloc: Global,
-    stream: &X,
-    run: &Run<'_, H>,
-    demand: &D,
-    collector: &C,
-) -> Result<C::Out, StreamError>
-where
-    X::Item: Send + Sync,
-    X::Progress: Send + Sync,
-    X::Part: Send,
-    C::Acc: Send,
-    C::Out: Send,
-    requires stream { X.ready stream.now }
-    requires demand { D.ready demand.now }
-    requires collector { C.ready collector.now }
-    ensures settings { AnswersUnder run.now.workers run.now.target result }
-    ensures value { let gives = IsGivenOnFront (D.needed demand.now) (D.counted demand.now) X.Item.is_value (C.gives collector.now) in
-        IfOk result (gives (X.value stream.now)) }
-{
-    allow(run.workers, run.target)?;
-    let (progress, _) = run_barriers(rt, alloc, stream, run)?;
-    let (acc, _) = run_last(rt, alloc, stream, run, &progress, demand, collector)?;
-    Ok(collector.finish(acc)?)
-}
-
-/// Whether some item counts, where one is enough for the demand: whether the run was cut. Each item is asked once at most.
-pub fn some_counts<R: Threads + Sync, X: Stream + Sync, D: Demand<X::Item> + Sync, H: Gate + Sync>(
-    rt: &R,
-    alloc: Global,
-    stream: &X,
-    run: &Run<'_, H>,
-    demand: &D,
-) -> Result<bool, StreamError>
-where
-    X::Item: Send + Sync,
-    X::Progress: Send + Sync,
-    X::Part: Send,
-    requires stream { X.ready stream.now }
-    requires demand { D.ready demand.now }
-    requires one { D.needed demand.now ≡ Some 1 }
-    ensures settings { AnswersUnder run.now.workers run.now.target result }
-    ensures value { IfOk result (λ met. met ≡ any_meets (D.counted demand.now) (X.value stream.now)) }
-{
-    allow(run.workers, run.target)?;
-    let (progress, _) = run_barriers(rt, alloc, stream, run)?;
-    let counting = Counting::<X::Item>::new();
-    let (_, entry) = run_last(rt, alloc, stream, run, &progress, demand, &counting)?;
-    Ok(entry.cut().is_some())
 }

@@ -15,10 +15,11 @@ pub struct Listed<T> {
     pub places: Places,
 }
 
-/// What the barriers left: those before, and the last one, once it has run.
+/// What the barriers left of the present segment: those before, and the last one, once it has run. And the last one's state.
 #[derive(Drop)]
-pub struct BarredProgress<P, T> {
+pub struct BarredProgress<P, S, T> {
     pub before: P,
+    pub state: S,
     pub listed: Option<Listed<T>>,
 }
 

@@ -1,5 +1,9 @@
 //! A stream over a source.
-ghost use Rattle.std.specs.Prelude.{◌≡◌, true, map, length, flat_map, [], refl};
+ghost use Rattle.std.specs.Prelude.{◌≡◌, ◌≤◌, ◌+◌, ◌++◌, ◌^◌, true, map, length, flat_map, IfOk, [], refl, ⊤};
+ghost use Rattle.split_tree.specs.Plan.{leaves_of, tree_of};
+ghost use Rattle.parallel_streams.specs.Leaves.{ArePlanned};
+ghost use Rattle.parallel_streams.specs.Runs.{IsLawfulRun};
+ghost use Rattle.parallel_streams.specs.Sources.{items_behind, weight_behind};
 
 use crate::Stream;
 use barriers::{Demand, Need};
@@ -30,19 +34,63 @@ pub fn of<S: Spliterator>(split: S) -> Source<S>
     Source { split }
 }
 
+/// How far a source has come: the present segment, cut into leaves, and the parts of the source behind it, of which the last stands next.
+#[derive(Drop)]
+pub struct SourceProgress<S> {
+    plan: Plan<S>,
+    rest: Vec<S>,
+}
+
+// Splits a source until its front is estimated at most `most` items, or doesn't split. What stands behind that front is put on the parts.
+fn split_front<S: Spliterator>(source: S, most: u64, rest: &mut Vec<S>) -> Result<S, NoMemory>
+    ensures items { let behind = items_behind S.items in
+        IfOk result (λ front. S.items front ++ behind rest.new.items ≡ S.items source ++ behind rest.old.items) }
+    ensures weight { let behind = weight_behind S.weight in
+        IfOk result (λ front. 2 ^ S.weight front + behind rest.new.items ≤ 2 ^ S.weight source + behind rest.old.items) }
+{
+    let mut front = source;
+    while front.estimate_size() > most {
+        let mut behind = front;
+        let Some(part) = behind.try_split() else {
+            return Ok(front);
+        };
+        rest.push(behind)?;
+        front = part;
+    }
+    Ok(front)
+}
+
+// A segment cut into leaves.
+fn plan_segment<S: Spliterator>(
+    alloc: Global,
+    segment: S,
+    workers: u32,
+    target: u64,
+) -> Result<Plan<S>, NoMemory>
+    requires { IsLawfulRun workers target }
+    ensures items { IfOk result (λ plan. flat_map S.items (leaves_of plan) ≡ S.items segment) }
+    ensures planned { let are = ArePlanned S.estimate S.split_gives segment workers target in
+        IfOk result (λ plan. are (tree_of plan) (leaves_of plan)) }
+{
+    match Plan::make(alloc, segment, workers, target) {
+        Ok(plan) => Ok(plan),
+        Err(PlanError::NoMemory) => Err(NoMemory),
+        Err(PlanError::BadTarget) => unreachable!(),
+    }
+}
+
 impl<S: Spliterator + Drop> Stream for Source<S>
 where
     S::Item: Clone,
 {
-    ghost use Rattle.split_tree.specs.Plan.{tree_of, leaves_of};
-    ghost use Rattle.parallel_streams.specs.Leaves.{ArePlanned, IsCutSource};
+    ghost use Rattle.parallel_streams.specs.Leaves.{IsCutSource};
     ghost use Rattle.parallel_streams.specs.LeafCutLaws.{cut-leaves};
     ghost use Rattle.parallel_streams.specs.Sources.{source_size, source_flags, idle_work, IsSound-source};
-    ghost use Rattle.parallel_streams.specs.LeafLaws.{joined-leaves, count-leaves};
+    ghost use Rattle.parallel_streams.specs.LeafLaws.{joined-leaves, leaves-behind, count-leaves};
 
     type Item = S::Item;
 
-    type Progress = Plan<S>;
+    type Progress = SourceProgress<S>;
 
     type Part = ();
 
@@ -52,21 +100,28 @@ where
 
     ghost told = { λ s. source_flags (S.told s.split) };
 
-    ghost holds = { λ s p. flat_map S.items (leaves_of p) ≡ S.items s.split };
+    ghost holds = { λ _ _. ⊤ };
+
+    ghost left = { λ _ p. flat_map S.items (leaves_of p.plan) ++ items_behind S.items p.rest.items };
+
+    ghost behind = { λ _ p. items_behind S.items p.rest.items };
+
+    ghost still = { λ _ p. weight_behind S.weight p.rest.items };
 
     ghost done = { λ _ _. true };
 
     ghost waiting = { λ _ _. 0 };
 
-    ghost leaves_next = { λ _ p. length (leaves_of p) };
+    ghost leaves_next = { λ _ p. length (leaves_of p.plan) };
 
-    ghost work = { λ _ p. idle_work (length (leaves_of p)) };
+    ghost work = { λ _ p. idle_work (length (leaves_of p.plan)) };
 
-    ghost parts = { λ _ p. map S.items (leaves_of p) };
+    ghost parts = { λ _ p. map S.items (leaves_of p.plan) };
 
     ghost cut_into = { λ s. IsCutSource S.items S.estimate S.split_gives s.split };
 
-    ghost planned = { λ s workers target p. ArePlanned S.estimate S.split_gives s.split workers target (tree_of p) (leaves_of p) };
+    ghost planned = { λ s workers target p. ArePlanned S.estimate S.split_gives s.split workers target (tree_of p.plan) (leaves_of p.plan)
+        × (flat_map S.items (leaves_of p.plan) ≡ S.items s.split) };
 
     ghost reported = { λ _ _ _ entries. entries ≡ [] };
 
@@ -78,11 +133,13 @@ where
 
     ghost reported_law = { λ s workers target p entries done told. told };
 
-    ghost parts_law = { λ s p h done. joined-leaves S.items (S.items s.split) (leaves_of p) h };
+    ghost parts_law = { λ s p held done. leaves-behind S.items (leaves_of p.plan) (items_behind S.items p.rest.items) };
 
-    ghost cut_law = { λ s workers target p held planned done. cut-leaves S.items S.estimate S.split_gives s.split workers target (tree_of p) (leaves_of p) planned };
+    ghost whole_law = { λ s workers target p held planned done. joined-leaves S.items (S.items s.split) (leaves_of p.plan) planned.1 };
 
-    ghost parts_count = { λ s p done. count-leaves S.items (leaves_of p) };
+    ghost cut_law = { λ s workers target p held planned done. cut-leaves S.items S.estimate S.split_gives s.split workers target (tree_of p.plan) (leaves_of p.plan) planned.0 };
+
+    ghost parts_count = { λ s p done. count-leaves S.items (leaves_of p.plan) };
 
     fn known_size(&self) -> Option<u64> {
         self.split.exact_size()
@@ -92,37 +149,74 @@ where
         StreamFlags::of(self.split.characteristics())
     }
 
-    fn start(&self, alloc: Global, workers: u32, target: u64) -> Result<Plan<S>, NoMemory> {
-        match Plan::make(alloc, self.split, workers, target) {
-            Ok(plan) => Ok(plan),
-            Err(PlanError::NoMemory) => Err(NoMemory),
-            Err(PlanError::BadTarget) => unreachable!(),
-        }
+    fn start(
+        &self,
+        alloc: Global,
+        workers: u32,
+        target: u64,
+        most: Option<u64>,
+    ) -> Result<SourceProgress<S>, NoMemory> {
+        let mut rest = Vec::new(alloc);
+        let first = match most {
+            Some(most) => split_front(self.split, most, &mut rest)?,
+            None => self.split,
+        };
+        let plan = plan_segment(alloc, first, workers, target)?;
+        Ok(SourceProgress { plan, rest })
     }
 
-    fn is_gathered(&self, _plan: &Plan<S>) -> bool {
+    fn is_last(&self, progress: &SourceProgress<S>) -> bool {
+        progress.rest.is_empty()
+    }
+
+    fn go_on(
+        &self,
+        alloc: Global,
+        progress: SourceProgress<S>,
+        workers: u32,
+        target: u64,
+        most: u64,
+    ) -> Result<SourceProgress<S>, NoMemory> {
+        let mut rest = progress.rest;
+        let Some(next) = rest.pop() else {
+            unreachable!()
+        };
+        let first = split_front(next, most, &mut rest)?;
+        let plan = plan_segment(alloc, first, workers, target)?;
+        Ok(SourceProgress { plan, rest })
+    }
+
+    fn segment_size(&self, progress: &SourceProgress<S>) -> Option<u64> {
+        let mut size: u64 = 0;
+        for leaf in 0..progress.plan.leaves() {
+            size = size.saturating_add(progress.plan.leaf(leaf).exact_size()?);
+        }
+        Some(size)
+    }
+
+    fn is_gathered(&self, _progress: &SourceProgress<S>) -> bool {
         true
     }
 
-    fn leaves(&self, plan: &Plan<S>) -> usize {
-        plan.leaves()
+    fn leaves(&self, progress: &SourceProgress<S>) -> usize {
+        progress.plan.leaves()
     }
 
-    fn tree<'p>(&self, plan: &'p Plan<S>) -> &'p Tree {
+    fn tree<'p>(&self, progress: &'p SourceProgress<S>) -> &'p Tree {
         // The number promises that the leaves are few.
-        let _few = plan.leaves();
-        plan.tree()
+        let _few = progress.plan.leaves();
+        progress.plan.tree()
     }
 
     // No barrier needs anything, no leaf is run for one, and there is nothing to gather.
-    fn need(&self, _plan: &Plan<S>) -> Need {
+    fn need(&self, _progress: &SourceProgress<S>) -> Need {
         Need::Never
     }
 
     fn run_barrier_leaf<L: Handout>(
         &self,
         _alloc: Global,
-        _plan: &Plan<S>,
+        _progress: &SourceProgress<S>,
         _board: &L,
         _seat: &mut L::Seat,
         _leaf: usize,
@@ -133,7 +227,7 @@ where
     fn combine(
         &self,
         _alloc: Global,
-        _plan: &Plan<S>,
+        _progress: &SourceProgress<S>,
         _kept: &mut (),
         _following: (),
     ) -> Result<(), NoMemory> {
@@ -143,24 +237,24 @@ where
     fn gather(
         &self,
         _alloc: Global,
-        plan: Plan<S>,
+        progress: SourceProgress<S>,
         _part: (),
         _entry: &RunEntry,
         _workers: u32,
         _target: u64,
-    ) -> Result<Plan<S>, NoMemory> {
-        Ok(plan)
+    ) -> Result<SourceProgress<S>, NoMemory> {
+        Ok(progress)
     }
 
     fn feed_last_leaf<G: Stage<In = S::Item>, K: Sink<G::Out>>(
         &self,
         alloc: Global,
-        plan: &Plan<S>,
+        progress: &SourceProgress<S>,
         stage: &G,
         leaf: usize,
         sink: &mut K,
     ) -> Result<(), NoMemory> {
-        feed_whole(alloc, stage, plan.leaf(leaf), sink)
+        feed_whole(alloc, stage, progress.plan.leaf(leaf), sink)
     }
 
     fn run_last_leaf<
@@ -171,12 +265,12 @@ where
     >(
         &self,
         alloc: Global,
-        plan: &Plan<S>,
+        progress: &SourceProgress<S>,
         reading: &Reading<'_, G, D, C>,
         board: &L,
         seat: &mut L::Seat,
         leaf: usize,
     ) -> Result<LeafEnd<C::Acc>, NoMemory> {
-        read_leaf(alloc, plan.leaf(leaf), reading, board, seat, leaf)
+        read_leaf(alloc, progress.plan.leaf(leaf), reading, board, seat, leaf)
     }
 }

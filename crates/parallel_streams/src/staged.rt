@@ -1,7 +1,7 @@
 //! A stateless stage behind a stream.
 ghost use Rattle.std.specs.Prelude.{flat_map, map, refl};
 ghost use Rattle.parallel_streams.specs.Leaves.{AreThrough};
-ghost use Rattle.parallel_streams.specs.LeafLaws.{joined-through, count-through};
+ghost use Rattle.parallel_streams.specs.LeafLaws.{joined-through, left-through, count-through};
 ghost use Rattle.stages.specs.Flags.{after};
 
 use crate::Stream;
@@ -42,6 +42,12 @@ where
 
     ghost holds = { λ s. U.holds s.upstream };
 
+    ghost left = { λ s p. flat_map (A.expand s.stage) (U.left s.upstream p) };
+
+    ghost behind = { λ s p. flat_map (A.expand s.stage) (U.behind s.upstream p) };
+
+    ghost still = { λ s. U.still s.upstream };
+
     ghost done = { λ s. U.done s.upstream };
 
     ghost waiting = { λ s. U.waiting s.upstream };
@@ -66,7 +72,9 @@ where
 
     ghost reported_law = { λ s. U.reported_law s.upstream };
 
-    ghost parts_law = { λ s p held done. joined-through (A.expand s.stage) (U.parts s.upstream p) (U.value s.upstream) (U.parts_law s.upstream p held done) };
+    ghost parts_law = { λ s p held done. left-through (A.expand s.stage) (U.parts s.upstream p) (U.left s.upstream p) (U.behind s.upstream p) (U.parts_law s.upstream p held done) };
+
+    ghost whole_law = { λ s workers target p held planned done. joined-through (A.expand s.stage) (U.parts s.upstream p) (U.value s.upstream) (U.whole_law s.upstream workers target p held planned done) };
 
     ghost cut_law = { λ s workers target p held planned done. (U.parts s.upstream p, U.cut_law s.upstream workers target p held planned done, refl) };
 
@@ -80,8 +88,37 @@ where
         self.upstream.flags().after(self.stage.operation())
     }
 
-    fn start(&self, alloc: Global, workers: u32, target: u64) -> Result<U::Progress, NoMemory> {
-        self.upstream.start(alloc, workers, target)
+    fn has_barrier(&self) -> bool {
+        self.upstream.has_barrier()
+    }
+
+    fn start(
+        &self,
+        alloc: Global,
+        workers: u32,
+        target: u64,
+        most: Option<u64>,
+    ) -> Result<U::Progress, NoMemory> {
+        self.upstream.start(alloc, workers, target, most)
+    }
+
+    fn is_last(&self, progress: &U::Progress) -> bool {
+        self.upstream.is_last(progress)
+    }
+
+    fn go_on(
+        &self,
+        alloc: Global,
+        progress: U::Progress,
+        workers: u32,
+        target: u64,
+        most: u64,
+    ) -> Result<U::Progress, NoMemory> {
+        self.upstream.go_on(alloc, progress, workers, target, most)
+    }
+
+    fn segment_size(&self, progress: &U::Progress) -> Option<u64> {
+        self.stage.size_after(self.upstream.segment_size(progress))
     }
 
     fn is_gathered(&self, progress: &U::Progress) -> bool {

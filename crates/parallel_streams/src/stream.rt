@@ -1,5 +1,5 @@
 //! What a lazy stream is.
-ghost use Rattle.std.specs.Prelude.{◌≡◌, ◌<◌, ◌≤◌, ◌^◌, ◌++◌, ◌∷◌, [], ℕ, Bool, true, false, List, Option, not, pos, fold, option_map, IsSome, IsOk, IfOk, IfErr, OnOk, flat_map, map, length, slice_index_or, ⊤};
+ghost use Rattle.std.specs.Prelude.{◌≡◌, ◌<◌, ◌≤◌, ◌^◌, ◌++◌, ◌∷◌, [], ℕ, Bool, true, false, List, Option, not, pos, fold, option_map, None, IsSome, IfSome, IfNone, IsOk, IfOk, OnOk, flat_map, map, length, slice_index_or, ⊤};
 ghost use Rattle.barriers.specs.Needs.{need_of, IsBelow};
 ghost use Rattle.leaf_board.specs.Statuses.{SameFrom, StaysSeat};
 ghost use Rattle.split_tree.specs.SplitTree.{leaf_numbers, numbers_from};
@@ -18,7 +18,7 @@ ghost use Rattle.collectors.specs.Grouping.{contents};
 ghost use Rattle.collectors.specs.StrictMaps.{IsFirstRepeat, IsStrictMap};
 ghost use Rattle.parallel_streams.specs.Cuts.{cut_at};
 ghost use Rattle.parallel_streams.specs.Ends.{ends_of};
-ghost use Rattle.parallel_streams.specs.Progress.{IsListed};
+ghost use Rattle.parallel_streams.specs.Progress.{IsCut};
 ghost use Rattle.parallel_streams.specs.MapErrors.{MapAnswersUnder, IfDuplicate};
 ghost use Rattle.parallel_streams.specs.Reports.{IsReportedRun};
 ghost use Rattle.parallel_streams.specs.Runs.{IsLawfulRun, AnswersUnder};
@@ -26,13 +26,14 @@ ghost use Rattle.parallel_streams.specs.Terminals.{any_meets, all_meet, IsLeftId
 
 use crate::barred::Barred;
 use crate::contrary::Contrary;
-use crate::evaluate::{collect_enough, evaluate, some_counts};
+use crate::evaluate::evaluate;
 use crate::part::Listed;
+use crate::segments::{container_of, first_item, some_counts};
 use crate::settings::allow;
 use crate::staged::Staged;
 use crate::{MapError, Run, StreamError};
-use barriers::{Demand, Distinct, DropWhile, FirstHit, Limit, Need, Skip, TakeWhile, Total, Whole};
-use collectors::{Collector, Counting, First, Reducing, ToMapStrict};
+use barriers::{Demand, Distinct, DropWhile, FirstHit, Limit, Need, Skip, TakeWhile};
+use collectors::{Collector, Counting, Reducing, ToMapStrict, finish_container};
 use indexmap::IndexMap;
 use leaf_board::Handout;
 use leaf_reading::{LeafEnd, Reading};
@@ -46,13 +47,14 @@ use stealing_pool::{Gate, RunEntry, RunReport};
 
 /// A list of items that nobody has read yet: a source, and the operations that its items go through.
 ///
-/// A stream with barriers runs once for each barrier and once for the terminal operation. Its methods are what one thread does; no
-/// caller needs them but the terminal operations, which start the threads.
+/// A stream with barriers runs over one segment of its source after another: in each once for each barrier, and once for the terminal operation.
+/// Its methods are what one thread does; no caller needs them but the terminal operations, which start the threads.
 // java.util.stream.Stream
 pub trait Stream {
     type Item: OrderedValue + Clone + Drop;
 
-    /// The lists that the barriers left so far, and how the next run's list is cut into leaves.
+    /// The lists that the barriers left so far of the present segment, how the next run's list is cut into leaves, and what stands behind the
+    /// segment.
     type Progress: Drop;
 
     /// What is kept of leaves in a barrier's run.
@@ -72,6 +74,14 @@ pub trait Stream {
     // the progress is one of this stream's
     ghost holds: { Self → Self.Progress → Type 0 };
 
+    // the items of the present segment and of those behind it, and of those behind it alone
+    ghost left: { Self → Self.Progress → List Self.Item.Content };
+
+    ghost behind: { Self → Self.Progress → List Self.Item.Content };
+
+    // falls with each segment, and is 0 where none is behind the present one
+    ghost still: { Self → Self.Progress → ℕ };
+
     // whether all barriers have run, and how many have not
     ghost done: { Self → Self.Progress → Bool };
 
@@ -89,7 +99,7 @@ pub trait Stream {
     // with so many workers and this target: into which lists the stream's items are cut for the leaves of a run
     ghost cut_into: { Self → ℕ → ℕ → List (List Self.Item.Content) → Type 0 };
 
-    // .. the leaves of the next run are cut so
+    // .. the present segment is the whole, and the leaves of the next run are cut so
     ghost planned: { Self → ℕ → ℕ → Self.Progress → Type 0 };
 
     // .. the entries are those of the barriers' runs, in order; and those of the runs so far
@@ -105,12 +115,50 @@ pub trait Stream {
     fn flags(&self) -> StreamFlags
         ensures { result ≡ told self.now };
 
-    /// Nothing has run; the source is cut into leaves.
-    fn start(&self, alloc: Global, workers: u32, target: u64) -> Result<Self::Progress, NoMemory>
+    /// Whether some operation looks at more than one item, so that the stream had better run by segments.
+    fn has_barrier(&self) -> bool {
+        false
+    }
+
+    /// Nothing has run. The source is cut into leaves: all of it, or a first segment that it estimates at most `most` items, as far as it splits.
+    fn start(
+        &self,
+        alloc: Global,
+        workers: u32,
+        target: u64,
+        most: Option<u64>,
+    ) -> Result<Self::Progress, NoMemory>
         requires { IsLawfulRun workers target }
         ensures holds { IfOk result (holds self.now) }
-        ensures planned { IfOk result (planned self.now workers target) }
+        ensures left { IfOk result (λ progress. left self.now progress ≡ value self.now) }
+        ensures planned { most ≡ None → IfOk result (planned self.now workers target) }
         ensures entries { IfOk result (λ progress. told_so_far self.now workers target progress []) };
+
+    /// Whether no item comes behind the present segment.
+    fn is_last(&self, progress: &Self::Progress) -> bool
+        ensures last { result ≡ true → behind self.now progress.now ≡ [] }
+        ensures later { result ≡ false → 0 < still self.now progress.now };
+
+    /// The segment behind the present one, cut into leaves. Its source estimates it at most `most` items, as far as it splits.
+    fn go_on(
+        &self,
+        alloc: Global,
+        progress: Self::Progress,
+        workers: u32,
+        target: u64,
+        most: u64,
+    ) -> Result<Self::Progress, NoMemory>
+        requires settings { IsLawfulRun workers target }
+        requires holds { holds self.now progress }
+        requires later { 0 < still self.now progress }
+        ensures holds { IfOk result (holds self.now) }
+        ensures left { IfOk result (λ next. left self.now next ≡ behind self.now progress) }
+        ensures still { IfOk result (λ next. still self.now next < still self.now progress) };
+
+    /// The number of items of the present segment, as far as it is known. It is no promise.
+    fn segment_size(&self, _progress: &Self::Progress) -> Option<u64> {
+        None
+    }
 
     /// Whether all barriers have run.
     fn is_gathered(&self, progress: &Self::Progress) -> bool
@@ -176,20 +224,26 @@ pub trait Stream {
         requires part { StandsForRun (work self.now progress) part }
         requires entry { Reports (work self.now progress).needed (work self.now progress).leaves (work self.now progress).full entry.now.leaves (count_of entry.now) (cut_of entry.now) }
         ensures holds { IfOk result (holds self.now) }
-        ensures planned { planned self.now workers target progress
+        ensures left { done self.now progress ≡ false
+            → IfOk result (λ after. left self.now after ≡ left self.now progress) }
+        ensures still { IfOk result (λ after. still self.now after ≡ still self.now progress) }
+        ensures planned { done self.now progress ≡ false → planned self.now workers target progress
             → IfOk result (planned self.now workers target) }
         ensures entries { done self.now progress ≡ false → planned self.now workers target progress
             → (entries : List Outcome) → told_so_far self.now workers target progress entries
             → IfOk result (λ after. told_so_far self.now workers target after (entries ++ entry.now ∷ [])) }
         ensures fewer { done self.now progress ≡ false → IfOk result (λ after. waiting self.now after < waiting self.now progress) };
 
-    /// The last barrier's list, where its items are all of the stream's as they are; else how far the stream has come.
-    fn into_listed(&self, progress: Self::Progress) -> Result<Listed<Self::Item>, Self::Progress>
-        ensures listed { holds self.now progress → IfOk result (IsListed Self.Item.content (value self.now)) }
-        ensures parts { IfOk result (λ listed. parts self.now progress ≡ cut_at 0 (ends_of listed.places) (map Self.Item.content listed.items.items)) }
-        ensures same { IfErr result (λ unread. unread ≡ progress) }
+    /// Takes the last barrier's list, where its items are all of the segment's as they are. The segment is read then.
+    fn take_listed(&self, progress: &mut Self::Progress) -> Option<Listed<Self::Item>>
+        ensures cut { holds self.now progress.old → IfSome result IsCut }
+        ensures parts { IfSome result (λ listed. parts self.now progress.old ≡ cut_at 0 (ends_of listed.places) (map Self.Item.content listed.items.items)) }
+        ensures none { IfNone result (progress.new ≡ progress.old) }
+        ensures holds { holds self.now progress.old → holds self.now progress.new }
+        ensures behind { behind self.now progress.new ≡ behind self.now progress.old }
+        ensures still { still self.now progress.new ≡ still self.now progress.old }
     {
-        Err(progress)
+        None
     }
 
     /// Feeds a leaf of the last run through a stage to a sink.
@@ -252,8 +306,14 @@ pub trait Stream {
         → done s p ≡ true → told_so_far s workers target p entries
         → reported s workers target entries };
 
-    // the lists of the last run's leaves are the stream's, cut
-    ghost parts_law: { (s : Self) (p : Self.Progress) → holds s p → done s p ≡ true → joined (parts s p) ≡ value s };
+    // the lists of the last run's leaves are the segment's, cut
+    ghost parts_law: { (s : Self) (p : Self.Progress) → holds s p → done s p ≡ true
+        → left s p ≡ joined (parts s p) ++ behind s p };
+
+    // where the segment is the whole, they are the stream's
+    ghost whole_law: { (s : Self) (workers target : ℕ) (p : Self.Progress)
+        → holds s p → planned s workers target p → done s p ≡ true
+        → joined (parts s p) ≡ value s };
 
     // and they are cut as the settings say
     ghost cut_law: { (s : Self) (workers target : ℕ) (p : Self.Progress)
@@ -414,8 +474,8 @@ pub trait Stream {
         ensures settings { AnswersUnder run.now.workers run.now.target result }
         ensures value { IfOk result (C.gives collector.now (value self.now)) }
     {
-        let (value, _report) = self.collect_reported(rt, alloc, run, collector)?;
-        Ok(value)
+        let acc = container_of(rt, alloc, run, self, collector)?;
+        Ok(finish_container(collector, acc)?)
     }
 
     /// The result of a collector on all the items, and what each run tells of its leaves: one entry a barrier, and then the last
@@ -496,7 +556,8 @@ pub trait Stream {
         ensures settings { AnswersUnder run.now.workers run.now.target result }
         ensures value { IfOk result (λ found. option_map Self.Item.content found ≡ first (value self.now)) }
     {
-        collect_enough(rt, alloc, self, run, &Total::new(1), &First::new())
+        allow(run.workers, run.target)?;
+        Ok(first_item(rt, alloc, self, run)?)
     }
 
     /// Whether some item meets the test. What follows the first one may stay unread.
@@ -518,7 +579,8 @@ pub trait Stream {
         ensures settings { AnswersUnder run.now.workers run.now.target result }
         ensures value { IfOk result (λ met. met ≡ any_meets (P.holds test.now) (value self.now)) }
     {
-        some_counts(rt, alloc, self, run, &FirstHit::new(test))
+        allow(run.workers, run.target)?;
+        Ok(some_counts(rt, alloc, self, run, &FirstHit::new(test))?)
     }
 
     /// Whether every item meets the test, as where there is no item. What follows one that does not may stay unread.
@@ -614,7 +676,9 @@ pub trait Stream {
         ensures settings { AnswersUnder run.now.workers run.now.target result }
         ensures value { IfOk result (λ joined. Self.Item.content joined ≡ fold (O.join operator.now) (Self.Item.content identity) (value self.now)) }
     {
-        match collect_enough(rt, alloc, self, run, &Whole, &Reducing::new(operator))? {
+        let reducing = Reducing::new(operator);
+        let acc = container_of(rt, alloc, run, self, &reducing)?;
+        match finish_container(&reducing, acc)? {
             Some(joined) => Ok(joined),
             None => Ok(identity),
         }

@@ -1,8 +1,8 @@
 //! Numbers: a sum of squares, a first one, those that differ, and a front with what its run tells of its leaves.
 use crate::square::Square;
 use mohairjade::{
-    Above, Below, Engine, Even, Filter, Map, NoGate, RangeSplit, Run, RunReport, SliceSplit,
-    Stream, StreamError, Then, Times, ToList, WrapAdd, collect_limited, of,
+    Above, Below, Even, NoGate, RangeSplit, Run, RunReport, SliceSplit, Stream, StreamError, Times,
+    ToList, WrapAdd, of,
 };
 use std::alloc::Global;
 use std::thread::Threads;
@@ -47,14 +47,13 @@ pub fn front<R: Threads + Alloc<A = Global> + Sync>(
     front.collect_reported(rt, rt.alloc(), run, &ToList::new(rt.alloc()))
 }
 
-/// `numbers.filter(x -> x % 2 == 0).map(x -> x * 3).limit(2).toArray()`, of which no list is made on the way.
+/// `numbers.filter(x -> x % 2 == 0).map(x -> x * 3).limit(2).toArray()`
 pub fn two_threefold<R: Threads + Alloc<A = Global> + Sync>(
     rt: &R,
     run: &Run<'_, NoGate>,
     numbers: &[i64],
 ) -> Result<Vec<i64>, StreamError> {
-    let engine = Engine::new(rt, rt.alloc(), run)?;
-    let threefold = Then::new(Filter::new(Even), Map::new(Times(3)));
-    let list = ToList::new(rt.alloc());
-    Ok(collect_limited(&engine, SliceSplit::new(numbers), &threefold, 2, &list)?)
+    let threefold = of(SliceSplit::new(numbers)).filter(Even).map(Times(3));
+    let first = threefold.limit(2);
+    first.collect(rt, rt.alloc(), run, &ToList::new(rt.alloc()))
 }

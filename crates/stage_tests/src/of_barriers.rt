@@ -2,6 +2,8 @@
 ghost use Rattle.std.specs.Prelude.{pos, ◌+ℤ◌};
 ghost use Rattle.stages.specs.Wrapping.{wrapped_sum, wrapped-value};
 
+mod carrying;
+
 use barriers::{
     Barrier, Demand, Distinct, DropWhile, FirstHit, Limit, Need, Skip, TakeWhile, Total, Whole,
 };

@@ -1,10 +1,8 @@
-//! The tests of `stream_terminals`, `sorted_streams`, `joined_streams` and `fused_runs`.
+//! The tests of `stream_terminals`, `sorted_streams` and `joined_streams`.
 #![tactic(auto)]
 
 #[cfg(test)]
 mod each_terminal;
-#[cfg(test)]
-mod of_fused_runs;
 #[cfg(test)]
 mod of_joined_streams;
 #[cfg(test)]

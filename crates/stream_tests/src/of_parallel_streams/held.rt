@@ -1,7 +1,9 @@
 //! Workers that a gate holds: what is found right of a held leaf takes nobody's place.
 ghost use Rattle.std.specs.Prelude.{pos, int_lt};
 
-use super::answers::{check, check_list, counted, limited, listed, numbers, same, sum_of};
+use super::answers::{
+    check, check_items, check_list, limited, listed, numbers, reported, same, sum_of,
+};
 use super::at;
 use super::gates::Watch;
 use super::reports::{Entry, check_report};
@@ -112,8 +114,9 @@ fn a_leaf_in_blocks_asks_each_1024_items_whether_it_was_cut(
 ) -> Result<(), StreamError> {
     let gate = Watch::until(2, 0);
     let above = numbers(&rt, 0, 8192).take_while(Not(Watched { gate: &gate }));
-    let number = counted(&rt, &by_two(4096, &gate), &above);
-    check_cut(&rt, &gate, number, 0)
+    let found = reported(&rt, &by_two(4096, &gate), &above);
+    let told = check_items(&rt, gate.all_came().and(found), &[]);
+    told.and(check(&rt, Ok(gate.asked.load(Ordering::SeqCst)), 1024))
 }
 
 #[test]

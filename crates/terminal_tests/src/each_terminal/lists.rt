@@ -113,10 +113,9 @@ pub fn is_right<R: Threads + Abort + Alloc<A = Global> + Sync>(
             found.len() == items as usize && are_by_digits(found.as_slice(), i64::from(items))
         }
         List::FirstSorted => {
-            let first = FirstSorted::<i64, _>::new(alloc, Modulo::by(10), 100);
+            let first = FirstSorted::<i64, _>::new(alloc, Itself, 100);
             let found = all.collect(rt, alloc, run, &first)?;
-            found.len() == items.min(100) as usize
-                && are_by_digits(found.as_slice(), i64::from(items))
+            are_all(found.as_slice(), items.min(100))
         }
         List::SortedList => {
             let shuffled = all.map(Times(PRIME)).map(below(items));

@@ -23,9 +23,14 @@ enum Terminal {
     Behind(behind::Behind),
 }
 
+/// The numbers from 0 on, below an end.
+fn numbers_below(rt: &impl Abort, end: i64) -> Source<RangeSplit> {
+    of(RangeSplit::range(0, end).expect(rt, "a range"))
+}
+
 /// The numbers from 0 on, so many of them.
 fn numbers(rt: &impl Abort, items: u32) -> Source<RangeSplit> {
-    of(RangeSplit::range(0, i64::from(items)).expect(rt, "a range"))
+    numbers_below(rt, i64::from(items))
 }
 
 /// The sum of these numbers.
@@ -95,11 +100,18 @@ static ALL: [(&str, Terminal, u64); 28] = [
 /// Workers, a target, and how many leaves the split rule cuts 40 items into.
 static SETTINGS: [(u32, u64, u64); 4] = [(1, 0, 4), (3, 5, 8), (5, 0, 24), (5, 3, 16)];
 
+// One worker runs a short segment.
 #[test]
 fn each_has_its_workers_and_leaves(rt: HostRuntime) -> Result<(), StreamError> {
     for &(name, terminal, runs) in &ALL {
         for &(workers, target, leaves) in &SETTINGS {
-            let gate = &Workers::new(workers, leaves);
+            let is_short = matches!(terminal, Terminal::Behind(behind) if behind.has_segments());
+            let (wanted, leaves) = match is_short {
+                true if target == 0 => (1, 4),
+                true => (1, leaves),
+                false => (workers, leaves),
+            };
+            let gate = &Workers::new(wanted, leaves);
             let run = Run {
                 workers,
                 target,
@@ -138,6 +150,75 @@ fn the_named_are_right(rt: HostRuntime) -> Result<(), Fail> {
                 gate: &Workers::new(0, 1),
             };
             assert!(rt; is_right(&rt, &run, terminal, items)?, "{name}");
+        }
+    }
+    Ok(())
+}
+
+// Segments are cut where there are 1,280, 2,560, 5,120 and 10,240 of 20,480 numbers.
+#[test]
+fn barriers_cut_at_each_place_of_segments(rt: HostRuntime) -> Result<(), StreamError> {
+    for &(name, terminal, _) in &ALL {
+        let Terminal::Behind(behind) = terminal else {
+            continue;
+        };
+        for workers in [1, 2, 7, 64] {
+            let gate = &Workers::new(0, 1);
+            let run = Run {
+                workers,
+                target: 0,
+                gate,
+            };
+            for cut in [
+                0, 1, 1_279, 1_280, 1_281, 2_560, 5_119, 10_241, 20_479, 20_480, 20_481,
+            ] {
+                let found = behind::sum_behind(&rt, &run, behind, 20_480, cut)?;
+                let wanted = behind::wanted(behind, 20_480, cut);
+                assert!(rt;
+                    found == wanted,
+                    "{name} at {cut}: {found} in the place of {wanted}"
+                );
+            }
+        }
+    }
+    Ok(())
+}
+
+// A segment by one worker has leaves 0 to 3 alone.
+#[test]
+fn long_segments_have_all_workers(rt: HostRuntime) -> Result<(), StreamError> {
+    for &(name, terminal, _) in &ALL {
+        if !matches!(terminal, Terminal::Behind(_)) {
+            continue;
+        }
+        let gate = &Workers::from_leaf(4, 4);
+        let run = Run {
+            workers: 4,
+            target: 0,
+            gate,
+        };
+        let is_right = is_right(&rt, &run, terminal, 1 << 17)?;
+        let (_, missed) = gate.counts();
+        assert!(rt;
+            is_right && missed == 0 && gate.workers() == 4,
+            "{name}: {is_right}, {missed}"
+        );
+    }
+    Ok(())
+}
+
+// The fronts of the greatest range, which nobody could read.
+#[test]
+fn fronts_of_a_great_source_end(rt: HostRuntime) -> Result<(), StreamError> {
+    for behind in [behind::Behind::Limit, behind::Behind::TakeWhile] {
+        for cut in [0, 1, 5_000, 100_000] {
+            let run = Run {
+                workers: 4,
+                target: 0,
+                gate: &Workers::new(0, 1),
+            };
+            let found = behind::sum_behind(&rt, &run, behind, 1 << 62, cut)?;
+            assert!(rt; found == sum_of(cut), "{cut}: {found}");
         }
     }
     Ok(())

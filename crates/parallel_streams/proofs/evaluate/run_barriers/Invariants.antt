@@ -1,10 +1,14 @@
+use Rattle.std.proofs.Common.{◌≡◌, []}
 use Rattle.parallel_streams.proofs.evaluate.run_barriers.Given as goal
 
 abbrev pub invariant-loop-alloc : goal.invariant-loop-alloc
 invariant-loop-alloc g l = record {
   holds : g.X.Stream.holds l.stream l.progress;
-  planned : g.X.Stream.planned l.stream l.run.workers l.run.target l.progress;
-  told : g.X.Stream.told_so_far l.stream l.run.workers l.run.target l.progress l.entries.items;
+  left : g.X.Stream.left l.stream l.progress ≡ g.X.Stream.left l.stream l.fn.progress;
+  still : g.X.Stream.still l.stream l.progress ≡ g.X.Stream.still l.stream l.fn.progress;
+  planned : g.X.Stream.planned l.stream l.run.workers l.run.target l.fn.progress → g.X.Stream.planned l.stream l.run.workers l.run.target l.progress;
+  told : g.X.Stream.planned l.stream l.run.workers l.run.target l.fn.progress → g.X.Stream.told_so_far l.stream l.run.workers l.run.target l.fn.progress []
+      → g.X.Stream.told_so_far l.stream l.run.workers l.run.target l.progress l.entries.items;
 }
 
 abbrev pub decreases-loop-alloc : goal.decreases-loop-alloc

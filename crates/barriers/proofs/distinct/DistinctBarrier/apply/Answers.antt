@@ -7,4 +7,4 @@ pub returns : goal.returns
 returns g c =
     let keys : c.in_ok-first_ones.first_ones.keys ≡ fold (insert_key g.T.PartialEq.eq) [] c.args.items.items = search rules in
     let items : c.in_ok-collect.field-0.items ≡ c.in_ok-first_ones.first_ones.keys = search rules in
-    ap (map g.T.Value.content) (items ∙ keys) ∙ kept-distinct g.T.Value.content g.T.PartialEq.eq g.T.Value.same g.met.T.Value.same_decides g.met.T.Value.eq_is_same c.args.items.items
+    ap (map g.T.Value.content) (items ∙ keys) ∙ kept-distinct g.T.Value.same g.met.T.Value.same_decides g.T.Value.content g.T.PartialEq.eq g.met.T.Value.eq_is_same c.args.items.items

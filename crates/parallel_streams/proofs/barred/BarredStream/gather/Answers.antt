@@ -1,64 +1,102 @@
-use Rattle.std.proofs.Common.{rules, List, Option, ℕ, sym, length, map, subst, refl, ap, ◌∙◌}
-use Rattle.leaf_board.specs.Closing.{cut_of}
-use Rattle.parallel_streams.specs.Cuts.{Ascends}
-use Rattle.parallel_streams.specs.Progress.{IsToldBy}
+use Rattle.std.proofs.Common.{◌≡◌, ◌++◌, List, Option, ℕ, Bool, sym, length, map, subst, refl, ap, ◌∙◌}
+use Rattle.std.specs.Option.{is_some}
+use Rattle.leaf_board.specs.Closing.{count_of, cut_of}
+use Rattle.stealing_pool.specs.Reports.{Reports}
+use Rattle.stealing_pool.specs.Spans.{full_count, joined}
+use Rattle.barriers.specs.Needs.{IsToldBy}
 use Rattle.parallel_streams.specs.Ends.{ends_of}
-use Rattle.parallel_streams.specs.ProgressLaws.{told-before}
+use Rattle.parallel_streams.specs.Leaves.{AreLeafEnds}
+use Rattle.parallel_streams.specs.ProgressLaws.{told-before, left-unlisted, fresh-unlisted}
 use Rattle.parallel_streams.specs.Reports.{IsEntryOf, IsReport}
-use Rattle.parallel_streams.proofs.Gathering.{gathered-own, gathered-told}
+use Rattle.parallel_streams.proofs.Gathering.{kept-own, goes-on, kept-value}
+use Rattle.parallel_streams.proofs.Harmless.{is-entry}
 use Rattle.parallel_streams.proofs.barred.BarredStream.gather.Goals as goal
 
-pub returns-clause-holds : goal.returns-clause-holds
-returns-clause-holds g c =
+pub carry-requires-clause-told : goal.carry-requires-clause-told
+carry-requires-clause-told g c =
     let s = c.args.self.now in
     let U = g.U.Stream in
     let p = c.args.progress.before in
-    let held = c.requires.holds in
-    let value = λ (l : List g.row.U-Item.Denot). g.B.Barrier.value s.barrier (map g.U.Item.Value.content l) in
-    let Q : List _ → Type 0 = λ l. Ascends 0 (length l) (ends_of c.in_ok-places-in-Own.places) in
-    let made = gathered-own (U.work s.upstream p) g.U.Item.Value.is_value (g.B.Demand.needed s.barrier) (g.B.Demand.counted s.barrier) (g.B.Barrier.value s.barrier) (g.met.B.Barrier.enough_law s.barrier)
-    g.U.Item.Value.content (U.value s.upstream) (U.parts s.upstream p) (U.done s.upstream p) (g.met.U.Stream.parts_law s.upstream p held.0) c.args.part c.in-Own.pieces c.in_ok-items-in-Own.items c.in_ok-places-in-Own.places c.args.entry.now c.in-Own.is c.requires.part c.requires.entry (c.in_ok-items-in-Own.ensures ∙ ap value c.in_ok-list-in-Own.ensures) (subst Q c.as_slice.ensures.value c.in_ok-places-in-Own.ensures.order) in
-    (held.0, made.1)
+    let content = g.U.Item.Value.content in
+    let needed = g.B.Barrier.needed_behind s.barrier c.args.progress.state in
+    let counted = g.B.Demand.counted s.barrier in
+    let kept = kept-own (U.work s.upstream p) g.U.Item.Value.is_value needed counted content (U.parts s.upstream p) (U.done s.upstream p) c.args.part c.in-Own.pieces c.args.entry.now c.in-Own.is c.requires.part c.requires.entry in
+    let P : List _ → Type 0 = λ l. IsToldBy needed counted (map content l) (is_some (cut_of c.args.entry.now)) in
+    let Q : Bool → Type 0 = λ is_cut. IsToldBy needed counted (map content c.in_ok-list-in-Own.list.items) is_cut in
+    subst Q (sym (c.is_some-is_cut.ensures ∙ ap is_some c.cut.ensures)) (subst P (sym c.in_ok-list-in-Own.ensures) kept.2)
 
-pub returns-clause-entries : goal.returns-clause-entries
-returns-clause-entries g c = λ left planned entries told.
+pub returns-clause-left : goal.returns-clause-left
+returns-clause-left g c = λ waits.
     let s = c.args.self.now in
     let U = g.U.Stream in
+    let B = g.B.Barrier in
     let p = c.args.progress.before in
-    let held = c.requires.holds in
+    let content = g.U.Item.Value.content in
+    let old = B.value_behind s.barrier c.args.progress.state in
+    let now = B.value_behind s.barrier c.carry.new.state in
+    let needed = B.needed_behind s.barrier c.args.progress.state in
+    let counted = g.B.Demand.counted s.barrier in
+    let lists = U.parts s.upstream p in
+    let behind = U.behind s.upstream p in
+    let kept = kept-own (U.work s.upstream p) g.U.Item.Value.is_value needed counted content lists (U.done s.upstream p) c.args.part c.in-Own.pieces c.args.entry.now c.in-Own.is c.requires.part c.requires.entry in
+    let front = map content c.in-Own.pieces in
+    let items = map content c.in_ok-items-in-Own.items.items in
+    let carried : (more : List _) → old (front ++ more) ≡ items ++ now more = λ more. ap (λ l. old (map content l ++ more)) (sym c.in_ok-list-in-Own.ensures) ∙ c.in_ok-items-in-Own.ensures more in
+    let on = goes-on needed counted old now (g.met.B.Barrier.enough_behind s.barrier c.args.progress.state) (joined lists) front items kept.1 carried behind in
+    let split = g.met.U.Stream.parts_law s.upstream p c.requires.holds.0 kept.0 in
+    sym on ∙ ap old (sym split) ∙ sym (left-unlisted content old (U.left s.upstream p) behind c.args.progress.listed waits)
+
+pub returns-clause-planned : goal.returns-clause-planned
+returns-clause-planned g c = λ waits planned.
+    let s = c.args.self.now in
+    let U = g.U.Stream in
+    let B = g.B.Barrier in
+    let p = c.args.progress.before in
+    let content = g.U.Item.Value.content in
     let workers = c.args.workers in
     let target = c.args.target in
+    let old = B.value_behind s.barrier c.args.progress.state in
+    let now = B.value_behind s.barrier c.carry.new.state in
+    let value = B.value s.barrier in
+    let needed = B.needed_behind s.barrier c.args.progress.state in
+    let counted = g.B.Demand.counted s.barrier in
     let lists = U.parts s.upstream p in
-    let value = λ (l : List g.row.U-Item.Denot). g.B.Barrier.value s.barrier (map g.U.Item.Value.content l) in
-    let Q : List _ → Type 0 = λ l. Ascends 0 (length l) (ends_of c.in_ok-places-in-Own.places) in
-    let made = gathered-own (U.work s.upstream p) g.U.Item.Value.is_value (g.B.Demand.needed s.barrier) (g.B.Demand.counted s.barrier) (g.B.Barrier.value s.barrier) (g.met.B.Barrier.enough_law s.barrier)
-    g.U.Item.Value.content (U.value s.upstream) lists (U.done s.upstream p) (g.met.U.Stream.parts_law s.upstream p held.0) c.args.part c.in-Own.pieces c.in_ok-items-in-Own.items c.in_ok-places-in-Own.places c.args.entry.now c.in-Own.is c.requires.part c.requires.entry (c.in_ok-items-in-Own.ensures ∙ ap value c.in_ok-list-in-Own.ensures) (subst Q c.as_slice.ensures.value c.in_ok-places-in-Own.ensures.order) in
-    let Reported = IsReport (U.cut_into s.upstream workers target) (U.value s.upstream) (U.reported s.upstream workers target) (IsEntryOf (g.B.Demand.needed s.barrier) (g.B.Demand.counted s.barrier) (g.B.Barrier.value s.barrier)) in
-    let before = told-before (U.told_so_far s.upstream workers target p) Reported c.args.progress.listed entries left told in
-    record {
-      lists = lists;
-      cut = g.met.U.Stream.cut_law s.upstream workers target p held.0 planned.0 made.0;
-      joins = g.met.U.Stream.parts_law s.upstream p held.0 made.0;
-      before = entries;
-      last = c.args.entry.now;
-      are = refl;
-      of_barriers = g.met.U.Stream.reported_law s.upstream workers target p entries made.0 before;
-      of_run = made.2;
-    }
+    let kept = kept-own (U.work s.upstream p) g.U.Item.Value.is_value needed counted content lists (U.done s.upstream p) c.args.part c.in-Own.pieces c.args.entry.now c.in-Own.is c.requires.part c.requires.entry in
+    let front = map content c.in-Own.pieces in
+    let items = map content c.in_ok-items-in-Own.items.items in
+    let carried : (more : List _) → old (front ++ more) ≡ items ++ now more = λ more. ap (λ l. old (map content l ++ more)) (sym c.in_ok-list-in-Own.ensures) ∙ c.in_ok-items-in-Own.ensures more in
+    let fresh = fresh-unlisted content (g.B.Demand.needed s.barrier) needed value old (U.value s.upstream) workers target c.args.progress.listed waits planned.1 in
+    let is = kept-value needed counted old now (g.met.B.Barrier.enough_behind s.barrier c.args.progress.state) (joined lists) front items kept.1 carried value fresh.1 (g.met.B.Barrier.of_nothing s.barrier c.carry.new.state) in
+    let whole = g.met.U.Stream.whole_law s.upstream workers target p c.requires.holds.0 planned.0 kept.0 in
+    let Q : List _ → Type 0 = λ l. AreLeafEnds workers target (length l) (ends_of c.in_ok-places-in-Own.places) in
+    (planned.0, (subst Q c.as_slice.ensures.value c.in_ok-places-in-Own.ensures.leaves, is ∙ ap value whole))
 
--- bounded: a wrong body would search to its limit
-pub returns-clause-planned : goal.returns-clause-planned
-returns-clause-planned g c = search rules fits 200 depth 4
-
-pub left_by-requires-clause-told : goal.left_by-requires-clause-told
-left_by-requires-clause-told g c =
+pub returns-clause-entries : goal.returns-clause-entries
+returns-clause-entries g c = λ waits planned entries told.
     let s = c.args.self.now in
     let U = g.U.Stream in
+    let B = g.B.Barrier in
     let p = c.args.progress.before in
-    let needed = g.B.Demand.needed s.barrier in
+    let workers = c.args.workers in
+    let target = c.args.target in
+    let value = B.value s.barrier in
+    let needed = B.needed_behind s.barrier c.args.progress.state in
     let counted = g.B.Demand.counted s.barrier in
-    let told = gathered-told (U.work s.upstream p) g.U.Item.Value.is_value needed counted (g.B.Barrier.value s.barrier) (g.met.B.Barrier.enough_law s.barrier)
-    g.U.Item.Value.content (U.value s.upstream) (U.parts s.upstream p) (U.done s.upstream p) c.args.part c.in-Own.pieces c.args.entry.now c.in-Own.is c.requires.part c.requires.entry in
-    let P : List _ → Type 0 = λ l. IsToldBy needed counted (map g.U.Item.Value.content l) (cut_of c.args.entry.now) in
-    let Q : Option ℕ → Type 0 = λ cut. IsToldBy needed counted (map g.U.Item.Value.content c.in_ok-list-in-Own.list.items) cut in
-    subst Q (sym c.cut.ensures) (subst P (sym c.in_ok-list-in-Own.ensures) told)
+    let lists = U.parts s.upstream p in
+    let entry = c.args.entry.now in
+    let held = c.requires.holds.0 in
+    let kept = kept-own (U.work s.upstream p) g.U.Item.Value.is_value needed counted g.U.Item.Value.content lists (U.done s.upstream p) c.args.part c.in-Own.pieces entry c.in-Own.is c.requires.part c.requires.entry in
+    let fresh = fresh-unlisted g.U.Item.Value.content (g.B.Demand.needed s.barrier) needed value (B.value_behind s.barrier c.args.progress.state) (U.value s.upstream) workers target c.args.progress.listed waits planned.1 in
+    let R : Option ℕ → Type 0 = λ n. Reports n (length lists) (full_count counted lists) entry.leaves (count_of entry) (cut_of entry) in
+    let Reported = IsReport (U.cut_into s.upstream workers target) (U.value s.upstream) (U.reported s.upstream workers target) (IsEntryOf (g.B.Demand.needed s.barrier) counted value) in
+    let before = told-before (U.told_so_far s.upstream workers target p) Reported c.args.progress.listed entries waits told in
+    record {
+      lists = lists;
+      cut = g.met.U.Stream.cut_law s.upstream workers target p held planned.0 kept.0;
+      joins = g.met.U.Stream.whole_law s.upstream workers target p held planned.0 kept.0;
+      before = entries;
+      last = entry;
+      are = refl;
+      of_barriers = g.met.U.Stream.reported_law s.upstream workers target p entries kept.0 before;
+      of_run = is-entry (g.B.Demand.needed s.barrier) counted value (g.met.B.Barrier.enough_law s.barrier) lists entry (subst R fresh.0 kept.3);
+    }

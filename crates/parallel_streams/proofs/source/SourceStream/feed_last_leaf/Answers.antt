@@ -6,7 +6,7 @@ use Rattle.parallel_streams.proofs.source.SourceStream.feed_last_leaf.Goals as g
 
 pub returns : goal.returns
 returns g c =
-    let leaves = leaves_of c.args.plan.now in
+    let leaves = leaves_of c.args.progress.now.plan in
     let items = g.S.Spliterator.items in
     let through = flat_map (g.G.Stage.expand c.args.stage.now) in
     let here = ap (λ l. slice_index_or l c.args.leaf []) (map-both items through leaves) ∙ get-mapped (λ s. through (items s)) leaves c.args.leaf c.leaf.result [] c.leaf.ensures in

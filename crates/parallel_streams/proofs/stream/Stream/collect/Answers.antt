@@ -1,6 +1,4 @@
-use Rattle.std.proofs.Common.{rules}
 use Rattle.parallel_streams.proofs.stream.Stream.collect.Goals as goal
 
--- bounded: a wrong body would search to its limit
 pub returns-clause-value : goal.returns-clause-value
-returns-clause-value g c = search rules fits 60 depth 3
+returns-clause-value g c = c.in_ok-finish_container.ensures (g.Self.Stream.value c.args.self.now) c.in_ok-acc.ensures.made

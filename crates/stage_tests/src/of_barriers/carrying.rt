@@ -1,0 +1,205 @@
+//! Barriers whose list comes in parts.
+ghost use Rattle.std.specs.Prelude.{IfOk, map};
+ghost use Rattle.barriers.specs.Needs.{IsToldBy};
+
+use barriers::{Barrier, Behind, Demand, Distinct, DropWhile, Limit, Need, Skip, TakeWhile};
+use parts::Below;
+use spliterator::{NoMemory, Value};
+use std::alloc::Global;
+use std::process::Abort;
+
+/// What a run keeps of a part: a front that is all of it, or has as many counting items as are needed behind the state. Then the run was cut.
+fn kept_by_run<B: Barrier<i64>>(
+    alloc: Global,
+    barrier: &B,
+    state: &B::State,
+    part: &[i64],
+) -> Result<(Vec<i64>, bool), NoMemory>
+    requires { B.Demand.ready barrier.now }
+    ensures { IfOk result (λ r. IsToldBy (B.needed_behind barrier.now state.now) (B.Demand.counted barrier.now)
+        (map ⟦<i64 as Value>⟧.content r.0.items) r.1) }
+{
+    let demand = Behind { barrier, state };
+    match demand.need() {
+        Need::Never => Ok((Vec::from_slice(alloc, part)?, false)),
+        Need::Reach(wanted) => {
+            let (taken, counting) = demand.front(part, wanted);
+            Ok((Vec::from_slice(alloc, &part[..taken])?, counting == wanted))
+        }
+    }
+}
+
+/// What a barrier leaves of a list that comes in parts. Where nothing matters any more, nothing is left of what comes.
+fn left_of_parts<B: Barrier<i64>>(
+    rt: &(impl Abort + Alloc<A = Global>),
+    barrier: &B,
+    parts: &[&[i64]],
+) -> Result<Vec<i64>, NoMemory>
+    requires ready { B.Demand.ready barrier.now }
+    requires can { B.can_carry barrier.now }
+{
+    let alloc = rt.alloc();
+    let mut state = barrier.fresh(alloc);
+    let mut left = Vec::new(alloc);
+    for part in parts {
+        let is_over = barrier.is_over(&state);
+        let (items, is_cut) = kept_by_run(alloc, barrier, &state, part)?;
+        let kept = barrier.carry(&mut state, items, is_cut)?;
+        assert!(rt; kept.is_empty() || !is_over);
+        left.extend_from_slice(&kept)?;
+    }
+    Ok(left)
+}
+
+/// Cuts a list into three parts, at every two places, and compares what a barrier leaves of them. A part may be empty.
+fn check_cuts<B: Barrier<i64>>(
+    rt: &(impl Abort + Alloc<A = Global>),
+    barrier: &B,
+    items: &[i64],
+    wanted: &[i64],
+) -> Result<(), NoMemory>
+    requires ready { B.Demand.ready barrier.now }
+    requires can { B.can_carry barrier.now }
+{
+    for second in 0..=items.len() {
+        let (front, last) = items.split_at(second);
+        for first in 0..=front.len() {
+            let (head, middle) = front.split_at(first);
+            let left = left_of_parts(rt, barrier, &[head, middle, last])?;
+            assert!(rt;
+                left.as_slice() == wanted,
+                "{items:?} at {first} and {second}"
+            );
+        }
+    }
+    Ok(())
+}
+
+/// Of equal items the first, each compared with those before it.
+fn first_ones(alloc: Global, items: &[i64]) -> Result<Vec<i64>, NoMemory> {
+    let mut kept = Vec::new(alloc);
+    for item in items {
+        if !kept.contains(item) {
+            kept.push(*item)?;
+        }
+    }
+    Ok(kept)
+}
+
+static LISTS: [&[i64]; 6] = [
+    &[1, 2, 5, 1, 4, 2],
+    &[4, 1, 1, 7, 4],
+    &[1, 2, 1],
+    &[5, 5],
+    &[2],
+    &[],
+];
+
+#[test]
+fn a_limit_and_a_skip_count_across_parts(rt: HostRuntime) -> Result<(), NoMemory> {
+    for &items in &LISTS {
+        for number in [0, 1, 2, 3, 6, 9] {
+            let taken: Vec<i64> = items.iter().copied().take(number).collect(rt.alloc())?;
+            let rest: Vec<i64> = items.iter().copied().skip(number).collect(rt.alloc())?;
+            check_cuts(&rt, &Limit::new(number as u64), items, &taken)?;
+            check_cuts(&rt, &Skip::new(number as u64), items, &rest)?;
+        }
+    }
+    Ok(())
+}
+
+#[test]
+fn a_while_ends_in_one_part(rt: HostRuntime) -> Result<(), NoMemory> {
+    for &items in &LISTS {
+        let below = items.iter().copied();
+        let front: Vec<i64> = below.take_while(|item| *item < 3).collect(rt.alloc())?;
+        check_cuts(&rt, &TakeWhile::new(Below(3)), items, &front)?;
+
+        let above = items.iter().copied();
+        let rest: Vec<i64> = above.skip_while(|item| *item < 3).collect(rt.alloc())?;
+        check_cuts(&rt, &DropWhile::new(Below(3)), items, &rest)?;
+    }
+    Ok(())
+}
+
+#[test]
+fn an_item_of_an_earlier_part_stands_once(rt: HostRuntime) -> Result<(), NoMemory> {
+    for &items in &LISTS {
+        check_cuts(&rt, &Distinct, items, &first_ones(rt.alloc(), items)?)?;
+    }
+    Ok(())
+}
+
+fn texts(alloc: Global, words: &[&str]) -> Result<Vec<String>, NoMemory> {
+    let mut texts = Vec::new(alloc);
+    for word in words {
+        texts.push(String::from_str(alloc, word)?)?;
+    }
+    Ok(texts)
+}
+
+#[test]
+fn an_owned_text_of_an_earlier_part_stands_once(rt: HostRuntime) -> Result<(), NoMemory> {
+    let alloc = rt.alloc();
+    let mut came = Distinct.fresh(alloc);
+    let first = Distinct.carry(&mut came, texts(alloc, &["b", "a", "b"])?, false)?;
+    let second = Distinct.carry(&mut came, texts(alloc, &["a", "c", "", "b"])?, false)?;
+    assert!(rt; first == texts(alloc, &["b", "a"])?);
+    assert!(rt; second == texts(alloc, &["c", ""])?);
+    Ok(())
+}
+
+/// What is needed behind a part, and whether nothing that is still to come matters.
+fn told_behind<B: Barrier<i64>>(
+    alloc: Global,
+    barrier: &B,
+    part: &[i64],
+) -> Result<(Need, bool), NoMemory>
+    requires ready { B.Demand.ready barrier.now }
+    requires can { B.can_carry barrier.now }
+{
+    let mut state = barrier.fresh(alloc);
+    let (items, is_cut) = kept_by_run(alloc, barrier, &state, part)?;
+    barrier.carry(&mut state, items, is_cut)?;
+    Ok((barrier.need_behind(&state), barrier.is_over(&state)))
+}
+
+#[test]
+fn a_state_tells_what_is_still_needed(rt: HostRuntime) -> Result<(), NoMemory> {
+    let alloc = rt.alloc();
+    let rows = [
+        (
+            told_behind(alloc, &Limit::new(3), &[7])?,
+            (Need::Reach(2), false),
+        ),
+        (
+            told_behind(alloc, &Limit::new(3), &[7, 8, 9, 7])?,
+            (Need::Reach(0), true),
+        ),
+        (
+            told_behind(alloc, &Limit::new(0), &[])?,
+            (Need::Reach(0), true),
+        ),
+        (
+            told_behind(alloc, &Skip::new(1), &[7])?,
+            (Need::Never, false),
+        ),
+        (
+            told_behind(alloc, &TakeWhile::new(Below(3)), &[1])?,
+            (Need::Reach(1), false),
+        ),
+        (
+            told_behind(alloc, &TakeWhile::new(Below(3)), &[1, 5, 1])?,
+            (Need::Reach(1), true),
+        ),
+        (
+            told_behind(alloc, &DropWhile::new(Below(3)), &[5])?,
+            (Need::Never, false),
+        ),
+        (told_behind(alloc, &Distinct, &[1])?, (Need::Never, false)),
+    ];
+    for (found, wanted) in rows {
+        assert!(rt; found == wanted, "{wanted:?}");
+    }
+    Ok(())
+}
