@@ -25,7 +25,7 @@ OF_THREAD, SORTING = 600, int(os.cpu_count() > 1)
 
 # the sizes of all leaves, and of each segment its items and workers
 Shape = collections.namedtuple("Shape", "items workers sizes segments")
-# requests and bytes for a leaf, and bytes for the items, of which at least nine tenths live; runs of a segment, those in which threads combine, threads that
+# requests and bytes for a leaf, and bytes for the items, of which at least nine tenths live; runs of a segment, in the mean, those in which threads combine, threads that
 # sort, and whether the source has more than one segment
 Row = collections.namedtuple("Row", "name wanted requests leaf items runs joins sorting segmented", defaults=[0, None, 1, 0, 0, False])
 
@@ -36,7 +36,7 @@ def split(items, target):
 
 
 def shape(items, workers, segmented):
-    """A range, as one segment or as the library cuts it: each may have twice as many items as the one before it, and those of at most 2^14 take one
+    """A range, as one segment or as the library cuts it: each may have twice as many items as the one before it, and those of at most 2^16 take one
     worker."""
     segments, parts, most = [], [items], 1 << 12 if segmented else items
     while parts:
@@ -44,7 +44,7 @@ def shape(items, workers, segmented):
         while part > most:
             parts.append(part - part // 2)
             part //= 2
-        segments.append((part, 1 if segmented and most <= 1 << 14 else workers))
+        segments.append((part, 1 if segmented and most <= 1 << 16 else workers))
         most = min(2 * most, 1 << 20)
     sizes = [leaf for part, own in segments for leaf in split(part, max(part // (4 * own), 1))]
     return Shape(items, workers, sizes, segments)
@@ -76,10 +76,27 @@ def pieces(at):
     return 8 * (2 * at.items - at.sizes[0])
 
 
+def listed(segment):
+    """The same of a segment."""
+    number, own = segment
+    return 8 * (2 * number - number // (4 * own))
+
+
 def of_segment(at):
-    """The same of the longest segment."""
-    longest, own = max(at.segments)
-    return 8 * (2 * longest - longest // (4 * own))
+    """Of the longest one."""
+    return listed(max(at.segments))
+
+
+def before_half(at):
+    """Of the longest one that begins in the first half of the items."""
+    starts = itertools.accumulate((number for number, _ in at.segments), initial=0)
+    longest = max(segment for segment, start in zip(at.segments, starts) if 2 * start < at.items)
+    return listed(longest) * (5 if at.items > 1_000_000 else 4) // 4
+
+
+def of_first(at):
+    """Of the first one: what skips or drops nothing lets the others pass."""
+    return listed(at.segments[0])
 
 
 def counted(values):
@@ -97,10 +114,12 @@ PIPELINES = [
     *[Row(f"map mod 7\n{test}", lambda n: "true", 9) for test in ("allmatch less 7", "nonematch less 0")],
     Row("map mod 7\nanymatch less 0", lambda n: "false", 9),
     Row("flatmap repeat 2\nmap mod 10\nsum", lambda n: 9 * n, 9),
-    Row("filter divisible 2\nlimit HALF\nmax", lambda n: f"Optional[{n - 2}]", 175, 1_500, runs=2),
-    Row("filter divisible 2\nskip 9\nmin", lambda n: "Optional[18]", 120, 1_500),
-    *[Row(f"{side}while less HALF\nmap mod 10\nsum", lambda n: 9 * n // 4, 120, 1_500, runs=2) for side in ("take", "drop")],
-    Row("map mod 1000\ndistinct\nsum", lambda n: 499_500, 52, 40_000, runs=2, joins=1),
+    Row("filter divisible 2\nlimit HALF\nmax", lambda n: f"Optional[{n - 2}]", 28, 0, of_segment, 2, 1, segmented=True),
+    Row("filter divisible 2\nskip 9\nmin", lambda n: "Optional[18]", 28, 0, of_first, segmented=True),
+    Row("takewhile less HALF\nmap mod 10\nsum", lambda n: 9 * n // 4, 28, 1_500, before_half, 1.2, segmented=True),
+    Row("dropwhile less HALF\nmap mod 10\nsum", lambda n: 9 * n // 4, 28, 0, of_segment, 1.2, segmented=True),
+    # (a set makes room for half of what comes; a segment that passes, or of which little is left, has one run with several workers)
+    Row("map mod 1000\ndistinct\nsum", lambda n: 499_500, 28, 0, lambda at: of_segment(at) * (12 if at.items > 1_000_000 else 8.5) / 5, 1.2, segmented=True),
     Row("groupby mod 10 counting", lambda n: counted([n // 10] * 10), 18, 700),
     Row("groupby mod 10 sum", lambda n: counted(n // 10 * (n // 2 - 5 + k) for k in range(10)), 18, 1_900),
     Row("groupby mod 10 mapping mod 7 max", lambda n: counted(["Optional[6]"] * 10), 18, 2_400),
@@ -110,7 +129,7 @@ PIPELINES = [
     Row("tomap mod 10 self last", lambda n: counted(range(n - 10, n)), 18, 700),
     Row("map add 1\ntolist", lambda n: told_list(range(1, n + 1)), 28, 0, texts(lambda x: x + 1)),
     Row("filter divisible 3\ntolist", lambda n: told_list(range(0, n, 3)), 28, 0, texts(lambda x: None if x % 3 else x)),
-    Row("dropwhile less 9\ntolist", lambda n: told_list(range(9, n)), 120, 0, texts(lambda x: x)),
+    Row("dropwhile less 9\ntolist", lambda n: told_list(range(9, n)), 36, 0, texts(lambda x: x), segmented=True),
     # numbers of eight bytes in lists, the lists' texts, and these in the whole
     Row("groupby mod 10 tolist", lambda n: counted(told_list(range(k, n, 10)) for k in range(10)), 190, 0, an_item(23)),
     Row("teeing tolist count", lambda n: f"[{told_list(range(n))}, {n}]", 28, 0, an_item(24)),
@@ -135,7 +154,8 @@ TERMINALS = [
     Row("sorted", None, 50, 0, an_item(16), joins=1, sorting=SORTING),
     Row("to_sorted_list", None, 50, 0, an_item(16), joins=1),
     Row("sorted_by_key", None, 8, 0, an_item(32), joins=1, sorting=SORTING),
-    *[Row(name, None, 16, 0, of_segment, 2, 1, segmented=True) for name in "limit skip drop_while".split()],
+    Row("limit", None, 16, 0, of_segment, 2, 1, segmented=True),
+    *[Row(name, None, 16, 0, of_first, segmented=True) for name in "skip drop_while".split()],
     # (of many items a while's lists have a quarter more room)
     Row("take_while", None, 16, 0, lambda at: of_segment(at) * (5 if at.items > 1_000_000 else 4) // 4, 2, 1, segmented=True),
     Row("distinct", None, 16, 0, lambda at: entries(24)(at) + of_segment(at), 2, 1, segmented=True),

@@ -60,12 +60,12 @@ module _ {X : Type 0} (p : X → Bool) where
   taken-closed true items kept more closed none = absurd cc
   taken-closed false items kept more closed none = ap (λ l. l ++ []) (sym none)
 
-  pub taken-cut : (is_open is_cut : Bool) (items kept more : List X) → is_open ≡ true → is_cut ≡ true → IsToldBy (Some 1) (λ x. not (p x)) items is_cut
+  pub taken-cut : (is_open is_cut : Bool) (items kept more : List X) → is_open ≡ true → is_cut ≡ true → IsToldBy (Some (cond is_open 1 0)) (λ x. not (p x)) items is_cut
       → kept ≡ take (length items - 1) items → taken_while is_open p (items ++ more) ≡ kept ++ taken_while false p more
   taken-cut true is_cut items kept more opened cut told is = all-but_last is_cut items more cut told ∙ sym is ∙ sym (append-nil kept)
   taken-cut false is_cut items kept more opened cut told is = absurd cc
 
-  pub taken-open : (is_open is_cut : Bool) (items kept more : List X) → is_open ≡ true → is_cut ≡ false → IsToldBy (Some 1) (λ x. not (p x)) items is_cut
+  pub taken-open : (is_open is_cut : Bool) (items kept more : List X) → is_open ≡ true → is_cut ≡ false → IsToldBy (Some (cond is_open 1 0)) (λ x. not (p x)) items is_cut
       → kept ≡ items → taken_while is_open p (items ++ more) ≡ kept ++ taken_while is_open p more
   taken-open true is_cut items kept more opened uncut told is = taken-all items more (told.none uncut refl) ∙ ap (λ l. l ++ take_while p more) (sym is)
   taken-open false is_cut items kept more opened uncut told is = absurd cc

@@ -1,11 +1,11 @@
 -- What enough of a list gives.
 use Rattle.std.specs.Prelude.{◌≡◌, ◌<◌, ◌≤◌, ◌+◌, ◌-◌, ℕ, zero, suc, Bool, true, false, not, cond, fold, count_by, List, [], ◌∷◌, ◌++◌, take, take_while, length, Option, Some, None, refl}
-use Rattle.std.proofs.Common.{ap, ◌∙◌, sym, arith, append-nil, ⊎_elim}
+use Rattle.std.proofs.Common.{ap, ◌∙◌, sym, subst, arith, append-nil, ⊎_elim}
 use Rattle.std.proofs.lemmas.List.{take-append-le, length-append}
 use Rattle.std.proofs.lemmas.Bool.{cases_lt}
 use Rattle.std.proofs.Math.Seq.{take-append-add}
 use Rattle.std.proofs.lemmas.List.Sums.{take_while-cons, sum_by-append, sum_by-take-le}
-use Rattle.barriers.specs.Needs.{KeepsEnough, IsOutcome, StaysEnough, CountsLast, Reaches, every_item}
+use Rattle.barriers.specs.Needs.{IsEnough, KeepsEnough, IsOutcome, StaysEnough, CountsLast, Reaches, every_item}
 
 sum_from : {T : Type 0} (n : ℕ) (l : List T) → fold (λ a x. a + cond (every_item {T = T} x) 1 0) n l ≡ n + length l
 sum_from n [] = omega arith
@@ -29,6 +29,14 @@ StaysEnough-always {T} (Some r) counted before part behind enough =
 -- where nothing is ever enough, there is nothing to show
 pub KeepsEnough-never : {T A : Type 0} (counted : T → Bool) (value : List T → A) → KeepsEnough None counted value
 KeepsEnough-never counted value front more enough = absurd enough
+
+-- where nothing is needed, no item makes a difference
+pub nothing-needed : {T A : Type 0} (needed : Option ℕ) (counted : T → Bool) (value : List T → A) → KeepsEnough needed counted value
+    → needed ≡ Some 0 → (more : List T) → value more ≡ value []
+nothing-needed {T} needed counted value law is more =
+    let none : List T = [] in
+    let Q : Option ℕ → Type 0 = λ n. IsEnough n counted none in
+    law none more (subst Q (sym is) (omega arith))
 
 count-from : {T : Type 0} (p : T → Bool) (n : ℕ) (l : List T) → fold (λ a x. a + cond (p x) 1 0) n l ≡ n + count_by p l
 count-from p n [] = omega arith

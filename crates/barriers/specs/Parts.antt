@@ -1,5 +1,5 @@
 -- What barriers make of a list that comes in parts.
-use Rattle.std.specs.Prelude.{◌≡◌, ℕ, zero, suc, Bool, true, false, not, [], take, drop, Some, refl}
+use Rattle.std.specs.Prelude.{◌≡◌, ℕ, zero, suc, Bool, true, false, cond, not, [], take, drop, Some, refl}
 use Rattle.barriers.specs.Needs.{KeepsEnough}
 use Rattle.barriers.specs.NeedLaws.{KeepsEnough-take_while}
 use Rattle.barriers.specs.Whiles.{taken_while, left_while}
@@ -20,6 +20,6 @@ pub left-nothing : {X : Type 0} (is_dropping : Bool) (p : X → Bool) → left_w
 left-nothing true p = refl
 left-nothing false p = refl
 
-pub KeepsEnough-taken_while : {X : Type 0} (is_open : Bool) (p : X → Bool) → KeepsEnough (Some 1) (λ x. not (p x)) (taken_while is_open p)
+pub KeepsEnough-taken_while : {X : Type 0} (is_open : Bool) (p : X → Bool) → KeepsEnough (Some (cond is_open 1 0)) (λ x. not (p x)) (taken_while is_open p)
 KeepsEnough-taken_while true p front more enough = KeepsEnough-take_while p front more enough
 KeepsEnough-taken_while false p front more enough = refl

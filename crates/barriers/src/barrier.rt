@@ -1,5 +1,5 @@
 //! Operations that look at a whole list.
-ghost use Rattle.std.specs.Prelude.{◌≡◌, ◌++◌, ◌^◌, ℕ, true, ⊤, List, [], Option, IfOk, map};
+ghost use Rattle.std.specs.Prelude.{◌≡◌, ◌≢◌, ◌++◌, ◌^◌, ℕ, true, false, ⊤, List, [], Option, Some, IfOk, map};
 ghost use Rattle.stages.specs.declared.flags.Operation.{Operation};
 ghost use Rattle.stages.specs.Flags.{KeepsSound};
 ghost use Rattle.barriers.specs.Needs.{need_of, CountsNone, IsBelow, IsToldBy, KeepsEnough};
@@ -59,6 +59,13 @@ pub trait Barrier<T: OrderedValue>: Demand<T> {
         ensures fits { IsBelow (needed_behind self.now state.now) (2 ^ 63) }
         ensures never { CountsNone (needed_behind self.now state.now) (Self.counted self.now) };
 
+    /// Whether what is still to come is left as it is. No is no promise.
+    fn lets_pass(&self, _state: &Self::State) -> bool
+        ensures { result ≡ true → (more : List T.Content) → value_behind self.now _state.now more ≡ more }
+    {
+        false
+    }
+
     /// What the barrier leaves of the next items. The state is then behind them. `is_cut` says whether the run that kept the items was cut,
     /// since they were enough. Refused: the state is only to be dropped.
     fn carry(
@@ -75,10 +82,6 @@ pub trait Barrier<T: OrderedValue>: Demand<T> {
             value_behind self.now state.old (map T.content items.items ++ more)
             ≡ map T.content kept.items ++ value_behind self.now state.new more) };
 
-    /// Whether nothing that is still to come matters. No is no promise.
-    fn is_over(&self, state: &Self::State) -> bool
-        ensures { result ≡ true → (more : List T.Content) → value_behind self.now state.now more ≡ [] };
-
     // where a front of the list is enough, what follows it makes no difference
     ghost enough_law: { (b : Self) → KeepsEnough (Self.needed b) (Self.counted b) (value b) };
 
@@ -91,4 +94,13 @@ pub trait Barrier<T: OrderedValue>: Demand<T> {
 
     // sound flags and a known size stay so
     ghost flag_law: { (b : Self) → KeepsSound T.order T.order (operation b) (size_after b) (value b) };
+
+    /// Whether no counting item is needed of those still to come. Then nothing that is still to come matters.
+    final fn is_over(&self, state: &Self::State) -> bool
+        requires ready { Self.ready self.now }
+        ensures over { result ≡ true → (more : List T.Content) → value_behind self.now state.now more ≡ [] }
+        ensures needs { result ≡ false → needed_behind self.now state.now ≢ Some 0 }
+    {
+        matches!(self.need_behind(state), Need::Reach(0))
+    }
 }

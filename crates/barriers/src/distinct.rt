@@ -6,6 +6,7 @@ ghost use Rattle.barriers.specs.Needs.{no_item};
 ghost use Rattle.barriers.specs.NeedLaws.{KeepsEnough-never};
 ghost use Rattle.barriers.specs.BarrierFlags.{KeepsSound-distinct};
 
+use crate::distinct_with::{carry_distinct, first_ones};
 use crate::{Barrier, Demand, Need};
 use indexmap::IndexSet;
 use spliterator::{NoMemory, OrderedValue, Value};
@@ -58,9 +59,7 @@ impl<T: OrderedValue + Hash + Clone + Drop> Barrier<T> for Distinct {
     fn apply(&self, items: Vec<T>) -> Result<Vec<T>, NoMemory>
         ensures { IfOk result (λ kept. map T.content kept.items ≡ distinct T.same (map T.content items.items)) }
     {
-        let alloc = *items.allocator();
-        let first_ones: IndexSet<T> = items.into_iter().collect(alloc)?;
-        Ok(first_ones.into_iter().collect(alloc)?)
+        first_ones(IndexSet::new(*items.allocator()), items)
     }
 
     fn operation(&self) -> Operation {
@@ -81,7 +80,6 @@ impl<T: OrderedValue + Hash + Clone + Drop> Barrier<T> for Distinct {
         Need::Never
     }
 
-    // The items go into the set, and what is new there is cloned: an item that repeats is not.
     fn carry(
         &self,
         state: &mut IndexSet<T>,
@@ -93,13 +91,6 @@ impl<T: OrderedValue + Hash + Clone + Drop> Barrier<T> for Distinct {
             distinct_after T.same (map T.content state.old.keys) (map T.content items.items ++ more)
             ≡ map T.content kept.items ++ distinct_after T.same (map T.content state.new.keys) more) }
     {
-        let alloc = *items.allocator();
-        let known = state.len();
-        state.extend(items)?;
-        Ok(Vec::from_clones(alloc, &state.as_slice()[known..])?)
-    }
-
-    fn is_over(&self, _state: &IndexSet<T>) -> bool {
-        false
+        carry_distinct(state, items)
     }
 }

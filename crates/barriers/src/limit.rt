@@ -102,8 +102,4 @@ impl<T: OrderedValue + Drop> Barrier<T> for Limit {
         *state = Limit::new(state.most.saturating_sub(kept.len() as u64));
         Ok(kept)
     }
-
-    fn is_over(&self, state: &Limit) -> bool {
-        state.most == 0
-    }
 }

@@ -101,6 +101,10 @@ impl<T: OrderedValue + Drop> Barrier<T> for Skip {
         Need::Never
     }
 
+    fn lets_pass(&self, state: &Skip) -> bool {
+        state.number == 0
+    }
+
     fn carry(&self, state: &mut Skip, items: Vec<T>, _is_cut: bool) -> Result<Vec<T>, NoMemory>
         ensures goes_on { (more : List T.Content) → IfOk result (λ kept.
             drop state.old.number (map T.content items.items ++ more)
@@ -111,9 +115,5 @@ impl<T: OrderedValue + Drop> Barrier<T> for Skip {
         let kept = state.apply(items)?;
         *state = Skip::new(state.number.saturating_sub(number));
         Ok(kept)
-    }
-
-    fn is_over(&self, _state: &Skip) -> bool {
-        false
     }
 }

@@ -1,5 +1,5 @@
 //! The longest front whose items all meet a test, and what follows it.
-ghost use Rattle.std.specs.Prelude.{◌≡◌, ◌++◌, ◌≤◌, List, length, Some, None, not, IsOk, IfOk, map, take_while};
+ghost use Rattle.std.specs.Prelude.{◌≡◌, ◌++◌, ◌≤◌, List, length, Some, None, cond, not, IsOk, IfOk, map, take_while};
 ghost use Rattle.std.specs.List.{prefix_len};
 ghost use Rattle.stages.specs.declared.flags.Operation.TheVariants.{TakeWhile as take_while_row, DropWhile as drop_while_row};
 ghost use Rattle.barriers.specs.Whiles.{drop_while, taken_while, left_while};
@@ -70,7 +70,7 @@ impl<T: OrderedValue + Drop, P: Test<T>> Barrier<T> for TakeWhile<P> {
 
     ghost value_behind = { λ b is_open. taken_while is_open (P.holds b.test) };
 
-    ghost needed_behind = { λ _ _. Some 1 };
+    ghost needed_behind = { λ _ is_open. Some (cond is_open 1 0) };
 
     ghost enough_law = { λ b. KeepsEnough-take_while (P.holds b.test) };
 
@@ -103,13 +103,13 @@ impl<T: OrderedValue + Drop, P: Test<T>> Barrier<T> for TakeWhile<P> {
         true
     }
 
-    fn need_behind(&self, _state: &bool) -> Need {
-        Need::Reach(1)
+    fn need_behind(&self, state: &bool) -> Need {
+        Need::Reach(if *state { 1 } else { 0 })
     }
 
     // Asks no test: the cut tells which item failed.
     fn carry(&self, state: &mut bool, mut items: Vec<T>, is_cut: bool) -> Result<Vec<T>, NoMemory>
-        requires told { IsToldBy (Some 1) (λ x. not (P.holds self.now.test x))
+        requires told { IsToldBy (Some (cond state.old 1 0)) (λ x. not (P.holds self.now.test x))
             (map T.content items.items) is_cut }
         ensures goes_on { (more : List T.Content) → IfOk result (λ kept.
             taken_while state.old (P.holds self.now.test) (map T.content items.items ++ more)
@@ -123,10 +123,6 @@ impl<T: OrderedValue + Drop, P: Test<T>> Barrier<T> for TakeWhile<P> {
             *state = false;
         }
         Ok(items)
-    }
-
-    fn is_over(&self, state: &bool) -> bool {
-        !*state
     }
 }
 
@@ -210,6 +206,10 @@ impl<T: OrderedValue + Drop, P: Test<T>> Barrier<T> for DropWhile<P> {
         Need::Never
     }
 
+    fn lets_pass(&self, state: &bool) -> bool {
+        !*state
+    }
+
     fn carry(&self, state: &mut bool, items: Vec<T>, _is_cut: bool) -> Result<Vec<T>, NoMemory>
         requires { P.ready self.now.test }
         ensures goes_on { (more : List T.Content) → IfOk result (λ kept.
@@ -223,9 +223,5 @@ impl<T: OrderedValue + Drop, P: Test<T>> Barrier<T> for DropWhile<P> {
         let kept = self.apply(items)?;
         *state = kept.is_empty();
         Ok(kept)
-    }
-
-    fn is_over(&self, _state: &bool) -> bool {
-        false
     }
 }

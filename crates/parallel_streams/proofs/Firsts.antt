@@ -1,18 +1,9 @@
--- The first item of a front with one item, and reductions from an identity.
-use Rattle.std.specs.Prelude.{◌≡◌, ℕ, All, List, [], ◌∷◌, Some, None, fold, refl}
-use Rattle.std.proofs.Common.{ap, sym, ◌∙◌, arith}
+-- Reductions from an identity.
+use Rattle.std.specs.Prelude.{◌≡◌, All, List, [], ◌∷◌, Some, None, fold, refl}
+use Rattle.std.proofs.Common.{ap, sym, ◌∙◌}
 use Rattle.std.proofs.lemmas.List.Elements.{All-head}
-use Rattle.barriers.specs.Needs.{KeepsEnough, IsOutcome, every_item}
-use Rattle.barriers.specs.NeedLaws.{value-front}
-use Rattle.collectors.specs.Reductions.{first, reduced}
+use Rattle.collectors.specs.Reductions.{reduced}
 use Rattle.parallel_streams.specs.Terminals.{IsLeftIdentity}
-
-KeepsEnough-first : {C : Type 0} (n : ℕ) → n ≡ 1 → KeepsEnough {T = C} (Some n) every_item first
-KeepsEnough-first n one [] more enough = absurd (omega (arith, one))
-KeepsEnough-first n one (x ∷ front) more enough = refl
-
-pub first-front : {C : Type 0} (n : ℕ) → n ≡ 1 → (whole front : List C) → IsOutcome (Some n) every_item whole front → first whole ≡ first front
-first-front n one whole front outcome = value-front (Some n) every_item first (KeepsEnough-first n one) whole front outcome
 
 module _ {C : Type 0} (is_value : C → Type 0) (join : C → C → C) (e : C) (identity : IsLeftIdentity is_value join e) where
   -- a reduction of some values is the fold from an identity

@@ -5,4 +5,5 @@ pub mod Firsts
 pub mod Idle
 pub mod Listing
 pub mod SegmentLaws
+pub mod Searching
 pub mod Stack

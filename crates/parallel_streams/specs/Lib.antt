@@ -1,6 +1,7 @@
 pub mod Runs
 pub mod MapErrors
 pub mod Terminals
+pub mod Searches
 pub mod LeafLaws
 pub mod Cuts
 pub mod Leaves

@@ -1,5 +1,5 @@
 -- How far the barriers of a stream have come.
-use Rattle.std.specs.Prelude.{◌≡◌, ◌+◌, ℕ, Bool, true, false, List, [], ◌++◌, Option, Some, None, Result, Ok, Err, map, length}
+use Rattle.std.specs.Prelude.{◌≡◌, ◌+◌, ℕ, Bool, true, false, List, [], ◌++◌, ◌&&◌, Option, Some, None, Result, Ok, Err, map, length}
 use Rattle.collectors.specs.NestedLaws.{push}
 use Rattle.stealing_pool.specs.Jobs.{Work}
 use Rattle.stealing_pool.specs.Spans.{work_of}
@@ -23,8 +23,9 @@ abbrev pub HoldsListed : {T : Type 0} → Option (Listed T) → Type 0
 HoldsListed None = Unit {0}
 HoldsListed (Some listed) = IsCut listed
 
-abbrev pub HoldsBarred : {P S T : Type 0} → (P → Type 0) → BarredProgress P S T → Type 0
-HoldsBarred before g = before g.before × HoldsListed g.listed
+-- and where the barrier lets pass what comes, its state leaves everything as it is
+abbrev pub HoldsBarred : {P S T C : Type 0} → (P → Type 0) → (S → List C → List C) → BarredProgress P S T → Type 0
+HoldsBarred before value_behind g = before g.before × HoldsListed g.listed × (g.passes ≡ true → (l : List _) → value_behind g.state l ≡ l)
 
 -- What a barrier leaves of the present segment and of those behind it: while it has not run, what it makes of all that comes to it; then its list, and what it
 -- makes of the segments behind.
@@ -32,24 +33,30 @@ abbrev pub left_of : {T C : Type 0} → (T → C) → (List C → List C) → Li
 left_of content value_behind left behind None = value_behind left
 left_of content value_behind left behind (Some listed) = map content listed.items.items ++ value_behind behind
 
--- The segment is the whole: while the barrier has not run, its state is that before any item; then its list is its value, cut for its leaves as so many items are.
-abbrev pub IsPlannedList : {T C : Type 0} → (T → C) → Option ℕ → Option ℕ → (List C → List C) → (List C → List C) → List C → ℕ → ℕ → Option (Listed T) → Type 0
-IsPlannedList content needed needed_behind value value_behind whole workers target None = (needed_behind ≡ needed) × ((l : List _) → value_behind l ≡ value l)
-IsPlannedList content needed needed_behind value value_behind whole workers target (Some listed) =
+-- The segment is the whole: while the barrier has not run, it will, and its state is that before any item; then its list is its value, cut for its leaves as so many
+-- items are.
+abbrev pub IsPlannedList : {T C : Type 0} → (T → C) → Option ℕ → Option ℕ → (List C → List C) → (List C → List C) → List C → ℕ → ℕ → Bool → Option (Listed T) → Type 0
+IsPlannedList content needed needed_behind value value_behind whole workers target passes None = (passes ≡ false) × (needed_behind ≡ needed) × ((l : List _) → value_behind l ≡ value l)
+IsPlannedList content needed needed_behind value value_behind whole workers target passes (Some listed) =
     AreLeafEnds workers target (length listed.items.items) (ends_of listed.places) × (map content listed.items.items ≡ value whole)
 
 abbrev pub IsPlannedBarred : {P S T C : Type 0} → (P → Type 0) → (T → C) → Option ℕ → (S → Option ℕ) → (List C → List C) → (S → List C → List C) → List C → ℕ → ℕ → BarredProgress P S T → Type 0
 IsPlannedBarred before content needed needed_behind value value_behind whole workers target g =
-    before g.before × IsPlannedList content needed (needed_behind g.state) value (value_behind g.state) whole workers target g.listed
+    before g.before × IsPlannedList content needed (needed_behind g.state) value (value_behind g.state) whole workers target g.passes g.listed
 
 -- the entries so far: while the last barrier has not run, those of the barriers before
-abbrev pub ToldSoFar : {T : Type 0} → (List Outcome → Type 0) → (List Outcome → Type 0) → Option (Listed T) → List Outcome → Type 0
-ToldSoFar before all None entries = before entries
-ToldSoFar before all (Some listed) entries = all entries
+abbrev pub ToldSoFar : {T : Type 0} → Bool → (List Outcome → Type 0) → (List Outcome → Type 0) → Option (Listed T) → List Outcome → Type 0
+ToldSoFar passes before all None entries = (passes ≡ false) × before entries
+ToldSoFar passes before all (Some listed) entries = all entries
 
 abbrev pub is_listed : {T : Type 0} → Option (Listed T) → Bool
 is_listed None = false
 is_listed (Some listed) = true
+
+-- the last run may begin: the barrier's list is there, or the barrier lets pass what the barriers before it left
+abbrev pub is_ready : {T : Type 0} → Bool → Bool → Option (Listed T) → Bool
+is_ready passes before None = passes && before
+is_ready passes before (Some listed) = true
 
 -- the number of barriers that have not run
 abbrev pub waiting_of : {T : Type 0} → ℕ → Option (Listed T) → ℕ
@@ -61,10 +68,10 @@ abbrev pub next_leaves : {T : Type 0} → ℕ → Option (Listed T) → ℕ
 next_leaves before None = before
 next_leaves before (Some listed) = length (ends_of listed.places)
 
--- the lists of the leaves of the last run
-abbrev pub parts_of : {T C : Type 0} → (T → C) → Option (Listed T) → List (List C)
-parts_of content None = []
-parts_of content (Some listed) = cut_at 0 (ends_of listed.places) (map content listed.items.items)
+-- the lists of the leaves of the last run: those of the run before, or the barrier's list, cut
+abbrev pub parts_of : {T C : Type 0} → (T → C) → List (List C) → Option (Listed T) → List (List C)
+parts_of content before None = before
+parts_of content before (Some listed) = cut_at 0 (ends_of listed.places) (map content listed.items.items)
 
 -- what is kept is a part of a barrier before, or this barrier's own
 abbrev pub KeepsBefore : {P T : Type 0} → (P → Type 0) → Part P T → Type 0

@@ -1,5 +1,5 @@
 -- What holds of the progress of a stream with barriers.
-use Rattle.std.specs.Prelude.{◌≡◌, ◌<◌, ◌+◌, ◌++◌, ℕ, Bool, true, false, List, [], Option, Some, None, Result, Ok, Err, OnOk, IfOk, map, length, slice_get, slice_index_or, refl}
+use Rattle.std.specs.Prelude.{◌≡◌, ◌<◌, ◌+◌, ◌++◌, ◌&&◌, ℕ, Bool, true, false, List, [], Option, Some, None, Result, Ok, Err, OnOk, IfOk, map, length, slice_get, slice_index_or, refl}
 use Rattle.std.proofs.Common.{sym, ap, ◌∙◌, subst, arith, true≢false}
 use Rattle.std.proofs.lemmas.List.{length-map}
 use Rattle.stealing_pool.specs.Jobs.{Work, Combines, StandsForRun, EndsLeaf}
@@ -14,17 +14,27 @@ use Rattle.parallel_streams.specs.Cuts.{cut_at, cut_at-map, joined-cut_at, lengt
 use Rattle.parallel_streams.specs.Ends.{ends_of}
 use Rattle.parallel_streams.specs.Leaves.{IsCutList}
 use Rattle.parallel_streams.specs.LeafCutLaws.{IsCutList-ends}
-use Rattle.parallel_streams.specs.Progress.{HoldsListed, IsCut, IsPlannedList, ToldSoFar, is_listed, left_of, next_leaves, parts_of, barred_work, end_with, ended_with}
+use Rattle.parallel_streams.specs.Progress.{HoldsListed, IsCut, IsPlannedList, ToldSoFar, is_listed, is_ready, left_of, next_leaves, parts_of, barred_work, end_with, ended_with}
 use Rattle.parallel_streams.specs.declared.part.Listed.{Listed}
 use Rattle.parallel_streams.specs.declared.part.Part.{Part}
 use Rattle.parallel_streams.specs.declared.part.Part.TheVariants.{Before, Own}
 
+-- while the last run may not begin, nothing is listed
+pub unready-unlisted : {T : Type 0} (passes done : Bool) (listed : Option (Listed T)) → is_ready passes done listed ≡ false → is_listed listed ≡ false
+unready-unlisted passes done None unready = refl
+unready-unlisted passes done (Some l) unready = absurd (true≢false unready)
+
+-- where it may with nothing listed, the barrier lets pass what those before it left
+pub ready-passes : (passes done : Bool) → (passes && done) ≡ true → (passes ≡ true) × (done ≡ true)
+ready-passes true done is = (refl, is)
+ready-passes false done is = absurd (true≢false (sym is))
+
 -- the next run has the leaves that are told
-pub barred-leaves : {P T : Type 0} (done : Bool) (before : Work P) (own : Work (List T)) (n : ℕ) (listed : Option (Listed T)) → is_listed listed ≡ false
+pub barred-leaves : {P T : Type 0} (passes done : Bool) (before : Work P) (own : Work (List T)) (n : ℕ) (listed : Option (Listed T)) → is_ready passes done listed ≡ false
     → (done ≡ false → before.leaves ≡ n) → (done ≡ true → own.leaves ≡ n) → (barred_work done before own).leaves ≡ next_leaves n listed
-barred-leaves done before own n (Some l) unrun of_before of_own = absurd (true≢false unrun)
-barred-leaves true before own n None unrun of_before of_own = of_own refl
-barred-leaves false before own n None unrun of_before of_own = of_before refl
+barred-leaves passes done before own n (Some l) unrun of_before of_own = absurd (true≢false unrun)
+barred-leaves passes true before own n None unrun of_before of_own = of_own refl
+barred-leaves passes false before own n None unrun of_before of_own = of_before refl
 
 -- the parts of a list are the list
 pub joined-listed : {T C : Type 0} (content : T → C) (l : Listed T) → IsCut l → joined (cut_at 0 (ends_of l.places) (map content l.items.items)) ≡ map content l.items.items
@@ -32,11 +42,15 @@ joined-listed content l cut =
     let size : length l.items.items ≡ 0 + length (map content l.items.items) = let e = length-map l.items.items content in omega (arith, e) in
     joined-cut_at 0 (length l.items.items) (ends_of l.places) (map content l.items.items) cut size
 
--- once the barrier has run, what it leaves are the parts of its list, and what it makes of the segments behind
-pub left-parts_of : {T C : Type 0} (content : T → C) (value_behind : List C → List C) (left behind : List C) (listed : Option (Listed T)) → HoldsListed listed → is_listed listed ≡ true
-    → left_of content value_behind left behind listed ≡ joined (parts_of content listed) ++ value_behind behind
-left-parts_of content value_behind left behind None held is = absurd (true≢false (sym is))
-left-parts_of content value_behind left behind (Some l) held is = ap (λ m. m ++ value_behind behind) (sym (joined-listed content l held))
+-- Once the barrier has run, what it leaves are the parts of its list, and what it makes of the segments behind. A barrier that lets them pass leaves the parts as
+-- they are.
+pub left-parts_of : {T C : Type 0} (content : T → C) (value_behind : List C → List C) (left behind : List C) (parts : List (List C)) (passes done : Bool) (listed : Option (Listed T))
+    → HoldsListed listed → (passes ≡ true → (l : List C) → value_behind l ≡ l) → is_ready passes done listed ≡ true → (done ≡ true → left ≡ joined parts ++ behind)
+    → left_of content value_behind left behind listed ≡ joined (parts_of content parts listed) ++ value_behind behind
+left-parts_of content value_behind left behind parts passes done None held same is law =
+    let (lets, are_done) = ready-passes passes done is in
+    same lets left ∙ law are_done ∙ ap (λ l. joined parts ++ l) (sym (same lets behind))
+left-parts_of content value_behind left behind parts passes done (Some l) held same is law = ap (λ m. m ++ value_behind behind) (sym (joined-listed content l held))
 
 -- while it has not run, it is what it makes of all that comes to it
 pub left-unlisted : {T C : Type 0} (content : T → C) (value_behind : List C → List C) (left behind : List C) (listed : Option (Listed T)) → is_listed listed ≡ false
@@ -46,25 +60,28 @@ left-unlisted content value_behind left behind (Some l) unrun = absurd (true≢f
 
 module _ {T C : Type 0} (content : T → C) (needed needed_behind : Option ℕ) (value value_behind : List C → List C) (whole : List C) (workers target : ℕ) where
   -- and its state is that before any item
-  pub fresh-unlisted : (listed : Option (Listed T)) → is_listed listed ≡ false → IsPlannedList content needed needed_behind value value_behind whole workers target listed
-      → (needed_behind ≡ needed) × ((l : List C) → value_behind l ≡ value l)
-  fresh-unlisted None unrun planned = planned
-  fresh-unlisted (Some l) unrun planned = absurd (true≢false unrun)
+  pub fresh-unlisted : (passes : Bool) (listed : Option (Listed T)) → is_listed listed ≡ false
+      → IsPlannedList content needed needed_behind value value_behind whole workers target passes listed → (needed_behind ≡ needed) × ((l : List C) → value_behind l ≡ value l)
+  fresh-unlisted passes None unrun planned = (planned.1, planned.2)
+  fresh-unlisted passes (Some l) unrun planned = absurd (true≢false unrun)
 
-  pub joined-parts_of : (listed : Option (Listed T)) → HoldsListed listed → IsPlannedList content needed needed_behind value value_behind whole workers target listed
-      → is_listed listed ≡ true → joined (parts_of content listed) ≡ value whole
-  joined-parts_of None held planned is = absurd (true≢false (sym is))
-  joined-parts_of (Some l) held planned is = joined-listed content l held ∙ planned.1
+  pub joined-parts_of : (passes done : Bool) (parts : List (List C)) (listed : Option (Listed T)) → HoldsListed listed
+      → IsPlannedList content needed needed_behind value value_behind whole workers target passes listed
+      → is_ready passes done listed ≡ true → joined (parts_of content parts listed) ≡ value whole
+  joined-parts_of passes done parts None held planned is = absurd (true≢false (sym (ready-passes passes done is).0 ∙ planned.0))
+  joined-parts_of passes done parts (Some l) held planned is = joined-listed content l held ∙ planned.1
 
   -- the parts are the barrier's value, cut as a list of so many items is
-  pub cut-parts_of : (listed : Option (Listed T)) → HoldsListed listed → IsPlannedList content needed needed_behind value value_behind whole workers target listed
-      → is_listed listed ≡ true → IsCutList (value whole) workers target (parts_of content listed)
-  cut-parts_of None held planned is = absurd (true≢false (sym is))
-  cut-parts_of (Some l) held planned is = IsCutList-ends content workers target l.items.items (value whole) (ends_of l.places) planned.1 planned.0
+  pub cut-parts_of : (passes done : Bool) (parts : List (List C)) (listed : Option (Listed T)) → HoldsListed listed
+      → IsPlannedList content needed needed_behind value value_behind whole workers target passes listed
+      → is_ready passes done listed ≡ true → IsCutList (value whole) workers target (parts_of content parts listed)
+  cut-parts_of passes done parts None held planned is = absurd (true≢false (sym (ready-passes passes done is).0 ∙ planned.0))
+  cut-parts_of passes done parts (Some l) held planned is = IsCutList-ends content workers target l.items.items (value whole) (ends_of l.places) planned.1 planned.0
 
-pub count-parts_of : {T C : Type 0} (content : T → C) (n : ℕ) (listed : Option (Listed T)) → is_listed listed ≡ true → length (parts_of content listed) ≡ next_leaves n listed
-count-parts_of content n None is = absurd (true≢false (sym is))
-count-parts_of content n (Some l) is = length-cut_at 0 (ends_of l.places) (map content l.items.items)
+pub count-parts_of : {T C : Type 0} (content : T → C) (n : ℕ) (parts : List (List C)) (passes done : Bool) (listed : Option (Listed T)) → is_ready passes done listed ≡ true
+    → (done ≡ true → length parts ≡ n) → length (parts_of content parts listed) ≡ next_leaves n listed
+count-parts_of content n parts passes done None is count = count (ready-passes passes done is).1
+count-parts_of content n parts passes done (Some l) is count = length-cut_at 0 (ends_of l.places) (map content l.items.items)
 
 module _ {P T : Type 0} (before : Work P) (own : Work (List T)) where
   pub combines-before : (done : Bool) (left right both : P) → Combines before left right both → Combines (barred_work done before own) (Before left) (Before right) (Before both)
@@ -134,25 +151,29 @@ module _ {P T : Type 0} (before : Work P) where
       subst Q (sym is) tt
 
 -- the items of a leaf of a barrier's list
-pub part-at : {T C D : Type 0} (content : T → C) (through : List C → List D) (listed : Option (Listed T)) (l : Listed T) (i : ℕ) (part : List T) → listed ≡ Some l
-    → slice_get (cut_at 0 (ends_of l.places) l.items.items) i ≡ Some part → slice_index_or (map through (parts_of content listed)) i [] ≡ through (map content part)
-part-at content through listed l i part is found =
+pub part-at : {T C D : Type 0} (content : T → C) (through : List C → List D) (before : List (List C)) (listed : Option (Listed T)) (l : Listed T) (i : ℕ) (part : List T)
+    → listed ≡ Some l → slice_get (cut_at 0 (ends_of l.places) l.items.items) i ≡ Some part
+    → slice_index_or (map through (parts_of content before listed)) i [] ≡ through (map content part)
+part-at content through before listed l i part is found =
     let parts = cut_at 0 (ends_of l.places) l.items.items in
-    let lists : map through (parts_of content listed) ≡ map (λ p. through (map content p)) parts =
-    ap (λ o. map through (parts_of content o)) is ∙ ap (map through) (sym (cut_at-map content 0 (ends_of l.places) l.items.items)) ∙ map-both (map content) through parts in
+    let lists : map through (parts_of content before listed) ≡ map (λ p. through (map content p)) parts =
+    ap (λ o. map through (parts_of content before o)) is ∙ ap (map through) (sym (cut_at-map content 0 (ends_of l.places) l.items.items)) ∙ map-both (map content) through parts in
     ap (λ ls. slice_index_or ls i []) lists ∙ get-mapped (λ p. through (map content p)) parts i part [] found
 
-pub part-within : {T C D : Type 0} (content : T → C) (through : List C → List D) (n : ℕ) (listed : Option (Listed T)) (i : ℕ) → is_listed listed ≡ true → i < next_leaves n listed → i < length (map through (parts_of content listed))
-part-within content through n listed i is within =
+pub part-within : {T C D : Type 0} (content : T → C) (through : List C → List D) (n : ℕ) (parts : List (List C)) (passes done : Bool) (listed : Option (Listed T)) (i : ℕ)
+    → is_ready passes done listed ≡ true → (done ≡ true → length parts ≡ n) → i < next_leaves n listed → i < length (map through (parts_of content parts listed))
+part-within content through n parts passes done listed i is count within =
     let Q : ℕ → Type 0 = λ m. i < m in
-    subst Q (sym (length-map (parts_of content listed) through ∙ count-parts_of content n listed is)) within
+    subst Q (sym (length-map (parts_of content parts listed) through ∙ count-parts_of content n parts passes done listed is count)) within
 
 -- once the last barrier has run, the entries are all there
-pub told-all : {T : Type 0} (before all : List Outcome → Type 0) (listed : Option (Listed T)) (entries : List Outcome) → is_listed listed ≡ true → ToldSoFar before all listed entries → all entries
-told-all before all None entries is told = absurd (true≢false (sym is))
-told-all before all (Some l) entries is told = told
+pub told-all : {T : Type 0} (passes done : Bool) (before all : List Outcome → Type 0) (listed : Option (Listed T)) (entries : List Outcome) → is_ready passes done listed ≡ true
+    → ToldSoFar passes before all listed entries → all entries
+told-all passes done before all None entries is told = absurd (true≢false (sym (ready-passes passes done is).0 ∙ told.0))
+told-all passes done before all (Some l) entries is told = told
 
 -- and before it they are those of the barriers before
-pub told-before : {T : Type 0} (before all : List Outcome → Type 0) (listed : Option (Listed T)) (entries : List Outcome) → is_listed listed ≡ false → ToldSoFar before all listed entries → before entries
-told-before before all None entries unrun told = told
-told-before before all (Some l) entries unrun told = absurd (true≢false unrun)
+pub told-before : {T : Type 0} (passes : Bool) (before all : List Outcome → Type 0) (listed : Option (Listed T)) (entries : List Outcome) → is_listed listed ≡ false
+    → ToldSoFar passes before all listed entries → (passes ≡ false) × before entries
+told-before passes before all None entries unrun told = told
+told-before passes before all (Some l) entries unrun told = absurd (true≢false unrun)

@@ -44,7 +44,7 @@ impl<U: Stream, B: Barrier<U::Item>> Barred<U, B> {
 }
 
 impl<U: Stream, B: Barrier<U::Item>> Stream for Barred<U, B> {
-    ghost use Rattle.parallel_streams.specs.Progress.{HoldsBarred, IsPlannedBarred, ToldSoFar, is_listed, left_of, waiting_of, next_leaves, parts_of, own_work, barred_work};
+    ghost use Rattle.parallel_streams.specs.Progress.{HoldsBarred, IsPlannedBarred, ToldSoFar, is_ready, left_of, waiting_of, next_leaves, parts_of, own_work, barred_work};
     ghost use Rattle.parallel_streams.specs.ProgressLaws.{barred-leaves, left-parts_of, joined-parts_of, cut-parts_of, count-parts_of, told-all};
 
     type Item = U::Item;
@@ -61,7 +61,7 @@ impl<U: Stream, B: Barrier<U::Item>> Stream for Barred<U, B> {
 
     ghost told = { λ s. after (U.told s.upstream) (B.operation s.barrier) };
 
-    ghost holds = { λ s. HoldsBarred (U.holds s.upstream) };
+    ghost holds = { λ s. HoldsBarred (U.holds s.upstream) (B.value_behind s.barrier) };
 
     ghost left = { λ s p. left_of U.Item.content (B.value_behind s.barrier p.state) (U.left s.upstream p.before) (U.behind s.upstream p.before) p.listed };
 
@@ -69,7 +69,7 @@ impl<U: Stream, B: Barrier<U::Item>> Stream for Barred<U, B> {
 
     ghost still = { λ s p. U.still s.upstream p.before };
 
-    ghost done = { λ s p. is_listed p.listed };
+    ghost done = { λ s p. is_ready p.passes (U.done s.upstream p.before) p.listed };
 
     ghost waiting = { λ s p. waiting_of (U.waiting s.upstream p.before) p.listed };
 
@@ -78,7 +78,7 @@ impl<U: Stream, B: Barrier<U::Item>> Stream for Barred<U, B> {
     ghost work = { λ s p. let own = own_work (B.needed_behind s.barrier p.state) (B.Demand.counted s.barrier) U.Item.is_value U.Item.content in
         barred_work (U.done s.upstream p.before) (U.work s.upstream p.before) (own (U.parts s.upstream p.before)) };
 
-    ghost parts = { λ s p. parts_of U.Item.content p.listed };
+    ghost parts = { λ s p. parts_of U.Item.content (U.parts s.upstream p.before) p.listed };
 
     ghost cut_into = { λ s. IsCutList (B.value s.barrier (U.value s.upstream)) };
 
@@ -93,35 +93,37 @@ impl<U: Stream, B: Barrier<U::Item>> Stream for Barred<U, B> {
     ghost told_so_far = { λ s workers target p.
         let until = IsBarrierReport (U.cut_into s.upstream) (U.value s.upstream) (U.reported s.upstream) in
         let all = until (B.Demand.needed s.barrier) (B.Demand.counted s.barrier) (B.value s.barrier) workers target in
-        ToldSoFar (U.told_so_far s.upstream workers target p.before) all p.listed };
+        ToldSoFar p.passes (U.told_so_far s.upstream workers target p.before) all p.listed };
 
     ghost flag_law = { λ s. B.flag_law s.barrier (U.told s.upstream) (U.size s.upstream) (U.value s.upstream) (U.flag_law s.upstream) };
 
     ghost work_law = { λ s p unrun.
         let own = own_work (B.needed_behind s.barrier p.state) (B.Demand.counted s.barrier) U.Item.is_value U.Item.content in
-        let leaves = barred-leaves (U.done s.upstream p.before) (U.work s.upstream p.before) (own (U.parts s.upstream p.before)) in
+        let leaves = barred-leaves p.passes (U.done s.upstream p.before) (U.work s.upstream p.before) (own (U.parts s.upstream p.before)) in
         leaves (U.leaves_next s.upstream p.before) p.listed unrun (U.work_law s.upstream p.before) (U.parts_count s.upstream p.before) };
 
     ghost reported_law = { λ s workers target p entries done told.
         let until = IsBarrierReport (U.cut_into s.upstream) (U.value s.upstream) (U.reported s.upstream) in
         let all = until (B.Demand.needed s.barrier) (B.Demand.counted s.barrier) (B.value s.barrier) workers target in
-        told-all (U.told_so_far s.upstream workers target p.before) all p.listed entries done told };
+        told-all p.passes (U.done s.upstream p.before) (U.told_so_far s.upstream workers target p.before) all p.listed entries done told };
 
     ghost parts_law = { λ s p held done.
-        let left = left-parts_of U.Item.content (B.value_behind s.barrier p.state) (U.left s.upstream p.before) in
-        left (U.behind s.upstream p.before) p.listed held.1 done };
+        let left = left-parts_of U.Item.content (B.value_behind s.barrier p.state) (U.left s.upstream p.before) (U.behind s.upstream p.before) in
+        left (U.parts s.upstream p.before) p.passes (U.done s.upstream p.before) p.listed held.1 held.2 done (U.parts_law s.upstream p.before held.0) };
 
     ghost whole_law = { λ s workers target p held planned done.
         let joined = joined-parts_of U.Item.content (B.Demand.needed s.barrier) (B.needed_behind s.barrier p.state) in
-        let value = joined (B.value s.barrier) (B.value_behind s.barrier p.state) (U.value s.upstream) in
-        value workers target p.listed held.1 planned.1 done };
+        let value = joined (B.value s.barrier) (B.value_behind s.barrier p.state) (U.value s.upstream) workers target p.passes in
+        value (U.done s.upstream p.before) (U.parts s.upstream p.before) p.listed held.1 planned.1 done };
 
     ghost cut_law = { λ s workers target p held planned done.
         let cut = cut-parts_of U.Item.content (B.Demand.needed s.barrier) (B.needed_behind s.barrier p.state) in
-        let value = cut (B.value s.barrier) (B.value_behind s.barrier p.state) (U.value s.upstream) in
-        value workers target p.listed held.1 planned.1 done };
+        let value = cut (B.value s.barrier) (B.value_behind s.barrier p.state) (U.value s.upstream) workers target p.passes in
+        value (U.done s.upstream p.before) (U.parts s.upstream p.before) p.listed held.1 planned.1 done };
 
-    ghost parts_count = { λ s p done. count-parts_of U.Item.content (U.leaves_next s.upstream p.before) p.listed done };
+    ghost parts_count = { λ s p done.
+        let count = count-parts_of U.Item.content (U.leaves_next s.upstream p.before) (U.parts s.upstream p.before) in
+        count p.passes (U.done s.upstream p.before) p.listed done (U.parts_count s.upstream p.before) };
 
     fn known_size(&self) -> Option<u64> {
         self.barrier.size_after(self.upstream.known_size())
@@ -135,6 +137,11 @@ impl<U: Stream, B: Barrier<U::Item>> Stream for Barred<U, B> {
         true
     }
 
+    fn growth(&self) -> u64 {
+        self.upstream.growth()
+    }
+
+    // The first segment is listed, also where the barrier lets it pass: so all runs of a report are there.
     fn start(
         &self,
         alloc: Global,
@@ -148,6 +155,8 @@ impl<U: Stream, B: Barrier<U::Item>> Stream for Barred<U, B> {
             before,
             state,
             listed: None,
+            passes: false,
+            gathered: 0,
         })
     }
 
@@ -165,10 +174,13 @@ impl<U: Stream, B: Barrier<U::Item>> Stream for Barred<U, B> {
     ) -> Result<BarredProgress<U::Progress, B::State, U::Item>, NoMemory> {
         let BarredProgress { before, state, .. } = progress;
         let before = self.upstream.go_on(alloc, before, workers, target, most)?;
+        let passes = self.barrier.lets_pass(&state);
         Ok(BarredProgress {
             before,
             state,
             listed: None,
+            passes,
+            gathered: 0,
         })
     }
 
@@ -176,12 +188,25 @@ impl<U: Stream, B: Barrier<U::Item>> Stream for Barred<U, B> {
         &self,
         progress: &BarredProgress<U::Progress, B::State, U::Item>,
     ) -> Option<u64> {
-        self.barrier
-            .size_after(self.upstream.segment_size(&progress.before))
+        let size = self.upstream.segment_size(&progress.before);
+        if progress.passes {
+            size
+        } else {
+            self.barrier.size_after(size)
+        }
+    }
+
+    fn gathered(&self, progress: &BarredProgress<U::Progress, B::State, U::Item>) -> u64 {
+        self.upstream
+            .gathered(&progress.before)
+            .max(progress.gathered)
     }
 
     fn is_gathered(&self, progress: &BarredProgress<U::Progress, B::State, U::Item>) -> bool {
-        progress.listed.is_some()
+        match &progress.listed {
+            Some(_) => true,
+            None => progress.passes && self.upstream.is_gathered(&progress.before),
+        }
     }
 
     fn leaves(&self, progress: &BarredProgress<U::Progress, B::State, U::Item>) -> usize {
@@ -271,6 +296,8 @@ impl<U: Stream, B: Barrier<U::Item>> Stream for Barred<U, B> {
         let BarredProgress {
             before,
             mut state,
+            passes,
+            gathered,
             ..
         } = progress;
         match part {
@@ -282,10 +309,13 @@ impl<U: Stream, B: Barrier<U::Item>> Stream for Barred<U, B> {
                     before,
                     state,
                     listed: None,
+                    passes,
+                    gathered,
                 })
             }
             Part::Own(pieces) => {
                 let list = pieces.into_list()?;
+                let gathered = list.len() as u64;
                 let is_cut = entry.cut().is_some();
                 let items = self.barrier.carry(&mut state, list, is_cut)?;
                 let places = Places::cut(alloc, items.as_slice(), workers, target)?;
@@ -294,6 +324,8 @@ impl<U: Stream, B: Barrier<U::Item>> Stream for Barred<U, B> {
                     before,
                     state,
                     listed,
+                    passes: false,
+                    gathered,
                 })
             }
         }
@@ -314,12 +346,15 @@ impl<U: Stream, B: Barrier<U::Item>> Stream for Barred<U, B> {
         leaf: usize,
         sink: &mut K,
     ) -> Result<(), NoMemory> {
-        let Some(listed) = &progress.listed else {
-            unreachable!()
-        };
-        let places = &listed.places;
-        let items = places.part(&listed.items, leaf);
-        feed_whole(alloc, stage, SliceSplit::new(items), sink)
+        match &progress.listed {
+            Some(listed) => {
+                let items = listed.places.part(&listed.items, leaf);
+                feed_whole(alloc, stage, SliceSplit::new(items), sink)
+            }
+            None => self
+                .upstream
+                .feed_last_leaf(alloc, &progress.before, stage, leaf, sink),
+        }
     }
 
     fn run_last_leaf<
@@ -336,10 +371,14 @@ impl<U: Stream, B: Barrier<U::Item>> Stream for Barred<U, B> {
         seat: &mut L::Seat,
         leaf: usize,
     ) -> Result<LeafEnd<C::Acc>, NoMemory> {
-        let Some(listed) = &progress.listed else {
-            unreachable!()
-        };
-        let items = listed.places.part(&listed.items, leaf);
-        read_leaf(alloc, SliceSplit::new(items), reading, board, seat, leaf)
+        match &progress.listed {
+            Some(listed) => {
+                let items = listed.places.part(&listed.items, leaf);
+                read_leaf(alloc, SliceSplit::new(items), reading, board, seat, leaf)
+            }
+            None => self
+                .upstream
+                .run_last_leaf(alloc, &progress.before, reading, board, seat, leaf),
+        }
     }
 }

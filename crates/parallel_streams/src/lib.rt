@@ -15,7 +15,8 @@ mod staged;
 mod stream;
 
 pub use barred::Barred;
-pub use part::{BarredProgress, Listed, Part};
+pub use part::{BarredProgress, Listed, Part, end_before, end_own};
+pub use places::Places;
 pub use run::{MapError, Run, StreamError};
 pub use segments::{container_of, fold_into};
 pub use source::{Source, SourceProgress, of};

@@ -16,11 +16,15 @@ pub struct Listed<T> {
 }
 
 /// What the barriers left of the present segment: those before, and the last one, once it has run. And the last one's state.
+///
+/// Where `passes`, it leaves everything as it is, and doesn't run. `gathered` tells how many items its run listed.
 #[derive(Drop)]
 pub struct BarredProgress<P, S, T> {
     pub before: P,
     pub state: S,
     pub listed: Option<Listed<T>>,
+    pub passes: bool,
+    pub gathered: u64,
 }
 
 /// What is kept of leaves in one barrier's run: that of a barrier before, or the items that the last one looks at.

@@ -4,55 +4,85 @@ ghost use Rattle.collectors.specs.Laws.{IsContainerOf};
 ghost use Rattle.collectors.specs.Reductions.{first};
 ghost use Rattle.spliterator.specs.Clones.{ClonesAlike};
 ghost use Rattle.parallel_streams.specs.Runs.{AnswersUnder, IsLawfulRun};
+ghost use Rattle.parallel_streams.specs.Searches.{IsFound};
 ghost use Rattle.parallel_streams.specs.Terminals.{any_meets};
 
 use crate::evaluate::{run_barriers, run_last, run_whole};
 use crate::settings::allow;
 use crate::{Run, Stream, StreamError};
 use barriers::{Demand, Total};
-use collectors::{Collector, Counting, First, combine_containers};
+use collectors::{Collector, Counting, First, combine_containers, finish_container};
 use spliterator::NoMemory;
 use std::alloc::Global;
 use std::thread::Threads;
 use stealing_pool::Gate;
 
-// The most items of the first segment.
+// The most items of the first segment, where no stage makes several of one.
 const FIRST: u64 = 1 << 12;
 
 // How many times as many items the next segment may have as the one before it. A source halves, so what stands next has about as many as all before it.
 const TIMES_LONGER: u64 = 2;
 
-// The most items of a segment.
+// The most items of a segment, and about the most that a barrier is to list of one.
 const MOST: u64 = 1 << 20;
 
-// One worker runs a segment of at most so many items, since threads take longer to start than they would save.
-const ALONE: u64 = 1 << 14;
+// One worker runs a segment of which at most about so many items come, since threads take longer to start than they would save.
+const ALONE: u64 = 1 << 16;
 
-// How many items the first segment of a stream may have: no bound where no operation looks at more than one item.
-fn first_size<X: Stream>(stream: &X) -> Option<u64> {
-    if stream.has_barrier() {
-        Some(FIRST)
-    } else {
-        None
+// How long a segment is: at most so many items, or with no bound, and about how many come of each.
+#[derive(Clone, Copy)]
+struct Extent {
+    most: Option<u64>,
+    growth: u64,
+}
+
+impl Extent {
+    // That of a stream's first segment: it has no bound where no operation looks at more than one item.
+    fn first<X: Stream>(stream: &X) -> Extent {
+        let growth = stream.growth().max(1);
+        let most = if stream.has_barrier() {
+            Some((FIRST / growth).max(1))
+        } else {
+            None
+        };
+        Extent { most, growth }
+    }
+
+    // How many items the segment behind may have, where of this one so many were listed: where as many come of each, or as the stages tell, it lists `MOST` at most.
+    fn next_size(&self, gathered: u64) -> u64 {
+        let size = self.most.unwrap_or(FIRST);
+        let few = (MOST / self.growth.max(1)).max(1);
+        let longer = size.saturating_mul(TIMES_LONGER).min(few);
+        match size.saturating_mul(MOST).checked_div(gathered) {
+            Some(fitting) => longer.min(fitting).max(1),
+            None => longer,
+        }
+    }
+
+    // The extent of the segment behind, of at most so many items.
+    fn next(&self, most: u64, gathered: u64) -> Extent {
+        let size = self.most.unwrap_or(FIRST).max(1);
+        Extent {
+            most: Some(most),
+            growth: self.growth.max(gathered / size),
+        }
+    }
+
+    fn is_short(&self) -> bool {
+        match self.most {
+            Some(most) => most.saturating_mul(self.growth) <= ALONE,
+            None => false,
+        }
     }
 }
 
-// How many items the segment behind one of so many may have.
-fn next_size(size: Option<u64>) -> u64 {
-    size.unwrap_or(FIRST).saturating_mul(TIMES_LONGER).min(MOST)
-}
-
-// How a segment of so many items runs.
-fn run_of<'r, H>(run: &Run<'r, H>, size: Option<u64>) -> Run<'r, H>
+// How a segment runs.
+fn run_of<'r, H>(run: &Run<'r, H>, extent: &Extent) -> Run<'r, H>
     requires { IsLawfulRun run.now.workers run.now.target }
     ensures { IsLawfulRun result.workers result.target }
 {
-    let is_short = match size {
-        Some(size) => size <= ALONE,
-        None => false,
-    };
     Run {
-        workers: if is_short { 1 } else { run.workers },
+        workers: if extent.is_short() { 1 } else { run.workers },
         target: run.target,
         gate: run.gate,
     }
@@ -114,14 +144,15 @@ where
         let made = IsContainerOf X.Item.is_value (C.content it) (C.empty it) (C.add it) in
         IfOk result (made (X.value stream.now)) }
 {
-    let mut size = first_size(stream);
-    let own = run_of(run, size);
-    let begun = stream.start(alloc, own.workers, own.target, size)?;
+    let mut extent = Extent::first(stream);
+    let own = run_of(run, &extent);
+    let begun = stream.start(alloc, own.workers, own.target, extent.most)?;
     let (mut progress, mut whole) = collect_segment(rt, alloc, stream, &own, begun, collector)?;
     while !stream.is_last(&progress) {
-        let most = next_size(size);
-        size = Some(most);
-        let own = run_of(run, size);
+        let gathered = stream.gathered(&progress);
+        let most = extent.next_size(gathered);
+        extent = extent.next(most, gathered);
+        let own = run_of(run, &extent);
         let next = stream.go_on(alloc, progress, own.workers, own.target, most)?;
         let (after, acc) = collect_segment(rt, alloc, stream, &own, next, collector)?;
         progress = after;
@@ -195,6 +226,57 @@ where
     Ok(())
 }
 
+// The container of the first segment that has a hit: an item that counts, where one is enough for the demand. Of that segment's items it has all, or a
+// front with a hit. The segments behind it are not read.
+fn search<
+    R: Threads + Sync,
+    X: Stream + Sync,
+    D: Demand<X::Item> + Sync,
+    C: Collector<Item = X::Item> + Sync,
+    H: Gate + Sync,
+>(
+    rt: &R,
+    alloc: Global,
+    stream: &X,
+    run: &Run<'_, H>,
+    demand: &D,
+    collector: &C,
+) -> Result<Option<C::Acc>, NoMemory>
+where
+    X::Item: Send + Sync,
+    X::Progress: Send + Sync,
+    X::Part: Send,
+    C::Acc: Send,
+    C::Out: Send,
+    requires stream { X.ready stream.now }
+    requires demand { D.ready demand.now }
+    requires collector { C.ready collector.now }
+    requires one { D.needed demand.now ≡ Some 1 }
+    requires settings { IsLawfulRun run.now.workers run.now.target }
+    ensures { let it = collector.now in
+        let made = IsContainerOf X.Item.is_value (C.content it) (C.empty it) (C.add it) in
+        IfOk result (IsFound (D.counted demand.now) made (X.value stream.now)) }
+{
+    let mut extent = Extent::first(stream);
+    let mut own = run_of(run, &extent);
+    let mut progress = stream.start(alloc, own.workers, own.target, extent.most)?;
+    loop {
+        let (gathered, _) = run_barriers(rt, alloc, stream, &own, progress)?;
+        let (acc, entry) = run_last(rt, alloc, stream, &own, &gathered, demand, collector)?;
+        if entry.cut().is_some() {
+            return Ok(Some(acc));
+        }
+        if stream.is_last(&gathered) {
+            return Ok(None);
+        }
+        let listed = stream.gathered(&gathered);
+        let most = extent.next_size(listed);
+        extent = extent.next(most, listed);
+        own = run_of(run, &extent);
+        progress = stream.go_on(alloc, gathered, own.workers, own.target, most)?;
+    }
+}
+
 /// The first of a stream's items, or none. The segments behind it are not read.
 pub fn first_item<R: Threads + Sync, X: Stream + Sync, H: Gate + Sync>(
     rt: &R,
@@ -211,24 +293,10 @@ where
     requires settings { IsLawfulRun run.now.workers run.now.target }
     ensures { IfOk result (λ found. option_map X.Item.content found ≡ first (X.value stream.now)) }
 {
-    let mut size = first_size(stream);
-    let mut own = run_of(run, size);
-    let mut progress = stream.start(alloc, own.workers, own.target, size)?;
-    loop {
-        let (gathered, _) = run_barriers(rt, alloc, stream, &own, progress)?;
-        let first = First::<X::Item>::new();
-        let (acc, _) = run_last(rt, alloc, stream, &own, &gathered, &Total::new(1), &first)?;
-        let found = first.finish(acc)?;
-        if found.is_some() {
-            return Ok(found);
-        }
-        if stream.is_last(&gathered) {
-            return Ok(None);
-        }
-        let most = next_size(size);
-        size = Some(most);
-        own = run_of(run, size);
-        progress = stream.go_on(alloc, gathered, own.workers, own.target, most)?;
+    let first = First::<X::Item>::new();
+    match search(rt, alloc, stream, run, &Total::new(1), &first)? {
+        Some(acc) => finish_container(&first, acc),
+        None => Ok(None),
     }
 }
 
@@ -251,22 +319,6 @@ where
     requires settings { IsLawfulRun run.now.workers run.now.target }
     ensures { IfOk result (λ met. met ≡ any_meets (D.counted demand.now) (X.value stream.now)) }
 {
-    let mut size = first_size(stream);
-    let mut own = run_of(run, size);
-    let mut progress = stream.start(alloc, own.workers, own.target, size)?;
-    loop {
-        let (gathered, _) = run_barriers(rt, alloc, stream, &own, progress)?;
-        let counting = Counting::<X::Item>::new();
-        let (_, entry) = run_last(rt, alloc, stream, &own, &gathered, demand, &counting)?;
-        if entry.cut().is_some() {
-            return Ok(true);
-        }
-        if stream.is_last(&gathered) {
-            return Ok(false);
-        }
-        let most = next_size(size);
-        size = Some(most);
-        own = run_of(run, size);
-        progress = stream.go_on(alloc, gathered, own.workers, own.target, most)?;
-    }
+    let found = search(rt, alloc, stream, run, demand, &Counting::new())?;
+    Ok(found.is_some())
 }

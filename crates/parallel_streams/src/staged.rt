@@ -92,6 +92,11 @@ where
         self.upstream.has_barrier()
     }
 
+    fn growth(&self) -> u64 {
+        let growth = self.upstream.growth();
+        growth.saturating_mul(self.stage.growth())
+    }
+
     fn start(
         &self,
         alloc: Global,
@@ -119,6 +124,10 @@ where
 
     fn segment_size(&self, progress: &U::Progress) -> Option<u64> {
         self.stage.size_after(self.upstream.segment_size(progress))
+    }
+
+    fn gathered(&self, progress: &U::Progress) -> u64 {
+        self.upstream.gathered(progress)
     }
 
     fn is_gathered(&self, progress: &U::Progress) -> bool {

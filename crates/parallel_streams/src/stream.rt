@@ -82,7 +82,7 @@ pub trait Stream {
     // falls with each segment, and is 0 where none is behind the present one
     ghost still: { Self → Self.Progress → ℕ };
 
-    // whether all barriers have run, and how many have not
+    // whether all barriers have run or let pass what comes, and how many have not
     ghost done: { Self → Self.Progress → Bool };
 
     ghost waiting: { Self → Self.Progress → ℕ };
@@ -120,6 +120,11 @@ pub trait Stream {
         false
     }
 
+    /// About how many items come of one of the source's. It is no promise: a segment is as much shorter.
+    fn growth(&self) -> u64 {
+        1
+    }
+
     /// Nothing has run. The source is cut into leaves: all of it, or a first segment that it estimates at most `most` items, as far as it splits.
     fn start(
         &self,
@@ -136,6 +141,7 @@ pub trait Stream {
 
     /// Whether no item comes behind the present segment.
     fn is_last(&self, progress: &Self::Progress) -> bool
+        requires { ready self.now }
         ensures last { result ≡ true → behind self.now progress.now ≡ [] }
         ensures later { result ≡ false → 0 < still self.now progress.now };
 
@@ -160,7 +166,12 @@ pub trait Stream {
         None
     }
 
-    /// Whether all barriers have run.
+    /// How many items the longest list of the present segment's barriers had, before its barrier cut it. It is no promise.
+    fn gathered(&self, _progress: &Self::Progress) -> u64 {
+        0
+    }
+
+    /// Whether all barriers have run, or let pass what comes.
     fn is_gathered(&self, progress: &Self::Progress) -> bool
         ensures { result ≡ done self.now progress.now };
 

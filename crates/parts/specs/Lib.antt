@@ -1,4 +1,3 @@
-pub mod AtMostOne
 pub mod Lists
 pub mod Near
 pub mod Remainders

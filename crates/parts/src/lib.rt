@@ -5,7 +5,6 @@
 //! ```
 #![tactic(auto)]
 
-mod at_most_one;
 mod blocks;
 mod closures;
 mod comparisons;
@@ -18,7 +17,6 @@ mod pairs;
 mod small_divisor;
 mod texts;
 
-pub use at_most_one::AtMostOne;
 pub use blocks::{copy_each, keep_all, keep_runs, map_all, remainders};
 pub use closures::{mapping, operator, test};
 pub use comparisons::{Above, Below, Divisible, Equal, Even};

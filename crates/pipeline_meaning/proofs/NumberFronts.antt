@@ -15,7 +15,7 @@ use Rattle.pipeline_meaning.specs.Prepared.{mapping_image, check_holds}
 use Rattle.pipeline_meaning.specs.Stages.{number_stage, is_map_stage}
 use Rattle.pipeline_meaning.specs.NumberSteps.{number_step_images, steps_images, copies, images_of, number_images, is_map_step, is_none, are_maps, only_maps, Follows}
 use Rattle.parts.specs.Lists.{map-flat_map, filter-flat_map}
-use Rattle.pipeline_meaning.specs.WalkLaws.{IsFront, flat_map-same, all-one-more}
+use Rattle.pipeline_meaning.specs.WalkLaws.{flat_map-same, all-one-more}
 use Rattle.pipeline_meaning.specs.declared.functions.NumberMapping.{NumberMapping}
 use Rattle.pipeline_meaning.specs.declared.functions.NumberCheck.{NumberCheck}
 use Rattle.pipeline_meaning.specs.declared.number_steps.NumberStep.{NumberStep}
@@ -125,9 +125,9 @@ module _ (old new : NumberSteps) where
         ap₂ are_maps steps repeats ∙ repeats-end old.steps.items old.repeats.items n,
       )
 
--- steps that are so many stages
-abbrev pub AreFront : NumberSteps → List NumberStage → Type 0
-AreFront steps front = IsFront number_stage is_map_stage (number_images steps) (only_maps steps) front
+-- no step makes of a list the list itself
+pub no-steps : (steps : NumberSteps) → steps.steps.items ≡ [] → steps.repeats.items ≡ [] → (l : List ℤ) → flat_map (number_images steps) l ≡ l
+no-steps steps none no-repeats l = ap₂ (λ s r. flat_map (images_of s r) l) none no-repeats ∙ flat_map-one l
 
-pub no-stages : (steps : NumberSteps) → steps.steps.items ≡ [] → steps.repeats.items ≡ [] → AreFront steps []
-no-stages steps none no-repeats = (λ l. ap₂ (λ s r. flat_map (images_of s r) l) none no-repeats ∙ flat_map-one l, ap₂ are_maps none no-repeats)
+pub no-size : (steps : NumberSteps) → steps.steps.items ≡ [] → steps.repeats.items ≡ [] → only_maps steps ≡ true
+no-size steps none no-repeats = ap₂ are_maps none no-repeats

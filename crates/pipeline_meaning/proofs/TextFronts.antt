@@ -1,5 +1,5 @@
 -- Prepared stages over texts, and words of texts.
-use Rattle.std.specs.Prelude.{◌≡◌, ◌≤◌, ◌+◌, ◌==◌, ◌&&◌, ⊤, ℕ, List, [], ◌∷◌, ◌++◌, Option, Some, None, MatchOption, filter, flat_map, length, refl}
+use Rattle.std.specs.Prelude.{◌≡◌, ◌≤◌, ◌+◌, ◌==◌, ◌&&◌, true, ⊤, ℕ, List, [], ◌∷◌, ◌++◌, Option, Some, None, MatchOption, filter, flat_map, length, refl}
 use Rattle.std.proofs.Common.{Bor, arith, lit<, ap, ap₂, sym, subst, ◌∙◌, length-append}
 use Rattle.std.proofs.Math.Bool.{and-true}
 use Rattle.std.proofs.lemmas.List.Folds.{list_all-append}
@@ -15,7 +15,7 @@ use Rattle.pipeline_meaning.specs.Stages.{text_stage, is_map_stage}
 use Rattle.pipeline_meaning.specs.TextSteps.{text_images, text_step_images, is_map_step, only_maps, Follows}
 use Rattle.stages.specs.Passing.{flat_map-one}
 use Rattle.parts.specs.Lists.{filter-flat_map}
-use Rattle.pipeline_meaning.specs.WalkLaws.{IsFront, IsStep, all-one-more}
+use Rattle.pipeline_meaning.specs.WalkLaws.{IsStep, all-one-more}
 use Rattle.pipeline_meaning.specs.declared.functions.TextCheck.{TextCheck}
 use Rattle.pipeline_meaning.specs.declared.text_steps.TextStep.{TextStep}
 use Rattle.pipeline_meaning.specs.declared.text_steps.TextSteps.{TextSteps}
@@ -51,8 +51,11 @@ filter-step stage p k is e =
     let P : TextStage → Type 0 = λ s. IsStep text_step_images text_stage is_map_step is_map_stage (Filter k) s in
     subst P (sym is) ((λ l. sym (filter-flat_map (text_holds k.test) l) ∙ ap (λ (q : TextTest). filter (text_holds q) l) e), refl)
 
-pub no-stages : (steps : List TextStep) → steps ≡ [] → IsFront text_stage is_map_stage (text_images steps) (only_maps steps) []
-no-stages steps none = (λ l. ap (λ s. flat_map (text_images s) l) none ∙ flat_map-one l, ap only_maps none)
+pub no-steps : (steps : List TextStep) → steps ≡ [] → (l : List (List ℕ)) → flat_map (text_images steps) l ≡ l
+no-steps steps none l = ap (λ s. flat_map (text_images s) l) none ∙ flat_map-one l
+
+pub no-size : (steps : List TextStep) → steps ≡ [] → only_maps steps ≡ true
+no-size steps none = ap only_maps none
 
 -- a step behind the others is a stage behind them
 pub step-follows : (old new : TextSteps) (step : TextStep) (stage : TextStage) → new.steps.items ≡ old.steps.items ++ step ∷ []

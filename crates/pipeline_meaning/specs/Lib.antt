@@ -1,5 +1,4 @@
 pub mod Adapting
-pub mod AtMostOne
 pub mod Functions
 pub mod NumberSteps
 pub mod Prepared

@@ -54,12 +54,6 @@ abbrev pub is_map_step : TextStep → Bool
 is_map_step Itself = true
 is_map_step _ = false
 
--- a text has one image or none
-abbrev pub is_single_step : TextStep → Bool
-is_single_step Itself = true
-is_single_step (Filter check) = true
-is_single_step _ = false
-
 abbrev pub only_maps : List TextStep → Bool
 only_maps steps = list_all is_map_step steps
 

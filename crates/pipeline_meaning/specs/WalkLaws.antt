@@ -1,13 +1,12 @@
 -- Why a walk over prepared steps is what the stages make of a list.
-use Rattle.std.specs.Prelude.{◌≡◌, ◌≤◌, ◌<◌, ◌-◌, ◌+◌, ◌&&◌, ℕ, Bool, true, false, List, [], ◌∷◌, ◌++◌, flat_map, length, take, refl}
-use Rattle.std.proofs.Common.{ap, ◌∙◌, sym, subst, arith, append-nil, get_or}
+use Rattle.std.specs.Prelude.{◌≡◌, ◌≤◌, ◌-◌, ◌+◌, ℕ, Bool, true, false, List, [], ◌∷◌, ◌++◌, flat_map, refl}
+use Rattle.std.proofs.Common.{ap, ◌∙◌, sym, subst, arith, append-nil}
 use Rattle.std.proofs.Math.ListN.{replicate}
 use Rattle.std.specs.List.{list_all, AllPass}
 use Rattle.std.specs.declared.cmp.Ordering.{Ordering}
-use Rattle.std.proofs.lemmas.List.{replicate-append-replicate, take_more}
+use Rattle.std.proofs.lemmas.List.{replicate-append-replicate}
 use Rattle.std.proofs.lemmas.List.Concat.{flat_map-append}
 use Rattle.std.proofs.lemmas.List.Elements.{All-head, All-tail}
-use Rattle.std.proofs.lemmas.List.Folds.{list_all_more}
 use Rattle.std.proofs.lemmas.List.Sums.{AllPass-from_list_all}
 use Rattle.stages.specs.declared.flags.Operation.TheVariants.{Map as map_row}
 use Rattle.stages.specs.Flags.{KeepsSound, IsSound, after}
@@ -71,19 +70,3 @@ pub stages-one-more : {G A : Type 0} (stage : G → A → A) (earlier : List G) 
     → one_after_other stage (earlier ++ last ∷ []) items ≡ stage last (one_after_other stage earlier items)
 stages-one-more stage [] last items = refl
 stages-one-more stage (first ∷ earlier) last items = stages-one-more stage earlier last (stage first items)
-
--- Steps that are so many stages, by their images and whether all are maps, and a stage more behind them.
-module _ {G A : Type 0} (stage : G → List A → List A) (is_map : G → Bool) where
-  abbrev pub IsFront : (A → List A) → Bool → List G → Type 0
-  IsFront images maps stages = ((l : List A) → flat_map images l ≡ one_after_other stage stages l) × (maps ≡ list_all is_map stages)
-
-  abbrev pub IsBehind : G → (A → List A) → Bool → (A → List A) → Bool → Type 0
-  IsBehind last old were new are = ((l : List A) → flat_map new l ≡ stage last (flat_map old l)) × (are ≡ (were && is_map last))
-
-  pub front-more : (old new : A → List A) (were are : Bool) (stages : List G) (i : ℕ) (d : G) → i < length stages
-      → IsFront old were (take i stages) → IsBehind (get_or stages i d) old were new are → IsFront new are (take (i + 1) stages)
-  front-more old new were are stages i d within front behind =
-      let last = get_or stages i d in (
-        λ l. behind.0 l ∙ ap (stage last) (front.0 l) ∙ sym (ap (λ s. one_after_other stage s l) (take_more stages i d within) ∙ stages-one-more stage (take i stages) last l),
-        behind.1 ∙ ap (λ b. b && is_map last) front.1 ∙ sym (list_all_more is_map stages i d within),
-      )

@@ -1,14 +1,12 @@
 //! The functions and tests of steps over a block: which one it is is asked once a block.
-ghost use Rattle.std.specs.Prelude.{◌≡◌, OnOk, [], ◌∷◌, cond, flat_map, not};
+ghost use Rattle.std.specs.Prelude.{◌≡◌, OnOk, [], ◌∷◌, cond, flat_map};
 ghost use Rattle.pipeline_meaning.specs.Prepared.{check_holds, mapping_image};
 
 use crate::functions::{NumberChange, NumberCheck, NumberComparison, NumberMapping};
 use parts::{
-    Above, Below, Divisible, Equal, Negated, Not, Plus, Times, keep_all, keep_runs, map_all,
-    remainders,
+    Above, Below, Divisible, Equal, Negated, Plus, Times, keep_all, keep_runs, map_all, remainders,
 };
 use spliterator::NoMemory;
-use stages::Test;
 
 /// Puts each number's image in its place.
 pub(crate) fn map_block(mapping: NumberMapping, items: &mut Vec<i64>) -> Result<(), NoMemory>
@@ -35,27 +33,6 @@ pub(crate) fn filter_block(check: NumberCheck, items: &mut Vec<i64>)
             NumberComparison::Less(bound) => keep_runs(Below(bound), items),
             NumberComparison::Greater(bound) => keep_runs(Above(bound), items),
             NumberComparison::Equals(number) => keep_runs(Equal(number), items),
-        },
-    }
-}
-
-fn keep_failing<P: Test<i64> + Copy>(test: P, items: &mut Vec<i64>)
-    requires { P.ready test }
-    ensures { items.new.items ≡ flat_map (λ x. cond (not (P.holds test x)) (x ∷ []) []) items.old.items }
-{
-    keep_runs(Not(test), items);
-}
-
-/// Leaves the numbers that fail a test.
-pub(crate) fn drop_block(check: NumberCheck, items: &mut Vec<i64>)
-    ensures { items.new.items ≡ flat_map (λ x. cond (not (check_holds check x)) (x ∷ []) []) items.old.items }
-{
-    match check {
-        NumberCheck::Divisible(divisor) => keep_all(Not(Divisible { divisor }), items),
-        NumberCheck::Comparison(comparison) => match comparison {
-            NumberComparison::Less(bound) => keep_failing(Below(bound), items),
-            NumberComparison::Greater(bound) => keep_failing(Above(bound), items),
-            NumberComparison::Equals(number) => keep_failing(Equal(number), items),
         },
     }
 }

@@ -2,9 +2,7 @@
 #![tactic(auto)]
 
 mod adapted;
-mod at_most_one;
 mod block_functions;
-mod failing;
 mod functions;
 mod number_bases;
 mod number_copies;
@@ -17,7 +15,6 @@ mod text_steps;
 mod text_summaries;
 
 pub use adapted::{Adapted, Adapting};
-pub use failing::{FailingNumbers, Fails};
 pub use functions::{
     NumberChange, NumberCheck, NumberComparison, NumberJoining, NumberMapping, NumberMerging,
     TextCheck, TextMerging,

@@ -1,10 +1,10 @@
 //! The stages over numbers that look at one item at a time, as one stage that runs each over a whole block.
-ghost use Rattle.std.specs.Prelude.{◌≡◌, ◌≤◌, ◌<◌, ℕ, ℤ, IsTrue, IfOk, OnOk, List, MatchBool, Option, flat_map, length, take};
-ghost use Rattle.std.specs.List.{HoldsAt, list_all};
+ghost use Rattle.std.specs.Prelude.{◌≡◌, ◌≤◌, ℕ, ℤ, IsTrue, IfOk, OnOk, List, true, MatchBool, Option, flat_map};
+ghost use Rattle.std.specs.List.{list_all};
 ghost use Rattle.std.specs.Ordering.{int_cmp};
 ghost use Rattle.pipeline_meaning.specs.NumberSteps.{number_images, number_step_images, steps_images, is_map_step, is_none, only_maps, Follows, WithCopies, KeepsSound-number_steps};
 ghost use Rattle.pipeline_meaning.specs.Rows.{row_of, size_of};
-ghost use Rattle.pipeline_meaning.specs.Stages.{number_stages, is_barrier_stage, is_map_stage};
+ghost use Rattle.pipeline_meaning.specs.Stages.{is_barrier_stage};
 
 use crate::block_functions::{filter_block, map_block};
 use crate::number_copies::feed_repeated;
@@ -63,27 +63,16 @@ pub struct NumberSteps {
 }
 
 impl NumberSteps {
-    /// The stages up to the first barrier, as one stage, and how many they are.
-    pub fn front_of(alloc: Global, stages: &[NumberStage]) -> Result<(NumberSteps, usize), NoMemory>
-        ensures within { IfOk result (λ r. r.1 ≤ length stages.now) }
-        ensures means { IfOk result (λ r. (l : List ℤ) →
-            flat_map (⟦<NumberSteps as Stage>⟧.expand r.0) l ≡ number_stages (take r.1 stages.now) l) }
-        ensures barrier { IfOk result (λ r. r.1 < length stages.now →
-            HoldsAt (λ stage. IsTrue (is_barrier_stage stage)) stages.now r.1) }
-        ensures size { IfOk result (λ r. IsTrue (list_all is_map_stage (take r.1 stages.now)) →
-            (size : Option ℕ) → ⟦<NumberSteps as Stage>⟧.size_after r.0 size ≡ size) }
+    /// No stage.
+    pub fn new(alloc: Global) -> NumberSteps
+        ensures means { (l : List ℤ) → flat_map (⟦<NumberSteps as Stage>⟧.expand result) l ≡ l }
+        ensures size { (size : Option ℕ) → ⟦<NumberSteps as Stage>⟧.size_after result size ≡ size }
     {
-        let mut front = NumberSteps {
+        NumberSteps {
             alloc,
             steps: Vec::new(alloc),
             repeats: Vec::new(alloc),
-        };
-        for (place, stage) in stages.iter().enumerate() {
-            if !front.put(stage)? {
-                return Ok((front, place));
-            }
         }
-        Ok((front, stages.len()))
     }
 
     /// Puts a stage behind the others. Says whether it did: it doesn't put a stage that looks at more than one item.
@@ -125,7 +114,7 @@ impl NumberSteps {
         }
     }
 
-    pub(crate) fn has_no_repeats(&self) -> bool
+    fn has_no_repeats(&self) -> bool
         ensures { result ≡ is_none self.now.repeats.items }
     {
         matches!(self.repeats.as_slice(), [])
@@ -135,6 +124,13 @@ impl NumberSteps {
         ensures { result ≡ list_all is_map_step self.now.steps.items }
     {
         self.steps.iter().all(NumberStep::is_map)
+    }
+
+    // Whether each number is its own image, with no step and no repeat.
+    fn is_nothing(&self) -> bool
+        ensures { result ≡ true → (l : List ℤ) → flat_map (number_images self.now) l ≡ l }
+    {
+        self.steps.as_slice().is_empty() && self.repeats.as_slice().is_empty()
     }
 
     // Whether each number has one image.
@@ -171,6 +167,18 @@ impl Stage for NumberSteps {
     fn feed_all<K: Sink<i64>>(&self, items: &mut Vec<i64>, sink: &mut K) -> Result<(), NoMemory> {
         run_all(self.steps.as_slice(), items)?;
         feed_repeated(self.alloc, self.repeats.as_slice(), items, sink)
+    }
+
+    fn lent_block<'a>(&'a self, items: &'a [i64]) -> Option<&'a [i64]> {
+        if self.is_nothing() { Some(items) } else { None }
+    }
+
+    fn growth(&self) -> u64 {
+        let mut growth: u64 = 1;
+        for number in self.repeats.iter() {
+            growth = growth.saturating_mul(*number);
+        }
+        growth.max(1)
     }
 
     fn operation(&self) -> Operation {

@@ -1,13 +1,13 @@
 //! The stages over texts that look at one item at a time, as one stage that walks them.
-ghost use Rattle.std.specs.Prelude.{◌≡◌, ◌≤◌, ◌<◌, ℕ, IsTrue, IfOk, OnOk, OnErr, List, ◌∷◌, Option, MatchBool, MatchOption, flat_map, length, take};
-ghost use Rattle.std.specs.List.{HoldsAt, list_all};
+ghost use Rattle.std.specs.Prelude.{◌≡◌, ◌≤◌, ◌<◌, ℕ, IsTrue, IfOk, OnOk, OnErr, List, ◌∷◌, Option, true, MatchBool, MatchOption, flat_map, length};
+ghost use Rattle.std.specs.List.{list_all};
 ghost use Rattle.std.specs.Ordering.{nat_cmp};
 ghost use Rattle.std.specs.Cmp.Lexicographic.{slice_cmp};
 ghost use Rattle.std.proofs.Math.ListN.{replicate};
 ghost use Rattle.file_words.specs.Words.{words_of};
 ghost use Rattle.pipeline_meaning.specs.Rows.{row_of, size_of};
-ghost use Rattle.pipeline_meaning.specs.TextSteps.{text_images, text_step_images, walked_images, Follows, IsFewer, words_left, letters_left, is_map_step, is_single_step, only_maps, KeepsSound-text_steps};
-ghost use Rattle.pipeline_meaning.specs.Stages.{text_stage, text_stages, is_barrier_stage, is_map_stage};
+ghost use Rattle.pipeline_meaning.specs.TextSteps.{text_images, text_step_images, walked_images, Follows, IsFewer, words_left, letters_left, is_map_step, only_maps, KeepsSound-text_steps};
+ghost use Rattle.pipeline_meaning.specs.Stages.{text_stage, is_barrier_stage, is_map_stage};
 ghost use Rattle.pipeline_meaning.specs.WalkLaws.{IsStep};
 
 use crate::TextCheck;
@@ -24,6 +24,9 @@ enum TextStep<'a> {
     Repeat(u64),
     Words,
 }
+
+// About how many words a text has.
+const WORDS: u64 = 16;
 
 impl<'a> TextStep<'a> {
     // `None` for a stage that looks at more than one item.
@@ -45,11 +48,13 @@ impl<'a> TextStep<'a> {
         matches!(self, TextStep::Itself)
     }
 
-    // Whether no text has more than one image.
-    fn is_single(&self) -> bool
-        ensures { result ≡ is_single_step self.now }
-    {
-        matches!(self, TextStep::Itself | TextStep::Filter(_))
+    // About how many texts come of one.
+    fn growth(&self) -> u64 {
+        match self {
+            TextStep::Repeat(n) => *n,
+            TextStep::Words => WORDS,
+            _ => 1,
+        }
     }
 }
 
@@ -60,28 +65,14 @@ pub struct TextSteps<'a> {
 }
 
 impl<'a> TextSteps<'a> {
-    /// The stages up to the first barrier, as one stage, and how many they are.
-    pub fn front_of(
-        alloc: Global,
-        stages: &[TextStage<'a>],
-    ) -> Result<(TextSteps<'a>, usize), NoMemory>
-        ensures within { IfOk result (λ r. r.1 ≤ length stages.now) }
-        ensures means { IfOk result (λ r. (l : List (List ℕ)) →
-            flat_map (⟦<TextSteps<'static> as Stage>⟧.expand r.0) l ≡ text_stages (take r.1 stages.now) l) }
-        ensures barrier { IfOk result (λ r. r.1 < length stages.now →
-            HoldsAt (λ stage. IsTrue (is_barrier_stage stage)) stages.now r.1) }
-        ensures size { IfOk result (λ r. IsTrue (list_all is_map_stage (take r.1 stages.now)) →
-            (size : Option ℕ) → ⟦<TextSteps<'static> as Stage>⟧.size_after r.0 size ≡ size) }
+    /// No stage.
+    pub fn new(alloc: Global) -> TextSteps<'a>
+        ensures means { (l : List (List ℕ)) → flat_map (⟦<TextSteps<'static> as Stage>⟧.expand result) l ≡ l }
+        ensures size { (size : Option ℕ) → ⟦<TextSteps<'static> as Stage>⟧.size_after result size ≡ size }
     {
-        let mut front = TextSteps {
+        TextSteps {
             steps: Vec::new(alloc),
-        };
-        for (place, stage) in stages.iter().enumerate() {
-            if !front.put(stage)? {
-                return Ok((front, place));
-            }
         }
-        Ok((front, stages.len()))
     }
 
     /// Puts a stage behind the others. Says whether it did: it doesn't put a stage that looks at more than one item.
@@ -98,11 +89,11 @@ impl<'a> TextSteps<'a> {
         }
     }
 
-    // Whether no text has more than one image.
-    pub(crate) fn is_single(&self) -> bool
-        ensures { result ≡ list_all is_single_step self.now.steps.items }
+    // Whether each text is its own image, with no step.
+    fn is_nothing(&self) -> bool
+        ensures { result ≡ true → (l : List (List ℕ)) → flat_map (text_images self.now.steps.items) l ≡ l }
     {
-        self.steps.iter().all(TextStep::is_single)
+        self.steps.as_slice().is_empty()
     }
 
     // Whether each text has one image.
@@ -245,6 +236,18 @@ impl<'a> Stage for TextSteps<'a> {
             Walked::Copied(n, rest) => feed_copies(n, rest, x, sink),
             Walked::Cut(rest) => feed_words(rest, x, sink),
         }
+    }
+
+    fn lent_block<'b>(&'b self, items: &'b [&'a str]) -> Option<&'b [&'a str]> {
+        if self.is_nothing() { Some(items) } else { None }
+    }
+
+    fn growth(&self) -> u64 {
+        let mut growth: u64 = 1;
+        for step in self.steps.iter() {
+            growth = growth.saturating_mul(step.growth());
+        }
+        growth.max(1)
     }
 
     fn operation(&self) -> Operation {

@@ -1,12 +1,12 @@
 -- The size that stages leave known.
 use Rattle.std.specs.Prelude.{◌≡◌, ◌≤◌, ◌<◌, ◌+◌, ◌^◌, ◌&&◌, ℕ, ℤ, pos, Bool, true, List, [], ◌∷◌, ◌++◌, length, take, refl}
 use Rattle.std.proofs.Common.{w64, to_z, of_z, ap, ap₂, ◌∙◌, sym, subst, get_or}
-use Rattle.std.specs.Int.{cast_signed}
+use Rattle.std.specs.Int.{cast_signed, int_wrap}
+use Rattle.std.proofs.Math.Nat.{mod-eq_of_lt}
 use Rattle.std.specs.List.{list_all}
 use Rattle.std.proofs.lemmas.Int.{of_z-to_z}
 use Rattle.std.proofs.lemmas.List.{take_all, take_more}
 use Rattle.std.proofs.lemmas.List.Folds.{list_all_more}
-use Rattle.fused_runs.proofs.Counts.{kept}
 use Rattle.stages.specs.Wrapping.{wrapped}
 use Rattle.pipeline_meaning.specs.Walks.{one_after_other}
 
@@ -32,6 +32,11 @@ module _ {S A : Type 0} (stage : S → List A → List A) where
 
   pub sized-all : (stays : S → Bool) (stages : List S) (i size left : ℕ) → length stages ≤ i → IsSized stays (take i stages) size left → IsSized stays stages size left
   sized-all stays stages i size left all h = let P : List S → Type 0 = λ s. IsSized stays s size left in subst P (take_all i stages all) h
+
+-- an unsigned number, as an i64 that wraps
+kept : (n : ℕ) → n < 2 ^ 64 → wrapped (pos n) ≡ cast_signed w64 n
+unfolding int_wrap
+kept n small = ap (cast_signed w64) (mod-eq_of_lt small)
 
 pub counted : (n : ℕ) (r : ℤ) → n < 2 ^ 64 → r ≡ cast_signed w64 n → to_z w64 (of_z w64 r) ≡ wrapped (pos n)
 counted n r small is = ap (λ z. to_z w64 (of_z w64 z)) is ∙ ap (to_z w64) (of_z-to_z w64 n small) ∙ sym (kept n small)

@@ -1,6 +1,5 @@
-pub mod StageFronts
 pub mod KnownSizes
-pub mod Stages
+pub mod Links
 pub mod Strict
 pub mod Telling
 pub mod RepeatedItems

@@ -1,21 +1,29 @@
 -- What a strict map's collector makes, as what is told.
-use Rattle.std.specs.Prelude.{◌≡◌, ℕ, Bool, true, List, [], ◌∷◌, ◌++◌, map, refl, Some, None, Ok, Err}
+use Rattle.std.specs.Prelude.{◌≡◌, ◌||◌, ℕ, Bool, true, false, List, [], ◌∷◌, ◌++◌, map, refl, Some, None, Ok, Err}
 use Rattle.std.specs.List.{list_any}
 use Rattle.std.proofs.Common.{sym, ap, ◌∙◌, subst, append-nil, append_assoc}
 use Rattle.std.proofs.lemmas.List.Folds.{list_any-append}
-use Rattle.fused_runs.proofs.FirstOnes.{apart-before}
 use Rattle.spliterator.specs.Values.{DecidesEquality}
 use Rattle.stages.specs.Distinct.{AllApart}
-use Rattle.stages.specs.Tests.{or-false_left}
+use Rattle.stages.specs.Tests.{apart-swap, or-false_left, or-false_right}
 use Rattle.collectors.specs.StrictMaps.{IsFirstRepeat}
 use Rattle.value_text.specs.Texts.{strict_text}
 use Rattle.pipeline_value.specs.Value.{first_repeat, repeat_or, strict_told}
 
 module _ {K : Type 0} (same : K → K → Bool) (decides : DecidesEquality same) where
+  -- a member of a list whose members are apart is none of those before it
+  apart-before : (earlier : List K) (k : K) (later : List K) → AllApart same (earlier ++ k ∷ later) → list_any (same k) earlier ≡ false
+  apart-before [] k later apart = refl
+  apart-before (j ∷ js) k later apart =
+      let none : (list_any (same j) js || list_any (same j) (k ∷ later)) ≡ false = sym (list_any-append (same j) js (k ∷ later)) ∙ apart.0 in
+      let here : same j k ≡ false = or-false_left (same j k) (list_any (same j) later) (or-false_right (list_any (same j) js) (list_any (same j) (k ∷ later)) none) in
+      let swapped : same k j ≡ false = apart-swap same decides j k here in
+      ap (λ t. t || list_any (same k) js) swapped ∙ apart-before js k later apart.1
+
   pub none-repeats : (earlier ks : List K) → AllApart same (earlier ++ ks) → first_repeat same earlier ks ≡ None
   none-repeats earlier [] apart = refl
   none-repeats earlier (k ∷ ks) apart =
-      let new = apart-before same decides earlier k ks apart in
+      let new = apart-before earlier k ks apart in
       simp new (none-repeats (earlier ++ k ∷ []) ks (subst (AllApart same) (sym (append_assoc earlier (k ∷ []) ks)) apart))
 
   AllApart-front : (front back : List K) → AllApart same (front ++ back) → AllApart same front
@@ -31,7 +39,7 @@ module _ {K : Type 0} (same : K → K → Bool) (decides : DecidesEquality same)
       let here : list_any (same k) earlier ≡ true = ap (list_any (same k)) (sym (append-nil earlier)) ∙ there in
       simp here
   one-repeats earlier (j ∷ front) k back apart there =
-      let new = apart-before same decides earlier j front apart in
+      let new = apart-before earlier j front apart in
       let regrouped = sym (append_assoc earlier (j ∷ []) front) in
       simp new (one-repeats (earlier ++ j ∷ []) front k back (subst (AllApart same) regrouped apart) (ap (list_any (same k)) (sym regrouped) ∙ there))
 

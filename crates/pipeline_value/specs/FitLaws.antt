@@ -24,7 +24,7 @@ use Rattle.pipeline_language.specs.Syntax.{Condition, origins, Coming, after_sta
 use Rattle.pipeline_value.specs.Ranges.{NumberSourceFits, NumberStageFits, TextStageFits, TextEndFits, PipelineFits}
 use Rattle.pipeline_language.specs.declared.grammar.Barrier as barriers
 use Rattle.pipeline_language.specs.Grammar as grammar
-use Rattle.pipeline_value.specs.Settling.{BarrierFits}
+use Rattle.pipeline_value.specs.Barriers.{BarrierFits}
 
 -- A number of items stands behind the name of its stage.
 natural_fits : (name : List ℕ) (n : ℕ) (words : List (List ℕ)) → WordsFit (Name name ∷ natural n ∷ []) words → n < 2 ^ 63

@@ -11,7 +11,7 @@ use Rattle.pipeline_language.specs.declared.pipeline.TextEnd.{TextEnd}
 use Rattle.pipeline_language.specs.declared.pipeline.TextEnd.TheVariants as ends
 use Rattle.pipeline_language.specs.declared.grammar.Stage.{Stage}
 use Rattle.pipeline_language.specs.declared.grammar.Stage.TheVariants.{Barrier}
-use Rattle.pipeline_value.specs.Settling.{BarrierFits}
+use Rattle.pipeline_value.specs.Barriers.{BarrierFits}
 
 -- a range has at most 2^62 items
 abbrev pub NumberSourceFits : NumberSource → Type 0

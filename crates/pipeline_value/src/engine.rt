@@ -1,7 +1,6 @@
 //! What each step of an evaluation uses.
 
-ghost use Rattle.std.specs.Prelude.{◌≡◌};
-ghost use Rattle.parallel_streams.specs.Runs.{HasLawfulWorkers, IsLawfulRun};
+ghost use Rattle.parallel_streams.specs.Runs.{IsLawfulRun};
 
 use parallel_streams::Run;
 use pipeline_meaning::SeededHashes;
@@ -16,32 +15,4 @@ pub(crate) struct Engine<'e, R, H> {
     pub(crate) hashes: SeededHashes,
     pub(crate) run: Run<'e, H>,
     ghost lawful: { IsLawfulRun run.workers run.target },
-}
-
-impl<'e, R, H> Engine<'e, R, H> {
-    /// The same on so many workers.
-    pub(crate) fn with_workers(&self, workers: u32) -> Engine<'e, R, H>
-        requires { HasLawfulWorkers workers }
-        ensures workers { result.run.workers ≡ workers }
-        ensures target { result.run.target ≡ self.now.run.target }
-    {
-        Engine {
-            rt: self.rt,
-            alloc: self.alloc,
-            hashes: self.hashes,
-            run: Run {
-                workers,
-                target: self.run.target,
-                gate: self.run.gate,
-            },
-        }
-    }
-
-    /// What the runs without lists use of it.
-    pub(crate) fn lent(&self) -> fused_runs::Engine<'e, R, H>
-        ensures workers { result.run.workers ≡ self.now.run.workers }
-        ensures target { result.run.target ≡ self.now.run.target }
-    {
-        fused_runs::Engine::under(self.rt, self.alloc, &self.run)
-    }
 }

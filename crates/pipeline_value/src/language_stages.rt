@@ -1,26 +1,23 @@
 //! The language's stages over items of one type: numbers or texts.
 
-ghost use Rattle.std.specs.Prelude.{◌≡◌, ◌≤◌, ◌<◌, Bool, false, IfOk, IsTrue, List, MatchBool, MatchOption, flat_map, length, take};
-ghost use Rattle.std.specs.List.{HoldsAt};
+ghost use Rattle.std.specs.Prelude.{◌≡◌, Bool, false, IfOk, IsTrue, List, MatchBool, MatchOption, flat_map};
 ghost use Rattle.pipeline_meaning.specs.Stages.{is_barrier_stage, number_stage, text_stage};
-ghost use Rattle.pipeline_meaning.specs.Walks.{one_after_other};
 ghost use Rattle.pipeline_value.specs.Ranges.{NumberStageFits, TextStageFits};
-ghost use Rattle.pipeline_value.specs.Settling.{BarrierFits, IsReady, barrier_list, cuts_source, stage_cuts_source};
+ghost use Rattle.pipeline_value.specs.Barriers.{BarrierFits, IsReady, barrier_list};
 
-use parts::AtMostOne;
 use pipeline_language::{Barrier, NumberStage, TextStage};
-use pipeline_meaning::{Fails, NumberCheck, NumberSteps, TextCheck, TextSteps};
+use pipeline_meaning::{NumberCheck, NumberSteps, TextCheck, TextSteps};
 use spliterator::{NoMemory, OrderedValue};
-use stages::Stage;
+use stages::{Stage, Test};
 use std::alloc::Global;
 
 /// A stage of the language over items of one type.
 pub(crate) trait LanguageStage<T: OrderedValue + Drop>: Sized {
     /// Stages that look at one item at a time, as one stage.
-    type Steps: AtMostOne + Stage<In = T, Out = T> + Drop + Sync;
+    type Steps: Stage<In = T, Out = T> + Drop + Sync;
 
     /// A test, prepared.
-    type Check: Fails<T> + Drop + Sync;
+    type Check: Test<T> + Drop + Sync;
 
     // what the stage makes of a list
     ghost makes: { Self → List T.Content → List T.Content };
@@ -28,17 +25,12 @@ pub(crate) trait LanguageStage<T: OrderedValue + Drop>: Sized {
     // whether the stage looks at more than one item
     ghost is_barrier: { Self → Bool };
 
-    // whether it is a limit, a skip or a while
-    ghost cuts: { Self → Bool };
-
     // its number is in the range of its place
     ghost Fits: { Self → Type 0 };
 
-    /// The stages up to the first barrier, as one stage, and how many they are.
-    fn front_of(alloc: Global, stages: &[Self]) -> Result<(Self::Steps, usize), NoMemory>
-        ensures within { IfOk result (λ r. r.1 ≤ length stages.now) }
-        ensures means { IfOk result (λ r. (l : List T.Content) → flat_map (Self.Steps.expand r.0) l ≡ one_after_other makes (take r.1 stages.now) l) }
-        ensures barrier { IfOk result (λ r. r.1 < length stages.now → HoldsAt (λ stage. IsTrue (is_barrier stage)) stages.now r.1) };
+    /// No stage.
+    fn no_steps(alloc: Global) -> Self::Steps
+        ensures { (l : List T.Content) → flat_map (Self.Steps.expand result) l ≡ l };
 
     /// Puts the stage behind others. Says whether it did: it doesn't put a barrier.
     fn put_behind(&self, steps: &mut Self::Steps) -> Result<bool, NoMemory>
@@ -47,7 +39,6 @@ pub(crate) trait LanguageStage<T: OrderedValue + Drop>: Sized {
     /// The barrier that the stage is, or `None` where it looks at one item at a time.
     fn barrier(&self) -> Option<Barrier<Self::Check>>
         ensures none { MatchOption result (is_barrier self.now ≡ false) (λ b. (l : List T.Content) → barrier_list T.same Self.Check.holds b l ≡ makes self.now l) }
-        ensures cuts { MatchOption result (cuts self.now ≡ false) (λ b. cuts_source b ≡ cuts self.now) }
         ensures fits { MatchOption result (Unit {0}) (λ b. Fits self.now → BarrierFits b) }
         ensures ready { MatchOption result (Unit {0}) (IsReady Self.Check.ready) };
 
@@ -66,12 +57,10 @@ impl LanguageStage<i64> for NumberStage {
 
     ghost is_barrier = { is_barrier_stage };
 
-    ghost cuts = { stage_cuts_source };
-
     ghost Fits = { NumberStageFits };
 
-    fn front_of(alloc: Global, stages: &[NumberStage]) -> Result<(NumberSteps, usize), NoMemory> {
-        NumberSteps::front_of(alloc, stages)
+    fn no_steps(alloc: Global) -> NumberSteps {
+        NumberSteps::new(alloc)
     }
 
     fn put_behind(&self, steps: &mut NumberSteps) -> Result<bool, NoMemory> {
@@ -103,15 +92,10 @@ impl<'a> LanguageStage<&'a str> for TextStage<'a> {
 
     ghost is_barrier = { is_barrier_stage };
 
-    ghost cuts = { stage_cuts_source };
-
     ghost Fits = { TextStageFits };
 
-    fn front_of(
-        alloc: Global,
-        stages: &[TextStage<'a>],
-    ) -> Result<(TextSteps<'a>, usize), NoMemory> {
-        TextSteps::front_of(alloc, stages)
+    fn no_steps(alloc: Global) -> TextSteps<'a> {
+        TextSteps::new(alloc)
     }
 
     fn put_behind(&self, steps: &mut TextSteps<'a>) -> Result<bool, NoMemory> {

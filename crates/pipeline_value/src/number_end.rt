@@ -11,15 +11,12 @@ use crate::folds::{Fold, fold_value};
 use crate::maps::{merged_value, strict_value};
 use crate::number_groups::number_arrangement;
 use crate::told::{ValueError, ran_optional, ran_text, ran_told};
-use parallel_streams::{Stream, of};
-use parts::AtMostOne;
+use parallel_streams::Stream;
 use pipeline_language::{NumberTerminal, NumberTotal};
 use pipeline_meaning::{
     NumberCheck as Check, NumberMapping as Mapping, NumberMerging, NumberSteps,
 };
-use sources::Windowed;
-use spliterator::Spliterator;
-use stages::{Stage, Then};
+use stages::Stage;
 use std::thread::Threads;
 use stealing_pool::Gate;
 use value_text::{JoinedText, Rope};
@@ -80,32 +77,26 @@ where
     }
 }
 
-/// The text of a terminal's value on what steps make of a source's items behind a stage in front. A fold takes the copies that the last
-/// step asks for without their being made.
-pub(crate) fn number_end<R, S, A, H>(
+/// The text of a terminal's value on what steps make of a stream's numbers. A fold takes the copies that the last step asks for without
+/// their being made.
+pub(crate) fn number_end<R, X, H>(
     engine: &Engine<'_, R, H>,
-    source: S,
-    front: A,
+    stream: X,
     mut steps: NumberSteps,
     terminal: &NumberTerminal,
 ) -> Result<Rope, ValueError>
 where
     R: Threads + Sync,
-    S: Windowed + Copy + Drop + Send + Sync,
-    S::Item: Clone + Send + Sync,
-    A: AtMostOne + Stage<In = S::Item, Out = i64> + Drop + Sync,
+    X: Stream<Item = i64> + Drop + Sync,
+    X::Progress: Send + Sync,
+    X::Part: Send,
     H: Gate + Sync,
-    requires { A.ready front }
-    ensures { Tells (number_told terminal.now (flat_map (⟦<NumberSteps as Stage>⟧.expand steps) (flat_map (A.expand front) (S.items source)))) result }
+    requires { X.ready stream }
+    ensures { Tells (number_told terminal.now (flat_map (⟦<NumberSteps as Stage>⟧.expand steps) (X.value stream))) result }
 {
     let Some(fold) = Fold::of(terminal) else {
-        return unfolded_end(engine, &of(source).then(Then::new(front, steps)), terminal);
+        return unfolded_end(engine, &stream.then(steps), terminal);
     };
     let copies = steps.take_repeat();
-    fold_value(
-        engine,
-        &of(source).then(Then::new(front, steps)),
-        fold,
-        copies,
-    )
+    fold_value(engine, &stream.then(steps), fold, copies)
 }

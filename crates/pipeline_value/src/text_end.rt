@@ -8,10 +8,12 @@ ghost use Rattle.pipeline_value.specs.Value.{Tells};
 ghost use Rattle.spliterator.specs.Clones.{ClonesAlike};
 
 use crate::engine::Engine;
+use crate::linked::LanguageBarrier;
 use crate::text_groups::text_arrangement;
 use crate::text_maps::{text_map, text_strict_map};
 use crate::text_parts::text_arranged_value;
 use crate::told::{ValueError, ran_optional, ran_text, ran_told};
+use chained_streams::Chain;
 use parallel_streams::{Source, Staged, Stream};
 use pipeline_language::TextFunction::{Itself, Length};
 use pipeline_language::{Joint, TextTerminal};
@@ -23,8 +25,15 @@ use std::thread::Threads;
 use stealing_pool::Gate;
 use value_text::{JoinedText, Rope, Spelled};
 
+/// The chain of a list's texts.
+pub(crate) type TextChain<'s, 'a> = Chain<
+    Source<SliceSplit<'s, &'a str>>,
+    TextSteps<'a>,
+    LanguageBarrier<TextCheck<'a>>,
+>;
+
 /// The stream of a list's texts through stages.
-pub(crate) type Texts<'s, 'a> = Staged<Source<SliceSplit<'s, &'a str>>, TextSteps<'a>>;
+pub(crate) type Texts<'s, 'a> = Staged<TextChain<'s, 'a>, TextSteps<'a>>;
 
 /// The text of a terminal's value on a stream of texts.
 pub(crate) fn text_end<'s, 'a, R: Threads + Sync, H: Gate + Sync>(

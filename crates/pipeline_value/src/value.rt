@@ -8,7 +8,6 @@ ghost use Rattle.pipeline_value.specs.Value.{Tells, program_told};
 
 use crate::differing::drop_distincts;
 use crate::engine::Engine;
-use crate::fronts::{FRONTS, front_value};
 use crate::known_folds::known_fold;
 use crate::known_size::known_count;
 use crate::narrowed::{emptied, narrowed};
@@ -17,12 +16,11 @@ use crate::repeats::{drop_repeats, repeats_first, with_copies};
 use crate::stepped::stepped;
 use crate::texts::text_value;
 use crate::told::{ValueError, told};
-use parallel_streams::Run;
+use parallel_streams::{Run, of};
 use pipeline_language::{NumberBody, NumberSource, Pipeline};
 use pipeline_meaning::SeededHashes;
 use sources::RangeSplit;
 use spliterator::{Spliterator, Value};
-use stages::Nothing;
 use std::alloc::Global;
 use std::thread::Threads;
 use stealing_pool::Gate;
@@ -57,7 +55,7 @@ pub fn pipeline_value<R: Threads + Sync, H: Gate + Sync>(
     match pipeline {
         Pipeline::Numbers(source, body) => source_value(engine, source, body),
         Pipeline::Texts(texts, body) => {
-            text_value(engine, texts, body.stages.as_slice(), &body.end)
+            text_value(engine, texts.as_slice(), body.stages.as_slice(), &body.end)
         }
     }
 }
@@ -100,13 +98,14 @@ fn listed_value<R: Threads + Sync, H: Gate + Sync>(
     drop_repeats(&mut body.stages);
     drop_distincts(&mut body.stages, false);
     repeats_first(&mut body.stages);
-    list_value(engine, numbers, body.stages.as_slice(), &body.terminal)
+    let stages = body.stages.as_slice();
+    list_value(engine, numbers.as_slice(), stages, &body.terminal)
 }
 
 /// The text of the value of a body, over a range. A `distinct` that its numbers come to without repeats is dropped, and so are repeats
-/// before a `distinct`; a repeat of no copies empties the range, limits and skips that look at no item narrow it, and a front of it may be
-/// enough. Sums, products and negatives that come first are taken by the numbers themselves, whose sum, least and greatest are known, and the copies of repeats before what
-/// cuts are made by their source.
+/// before a `distinct`; a repeat of no copies empties the range, and limits and skips that look at no item narrow it. Sums,
+/// products and negatives that come first are taken by the numbers themselves, whose sum, least and greatest are known, and the copies of
+/// repeats before what cuts are made by their source.
 fn narrowed_value<R: Threads + Sync, H: Gate + Sync>(
     engine: &Engine<'_, R, H>,
     range: RangeSplit,
@@ -119,16 +118,12 @@ fn narrowed_value<R: Threads + Sync, H: Gate + Sync>(
     drop_repeats(&mut body.stages);
     drop_distincts(&mut body.stages, true);
     let range = narrowed(range, &mut body.stages);
-    for size in FRONTS {
-        if let Some(told) = front_value(engine, range, size, &body) {
-            return told;
-        }
-    }
     let numbers = stepped(range, &mut body.stages);
     if let Some(told) = known_fold(engine, numbers, &body) {
         return told;
     }
     repeats_first(&mut body.stages);
     let copies = with_copies(numbers, &mut body.stages);
-    number_value(engine, copies, Nothing::new(), &body)
+    let stages = body.stages.as_slice();
+    number_value(engine, of(copies), stages, &body.terminal)
 }

@@ -77,8 +77,12 @@ impl<A: Stage> Stage for &A {
         (**self).feed_all(items, sink)
     }
 
-    fn lent_block<'a>(&self, items: &'a [A::In]) -> Option<&'a [A::Out]> {
+    fn lent_block<'a>(&'a self, items: &'a [A::In]) -> Option<&'a [A::Out]> {
         (**self).lent_block(items)
+    }
+
+    fn growth(&self) -> u64 {
+        (**self).growth()
     }
 
     fn operation(&self) -> Operation {

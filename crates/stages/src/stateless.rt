@@ -106,6 +106,9 @@ impl<T: OrderedValue + Drop, P: Test<T>> Stage for Filter<T, P> {
     }
 }
 
+// About how many items a list in the place of an item has, where nothing is known of it.
+const IMAGES: u64 = 16;
+
 /// The items of a list in the place of each item (`java.util.stream.Stream`, `flatMap`): the image of an item is a `Vec`, or another
 /// `ListValue`.
 #[derive(Drop)]
@@ -150,6 +153,10 @@ where
     ) -> Result<(), NoMemory> {
         let mut images = self.mapping.image(&x)?.into_items();
         sink.take_all(&mut images)
+    }
+
+    fn growth(&self) -> u64 {
+        IMAGES
     }
 
     fn operation(&self) -> Operation {
@@ -215,7 +222,7 @@ impl<T: OrderedValue + Drop> Stage for Nothing<T> {
         sink.take_all(items)
     }
 
-    fn lent_block<'a>(&self, items: &'a [T]) -> Option<&'a [T]> {
+    fn lent_block<'a>(&'a self, items: &'a [T]) -> Option<&'a [T]> {
         Some(items)
     }
 
@@ -280,6 +287,14 @@ impl<A: Stage, B: Stage<In = A::Out>> Stage for Then<A, B> {
 
     fn prefers_blocks_behind(&self) -> bool {
         self.first.prefers_blocks_behind() || self.second.prefers_blocks_behind()
+    }
+
+    fn lent_block<'a>(&'a self, items: &'a [A::In]) -> Option<&'a [B::Out]> {
+        self.second.lent_block(self.first.lent_block(items)?)
+    }
+
+    fn growth(&self) -> u64 {
+        self.first.growth().saturating_mul(self.second.growth())
     }
 
     fn operation(&self) -> Operation {

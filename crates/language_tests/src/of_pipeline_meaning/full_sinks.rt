@@ -48,7 +48,8 @@ impl<T: Value + Drop> Sink<T> for Two {
 #[test]
 fn no_more_is_fed_once_a_sink_is_full(rt: HostRuntime) -> Result<(), Fail> {
     for (often, most) in [(1_000, 1_000), (3_000, 1_024)] {
-        let (steps, _) = NumberSteps::front_of(rt.alloc(), &[NumberStage::FlatMap(often)])?;
+        let mut steps = NumberSteps::new(rt.alloc());
+        steps.put(&NumberStage::FlatMap(often))?;
         let mut two = Two { came: 0 };
         steps.feed_all(&mut Vec::from_array(rt.alloc(), [7, 8])?, &mut two)?;
         assert!(rt; two.came == most, "{} of {often}", two.came);
@@ -57,7 +58,8 @@ fn no_more_is_fed_once_a_sink_is_full(rt: HostRuntime) -> Result<(), Fail> {
         TextStage::FlatMap(Expansion::Repeat(5)),
         TextStage::FlatMap(Expansion::Words),
     ] {
-        let (steps, _) = TextSteps::front_of(rt.alloc(), &[stage])?;
+        let mut steps = TextSteps::new(rt.alloc());
+        steps.put(&stage)?;
         let mut two = Two { came: 0 };
         steps.feed("a b c", &mut two)?;
         assert!(rt; two.came == 2, "{}", two.came);

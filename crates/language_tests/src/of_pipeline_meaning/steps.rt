@@ -30,9 +30,20 @@ fn made_at_once(alloc: Global, steps: &NumberSteps, items: &[i64]) -> Result<Vec
 /// Stages, items, what becomes of these, and how many of the stages stand before the first barrier.
 type NumberRow<'a> = (&'a [NumberStage], &'a [i64], &'a [i64], usize);
 
+/// The stages up to the first barrier, and how many they are.
+fn front_of(alloc: Global, stages: &[NumberStage]) -> Result<(NumberSteps, usize), NoMemory> {
+    let mut steps = NumberSteps::new(alloc);
+    for (place, stage) in stages.iter().enumerate() {
+        if !steps.put(stage)? {
+            return Ok((steps, place));
+        }
+    }
+    Ok((steps, stages.len()))
+}
+
 fn check(rt: &(impl Abort + Alloc<A = Global>), rows: &[NumberRow<'_>]) -> Result<(), Fail> {
     for &(stages, items, wanted, taken) in rows {
-        let (steps, number) = NumberSteps::front_of(rt.alloc(), stages)?;
+        let (steps, number) = front_of(rt.alloc(), stages)?;
         let found = made(rt.alloc(), &steps, items)?;
         let at_once = made_at_once(rt.alloc(), &steps, items)?;
         assert!(rt;
@@ -164,7 +175,7 @@ static OFTEN: [(&[NumberStage], usize); 5] = [
 #[test]
 fn a_number_is_repeated_often(rt: HostRuntime) -> Result<(), Fail> {
     for &(stages, number) in &OFTEN {
-        let (steps, _) = NumberSteps::front_of(rt.alloc(), stages)?;
+        let (steps, _) = front_of(rt.alloc(), stages)?;
         let found = made_at_once(rt.alloc(), &steps, &[7, 8])?;
         assert!(rt;
             (found.len(), found.iter().filter(|x| **x == 7).count()) == (2 * number, number)
@@ -213,15 +224,80 @@ static TEXT_SIZES: [(TextStage<'_>, (Operation, Option<u64>)); 2] = [
     (TextStage::FlatMap(Expansion::Words), LOST),
 ];
 
+/// The same of stages over texts.
+fn text_front_of<'a>(
+    alloc: Global,
+    stages: &[TextStage<'a>],
+) -> Result<(TextSteps<'a>, usize), NoMemory> {
+    let mut steps = TextSteps::new(alloc);
+    for (place, stage) in stages.iter().enumerate() {
+        if !steps.put(stage)? {
+            return Ok((steps, place));
+        }
+    }
+    Ok((steps, stages.len()))
+}
+
 #[test]
 fn maps_alone_keep_the_size(rt: HostRuntime) -> Result<(), Fail> {
     for &(stages, wanted) in &NUMBER_SIZES {
-        let (steps, _) = NumberSteps::front_of(rt.alloc(), stages)?;
+        let (steps, _) = front_of(rt.alloc(), stages)?;
         assert!(rt; (steps.operation(), steps.size_after(Some(5))) == wanted);
     }
     for &(stage, wanted) in &TEXT_SIZES {
-        let (steps, _) = TextSteps::front_of(rt.alloc(), &[stage])?;
+        let (steps, _) = text_front_of(rt.alloc(), &[stage])?;
         assert!(rt; (steps.operation(), steps.size_after(Some(5))) == wanted);
+    }
+    Ok(())
+}
+
+/// No stage lends a list as it is.
+#[test]
+fn no_stage_lends_a_list(rt: HostRuntime) -> Result<(), Fail> {
+    let (numbers, texts): (&[i64], &[&str]) = (&[7, 8], &["a b"]);
+    let (nothing, _) = front_of(rt.alloc(), &[])?;
+    let (repeated, _) = front_of(rt.alloc(), &[TWICE])?;
+    let (changed, _) = front_of(rt.alloc(), &[MORE])?;
+    assert!(rt; nothing.lent_block(numbers) == Some(numbers));
+    assert!(rt; repeated.lent_block(numbers).is_none() && changed.lent_block(numbers).is_none());
+    let (nothing, _) = text_front_of(rt.alloc(), &[])?;
+    let (cut, _) = text_front_of(rt.alloc(), &[TextStage::FlatMap(Expansion::Words)])?;
+    assert!(rt; nothing.lent_block(texts) == Some(texts) && cut.lent_block(texts).is_none());
+    Ok(())
+}
+
+/// Stages, and about how many come of one item.
+static GROWTHS: [(&[NumberStage], u64); 4] = [
+    (&[], 1),
+    (&[MORE, TWICE, TWICE], 4),
+    (&[NumberStage::FlatMap(0)], 1),
+    (
+        &[NumberStage::FlatMap(u64::MAX), NumberStage::FlatMap(2)],
+        u64::MAX,
+    ),
+];
+
+static TEXT_GROWTHS: [(&[TextStage<'_>], u64); 3] = [
+    (&[TextStage::Map(())], 1),
+    (&[TextStage::FlatMap(Expansion::Words)], 16),
+    (
+        &[
+            TextStage::FlatMap(Expansion::Repeat(3)),
+            TextStage::FlatMap(Expansion::Words),
+        ],
+        48,
+    ),
+];
+
+#[test]
+fn repeats_and_words_make_several_of_one(rt: HostRuntime) -> Result<(), Fail> {
+    for &(stages, wanted) in &GROWTHS {
+        let (steps, _) = front_of(rt.alloc(), stages)?;
+        assert!(rt; steps.growth() == wanted);
+    }
+    for &(stages, wanted) in &TEXT_GROWTHS {
+        let (steps, _) = text_front_of(rt.alloc(), stages)?;
+        assert!(rt; steps.growth() == wanted);
     }
     Ok(())
 }
@@ -232,7 +308,7 @@ fn made_of_texts<'a>(
     stages: &[TextStage<'a>],
     items: &[&'a str],
 ) -> Result<(Vec<&'a str>, usize), NoMemory> {
-    let (steps, number) = TextSteps::front_of(alloc, stages)?;
+    let (steps, number) = text_front_of(alloc, stages)?;
     let mut found = Vec::new(alloc);
     for item in items {
         steps.push(*item, &mut found)?;

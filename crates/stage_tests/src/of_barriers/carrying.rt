@@ -2,10 +2,14 @@
 ghost use Rattle.std.specs.Prelude.{IfOk, map};
 ghost use Rattle.barriers.specs.Needs.{IsToldBy};
 
-use barriers::{Barrier, Behind, Demand, Distinct, DropWhile, Limit, Need, Skip, TakeWhile};
+use barriers::{
+    AnyBarrier, AnyState, Barrier, Behind, Demand, Distinct, DistinctWith, DropWhile, Limit, Need,
+    Skip, TakeWhile,
+};
 use parts::Below;
 use spliterator::{NoMemory, Value};
 use std::alloc::Global;
+use std::hash::{BuildHasherDefault, FoldHasher};
 use std::process::Abort;
 
 /// What a run keeps of a part: a front that is all of it, or has as many counting items as are needed behind the state. Then the run was cut.
@@ -149,19 +153,23 @@ fn an_owned_text_of_an_earlier_part_stands_once(rt: HostRuntime) -> Result<(), N
     Ok(())
 }
 
-/// What is needed behind a part, and whether nothing that is still to come matters.
+/// What is needed behind a part, whether nothing that is still to come matters, and whether all of it passes.
 fn told_behind<B: Barrier<i64>>(
     alloc: Global,
     barrier: &B,
     part: &[i64],
-) -> Result<(Need, bool), NoMemory>
+) -> Result<(Need, bool, bool), NoMemory>
     requires ready { B.Demand.ready barrier.now }
     requires can { B.can_carry barrier.now }
 {
     let mut state = barrier.fresh(alloc);
     let (items, is_cut) = kept_by_run(alloc, barrier, &state, part)?;
     barrier.carry(&mut state, items, is_cut)?;
-    Ok((barrier.need_behind(&state), barrier.is_over(&state)))
+    Ok((
+        barrier.need_behind(&state),
+        barrier.is_over(&state),
+        barrier.lets_pass(&state),
+    ))
 }
 
 #[test]
@@ -170,36 +178,103 @@ fn a_state_tells_what_is_still_needed(rt: HostRuntime) -> Result<(), NoMemory> {
     let rows = [
         (
             told_behind(alloc, &Limit::new(3), &[7])?,
-            (Need::Reach(2), false),
+            (Need::Reach(2), false, false),
         ),
         (
             told_behind(alloc, &Limit::new(3), &[7, 8, 9, 7])?,
-            (Need::Reach(0), true),
+            (Need::Reach(0), true, false),
         ),
         (
             told_behind(alloc, &Limit::new(0), &[])?,
-            (Need::Reach(0), true),
+            (Need::Reach(0), true, false),
+        ),
+        (
+            told_behind(alloc, &Skip::new(2), &[7])?,
+            (Need::Never, false, false),
         ),
         (
             told_behind(alloc, &Skip::new(1), &[7])?,
-            (Need::Never, false),
+            (Need::Never, false, true),
         ),
         (
             told_behind(alloc, &TakeWhile::new(Below(3)), &[1])?,
-            (Need::Reach(1), false),
+            (Need::Reach(1), false, false),
         ),
         (
             told_behind(alloc, &TakeWhile::new(Below(3)), &[1, 5, 1])?,
-            (Need::Reach(1), true),
+            (Need::Reach(0), true, false),
         ),
         (
-            told_behind(alloc, &DropWhile::new(Below(3)), &[5])?,
-            (Need::Never, false),
+            told_behind(alloc, &DropWhile::new(Below(3)), &[1])?,
+            (Need::Never, false, false),
         ),
-        (told_behind(alloc, &Distinct, &[1])?, (Need::Never, false)),
+        (
+            told_behind(alloc, &DropWhile::new(Below(3)), &[1, 5, 1])?,
+            (Need::Never, false, true),
+        ),
+        (
+            told_behind(alloc, &Distinct, &[1])?,
+            (Need::Never, false, false),
+        ),
     ];
     for (found, wanted) in rows {
         assert!(rt; found == wanted, "{wanted:?}");
+    }
+    Ok(())
+}
+
+type AnyOfNumbers = AnyBarrier<Below, BuildHasherDefault<FoldHasher>>;
+
+#[test]
+fn a_barrier_chosen_at_run_time_goes_across_parts(rt: HostRuntime) -> Result<(), NoMemory> {
+    let hashes = BuildHasherDefault::new();
+    let rows: [(AnyOfNumbers, &[i64]); 5] = [
+        (
+            AnyBarrier::Distinct(DistinctWith::new(hashes)),
+            &[1, 2, 5, 4],
+        ),
+        (AnyBarrier::Limit(Limit::new(4)), &[1, 2, 5, 1]),
+        (AnyBarrier::Skip(Skip::new(4)), &[4, 2]),
+        (AnyBarrier::TakeWhile(TakeWhile::new(Below(3))), &[1, 2]),
+        (
+            AnyBarrier::DropWhile(DropWhile::new(Below(3))),
+            &[5, 1, 4, 2],
+        ),
+    ];
+    for (barrier, wanted) in &rows {
+        check_cuts(&rt, barrier, &[1, 2, 5, 1, 4, 2], wanted)?;
+    }
+    Ok(())
+}
+
+#[test]
+fn a_barrier_with_the_state_of_another_is_over(rt: HostRuntime) -> Result<(), NoMemory> {
+    let alloc = rt.alloc();
+    let limit: AnyOfNumbers = AnyBarrier::Limit(Limit::new(3));
+    let mut state = AnyState::Skip(Skip::new(1));
+    assert!(rt; limit.need_behind(&state) == Need::Reach(0));
+    assert!(rt; limit.is_over(&state));
+    let left = limit.carry(&mut state, Vec::from_slice(alloc, &[7, 8])?, false)?;
+    assert!(rt; left.is_empty());
+    assert!(rt; limit.need_behind(&state) == Need::Reach(0));
+    Ok(())
+}
+
+#[test]
+fn a_barrier_chosen_at_run_time_lets_pass_as_the_one_it_is(
+    rt: HostRuntime,
+) -> Result<(), NoMemory> {
+    let skip: AnyOfNumbers = AnyBarrier::Skip(Skip::new(2));
+    let dropping: AnyOfNumbers = AnyBarrier::DropWhile(DropWhile::new(Below(3)));
+    let rows = [
+        (&skip, AnyState::Skip(Skip::new(1)), false),
+        (&skip, AnyState::Skip(Skip::new(0)), true),
+        (&skip, AnyState::DropWhile(false), false),
+        (&dropping, AnyState::DropWhile(true), false),
+        (&dropping, AnyState::DropWhile(false), true),
+    ];
+    for (barrier, state, wanted) in &rows {
+        assert!(rt; barrier.lets_pass(state) == *wanted);
     }
     Ok(())
 }

@@ -262,3 +262,23 @@ fn stages_tell_their_rows(rt: HostRuntime) {
     ];
     assert!(rt; told == [true; 5], "{told:?}");
 }
+
+#[test]
+fn stages_that_do_nothing_lend_a_list_on(rt: HostRuntime) {
+    let numbers: &[i64] = &[7, 8];
+    let nothing = Then::new(Nothing::new(), Nothing::new());
+    assert!(rt; nothing.lent_block(numbers) == Some(numbers));
+    let doubled = Then::new(Nothing::new(), Map::new(Times(2)));
+    assert!(rt; doubled.lent_block(numbers).is_none());
+    let of_doubled = Then::new(Map::new(Times(2)), Nothing::new());
+    assert!(rt; of_doubled.lent_block(numbers).is_none());
+}
+
+#[test]
+fn stages_tell_about_how_many_come_of_one(rt: HostRuntime) {
+    let doubled = Map::new(Times(2));
+    let copies = FlatMap::new(Copies { alloc: rt.alloc() });
+    assert!(rt; (doubled.growth(), copies.growth()) == (1, 16));
+    let squares = Then::new(&copies, &copies);
+    assert!(rt; (squares.growth(), Then::new(doubled, &copies).growth()) == (256, 16));
+}

@@ -2,6 +2,7 @@
 ghost use Rattle.std.specs.Prelude.{int_lt};
 
 use super::answers::{check, check_list, counted, listed, numbers, same};
+use super::functions::Copies;
 use super::{SETTINGS, at};
 use parallel_streams::{Run, Stream, StreamError};
 use spliterator::NoMemory;
@@ -102,7 +103,8 @@ where
     listed(rt, run, &numbers.skip(2).map(Itself { asked }))
 }
 
-// Of five items, and of the three behind a barrier.
+// Of five items, and of the three behind a barrier. A million numbers are halved eight times, until a part has at most 2^12 of them: a limit of
+// 5,000 reads no more than two such segments, each of 3,906.
 #[test]
 fn functions_are_asked_once_an_item(rt: HostRuntime) -> Result<(), StreamError> {
     let asked = Asked {
@@ -114,6 +116,57 @@ fn functions_are_asked_once_an_item(rt: HostRuntime) -> Result<(), StreamError> 
         let three = three_of_five(&rt, &at(setting), numbers(&rt, 0, 5), &asked);
         check_list(&rt, three, &[2, 3, 4])?;
         same(&rt, times(&asked), [5, 5, 3]);
+
+        let all = numbers(&rt, 0, 1_000_000).map(Itself {
+            asked: &asked.mapped,
+        });
+        let front = listed(&rt, &at(setting), &all.limit(5_000))?;
+        let [mapped, _, _] = times(&asked);
+        let is_so = (5_000..=7_812).contains(&mapped);
+        same(&rt, (front.len(), is_so), (5_000, true));
+    }
+    Ok(())
+}
+
+// Of a million numbers, each as often as it says. The first segment has 244, 16 times less than where no stage makes several of one; of these more
+// than a million come, so that the next has 122.
+#[test]
+fn segments_are_as_much_shorter_as_items_are_more(rt: HostRuntime) -> Result<(), StreamError> {
+    let asked = AtomicU64::new(0);
+    let all = numbers(&rt, 5_000, 1_005_000).map(Itself { asked: &asked });
+    let copies = all.flat_map(Copies { alloc: rt.alloc() });
+    let found = copies
+        .skip(1_300_000)
+        .find_first(&rt, rt.alloc(), &at((2, 0)))?;
+    same(
+        &rt,
+        (found, asked.load(Ordering::SeqCst)),
+        (Some(5_253), 366),
+    );
+    Ok(())
+}
+
+// Of the segments behind the one in which items were dropped no list is made: what follows the barrier is fed from the source.
+#[test]
+fn what_passes_a_barrier_is_all_there(rt: HostRuntime) -> Result<(), StreamError> {
+    let asked = AtomicU64::new(0);
+    for setting in [(1, 0), (7, 0), (64, 0)] {
+        let run = at(setting);
+        let behind = numbers(&rt, 0, 100_000).skip(5_000);
+        let both = behind.drop_while(Under {
+            bound: 9_000,
+            asked: &asked,
+        });
+        check(&rt, counted(&rt, &run, &both), 91_000)?;
+        let front = both.limit(80_000).skip(1);
+        let found = listed(&rt, &run, &front)?;
+        same(
+            &rt,
+            (found.len(), found.first(), found.last()),
+            (79_999, Some(&9_001), Some(&88_999)),
+        );
+        // Each test is asked of the items that are dropped and of the first that isn't, in both runs.
+        same(&rt, asked.swap(0, Ordering::SeqCst), 2 * 4_001);
     }
     Ok(())
 }

@@ -4,9 +4,10 @@
 mod behind;
 mod folds;
 mod lists;
+mod two_behind;
 mod workers;
 
-use parallel_streams::{Run, Source, StreamError, of};
+use parallel_streams::{Run, Source, Stream, StreamError, of};
 use sources::RangeSplit;
 use std::alloc::Global;
 use std::env;
@@ -155,29 +156,43 @@ fn the_named_are_right(rt: HostRuntime) -> Result<(), Fail> {
     Ok(())
 }
 
-// Segments are cut where there are 1,280, 2,560, 5,120 and 10,240 of 20,480 numbers.
-#[test]
-fn barriers_cut_at_each_place_of_segments(rt: HostRuntime) -> Result<(), StreamError> {
+/// Each barrier over so many numbers, cut at a place or number.
+fn check_cut<R: Threads + Abort + Alloc<A = Global> + Sync>(
+    rt: &R,
+    run: &Run<'_, Workers>,
+    items: u32,
+    cut: u32,
+) -> Result<(), StreamError> {
     for &(name, terminal, _) in &ALL {
         let Terminal::Behind(behind) = terminal else {
             continue;
         };
-        for workers in [1, 2, 7, 64] {
-            let gate = &Workers::new(0, 1);
-            let run = Run {
-                workers,
-                target: 0,
-                gate,
-            };
+        let found = behind::sum_behind(rt, run, behind, i64::from(items), cut)?;
+        let wanted = behind::wanted(behind, items, cut);
+        assert!(rt;
+            found == wanted,
+            "{name} at {cut} of {items}: {found} in the place of {wanted}"
+        );
+    }
+    Ok(())
+}
+
+// Segments end where there are 2,560, 5,120 and 10,240 of 20,480 numbers.
+#[test]
+fn barriers_cut_at_each_place_of_segments(rt: HostRuntime) -> Result<(), StreamError> {
+    for workers in [1, 2, 7, 64] {
+        let gate = &Workers::new(0, 1);
+        let run = Run {
+            workers,
+            target: 0,
+            gate,
+        };
+        for items in [0, 20_480] {
             for cut in [
-                0, 1, 1_279, 1_280, 1_281, 2_560, 5_119, 10_241, 20_479, 20_480, 20_481,
+                0, 1, 2_559, 2_560, 2_561, 5_119, 5_120, 10_241, 20_479, 20_480, 20_481,
             ] {
-                let found = behind::sum_behind(&rt, &run, behind, 20_480, cut)?;
-                let wanted = behind::wanted(behind, 20_480, cut);
-                assert!(rt;
-                    found == wanted,
-                    "{name} at {cut}: {found} in the place of {wanted}"
-                );
+                check_cut(&rt, &run, items, cut)?;
+                two_behind::check(&rt, &run, i64::from(items), cut)?;
             }
         }
     }
@@ -210,16 +225,21 @@ fn long_segments_have_all_workers(rt: HostRuntime) -> Result<(), StreamError> {
 // The fronts of the greatest range, which nobody could read.
 #[test]
 fn fronts_of_a_great_source_end(rt: HostRuntime) -> Result<(), StreamError> {
-    for behind in [behind::Behind::Limit, behind::Behind::TakeWhile] {
-        for cut in [0, 1, 5_000, 100_000] {
-            let run = Run {
-                workers: 4,
-                target: 0,
-                gate: &Workers::new(0, 1),
-            };
-            let found = behind::sum_behind(&rt, &run, behind, 1 << 62, cut)?;
+    let end = 1 << 62;
+    let run = Run {
+        workers: 4,
+        target: 0,
+        gate: &Workers::new(0, 1),
+    };
+    for cut in [0, 1, 5_000, 100_000] {
+        for behind in [behind::Behind::Limit, behind::Behind::TakeWhile] {
+            let found = behind::sum_behind(&rt, &run, behind, end, cut)?;
             assert!(rt; found == sum_of(cut), "{cut}: {found}");
         }
+        two_behind::check(&rt, &run, end, cut)?;
+        let behind = numbers_below(&rt, end).skip(u64::from(cut));
+        let found = behind.find_first(&rt, rt.alloc(), &run)?;
+        assert!(rt; found == Some(i64::from(cut)), "{cut}: {found:?}");
     }
     Ok(())
 }

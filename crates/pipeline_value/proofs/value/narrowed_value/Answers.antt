@@ -7,7 +7,6 @@ use Rattle.pipeline_meaning.specs.Stages.{number_stages}
 use Rattle.pipeline_value.specs.Differing.{range-told}
 use Rattle.pipeline_value.specs.Typed.{number_told}
 use Rattle.pipeline_value.specs.Value.{Tells}
-use Rattle.pipeline_value.proofs.Telling.{narrowed-told}
 use Rattle.pipeline_value.proofs.value.narrowed_value.Goals as goal
 
 same-stages : (a b : List NumberStage) (l m : List ℤ) → a ≡ b → number_stages a l ≡ number_stages a m → number_stages b l ≡ number_stages b m
@@ -17,20 +16,11 @@ pub returns-in-Some : goal.returns-in-Some
 returns-in-Some g c =
     let body = c.args.body in
     let whole = c.emptied-range.result in
+    let items = integers whole.next whole.left in
     let first : FitsSigned w64 whole.next = search rules in
     let Q : List ℤ → Type 0 = λ l. Tells (number_told body.terminal l) c.in-Some.told in
-    let items = integers whole.next whole.left in
-    subst Q (c.narrowed-range.ensures.value ∙ c.drop_distincts.ensures.value items (range-told whole.next whole.left first whole.within_type) ∙ c.drop_repeats.ensures.value items ∙ same-stages _ _ _ _ c.as_slice.ensures.value c.emptied-range.ensures) c.in-Some.ensures
-
-pub returns-in-Some-known_fold : goal.returns-in-Some-known_fold
-returns-in-Some-known_fold g c =
-    let body = c.args.body in
-    let whole = c.emptied-range.result in
-    let items = integers whole.next whole.left in
-    let first : FitsSigned w64 whole.next = search rules in
-    let Q : List ℤ → Type 0 = λ l. Tells (number_told body.terminal l) c.in-Some-known_fold.told in
     subst Q (c.stepped-numbers.ensures.value ∙ c.narrowed-range.ensures.value ∙ c.drop_distincts.ensures.value items (range-told whole.next whole.left first whole.within_type) ∙ c.drop_repeats.ensures.value items ∙ same-stages _ _ _ _ c.as_slice.ensures.value c.emptied-range.ensures)
-    c.in-Some-known_fold.ensures
+    c.in-Some.ensures
 
 pub returns : goal.returns
 returns g c =
@@ -38,9 +28,9 @@ returns g c =
     let whole = c.emptied-range.result in
     let numbers = c.stepped-numbers.result in
     let items = integers whole.next whole.left in
-    let range = integers c.args.range.next c.args.range.left in
     let first : FitsSigned w64 whole.next = search rules in
     let stepped = progression numbers.next numbers.step numbers.left in
-    narrowed-told body.terminal body.stages.items c.with_copies-copies.new.stages.items range _ c.number_value.result
-    (c.with_copies-copies.ensures.value ∙ c.repeats_first.ensures.value stepped ∙ c.stepped-numbers.ensures.value ∙ c.narrowed-range.ensures.value
-    ∙ c.drop_distincts.ensures.value items (range-told whole.next whole.left first whole.within_type) ∙ c.drop_repeats.ensures.value items ∙ same-stages _ _ _ _ c.as_slice.ensures.value c.emptied-range.ensures) c.number_value.ensures
+    let Q : List ℤ → Type 0 = λ l. Tells (number_told body.terminal l) c.number_value.result in
+    subst Q (c.with_copies-copies.ensures.value ∙ c.repeats_first.ensures.value stepped ∙ c.stepped-numbers.ensures.value ∙ c.narrowed-range.ensures.value
+    ∙ c.drop_distincts.ensures.value items (range-told whole.next whole.left first whole.within_type) ∙ c.drop_repeats.ensures.value items ∙ same-stages _ _ _ _ c.as_slice.ensures.value c.emptied-range.ensures)
+    (rw (c.as_slice-stages.ensures.value, c.of.ensures) at c.number_value.ensures)

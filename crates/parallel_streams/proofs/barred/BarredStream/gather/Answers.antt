@@ -6,7 +6,7 @@ use Rattle.stealing_pool.specs.Spans.{full_count, joined}
 use Rattle.barriers.specs.Needs.{IsToldBy}
 use Rattle.parallel_streams.specs.Ends.{ends_of}
 use Rattle.parallel_streams.specs.Leaves.{AreLeafEnds}
-use Rattle.parallel_streams.specs.ProgressLaws.{told-before, left-unlisted, fresh-unlisted}
+use Rattle.parallel_streams.specs.ProgressLaws.{told-before, left-unlisted, fresh-unlisted, unready-unlisted}
 use Rattle.parallel_streams.specs.Reports.{IsEntryOf, IsReport}
 use Rattle.parallel_streams.proofs.Gathering.{kept-own, goes-on, kept-value}
 use Rattle.parallel_streams.proofs.Harmless.{is-entry}
@@ -44,7 +44,7 @@ returns-clause-left g c = λ waits.
     let carried : (more : List _) → old (front ++ more) ≡ items ++ now more = λ more. ap (λ l. old (map content l ++ more)) (sym c.in_ok-list-in-Own.ensures) ∙ c.in_ok-items-in-Own.ensures more in
     let on = goes-on needed counted old now (g.met.B.Barrier.enough_behind s.barrier c.args.progress.state) (joined lists) front items kept.1 carried behind in
     let split = g.met.U.Stream.parts_law s.upstream p c.requires.holds.0 kept.0 in
-    sym on ∙ ap old (sym split) ∙ sym (left-unlisted content old (U.left s.upstream p) behind c.args.progress.listed waits)
+    sym on ∙ ap old (sym split) ∙ sym (left-unlisted content old (U.left s.upstream p) behind c.args.progress.listed (unready-unlisted c.args.progress.passes (U.done s.upstream p) c.args.progress.listed waits))
 
 pub returns-clause-planned : goal.returns-clause-planned
 returns-clause-planned g c = λ waits planned.
@@ -65,7 +65,8 @@ returns-clause-planned g c = λ waits planned.
     let front = map content c.in-Own.pieces in
     let items = map content c.in_ok-items-in-Own.items.items in
     let carried : (more : List _) → old (front ++ more) ≡ items ++ now more = λ more. ap (λ l. old (map content l ++ more)) (sym c.in_ok-list-in-Own.ensures) ∙ c.in_ok-items-in-Own.ensures more in
-    let fresh = fresh-unlisted content (g.B.Demand.needed s.barrier) needed value old (U.value s.upstream) workers target c.args.progress.listed waits planned.1 in
+    let unlisted = unready-unlisted c.args.progress.passes (U.done s.upstream p) c.args.progress.listed waits in
+    let fresh = fresh-unlisted content (g.B.Demand.needed s.barrier) needed value old (U.value s.upstream) workers target c.args.progress.passes c.args.progress.listed unlisted planned.1 in
     let is = kept-value needed counted old now (g.met.B.Barrier.enough_behind s.barrier c.args.progress.state) (joined lists) front items kept.1 carried value fresh.1 (g.met.B.Barrier.of_nothing s.barrier c.carry.new.state) in
     let whole = g.met.U.Stream.whole_law s.upstream workers target p c.requires.holds.0 planned.0 kept.0 in
     let Q : List _ → Type 0 = λ l. AreLeafEnds workers target (length l) (ends_of c.in_ok-places-in-Own.places) in
@@ -86,10 +87,11 @@ returns-clause-entries g c = λ waits planned entries told.
     let entry = c.args.entry.now in
     let held = c.requires.holds.0 in
     let kept = kept-own (U.work s.upstream p) g.U.Item.Value.is_value needed counted g.U.Item.Value.content lists (U.done s.upstream p) c.args.part c.in-Own.pieces entry c.in-Own.is c.requires.part c.requires.entry in
-    let fresh = fresh-unlisted g.U.Item.Value.content (g.B.Demand.needed s.barrier) needed value (B.value_behind s.barrier c.args.progress.state) (U.value s.upstream) workers target c.args.progress.listed waits planned.1 in
+    let unlisted = unready-unlisted c.args.progress.passes (U.done s.upstream p) c.args.progress.listed waits in
+    let fresh = fresh-unlisted g.U.Item.Value.content (g.B.Demand.needed s.barrier) needed value (B.value_behind s.barrier c.args.progress.state) (U.value s.upstream) workers target c.args.progress.passes c.args.progress.listed unlisted planned.1 in
     let R : Option ℕ → Type 0 = λ n. Reports n (length lists) (full_count counted lists) entry.leaves (count_of entry) (cut_of entry) in
     let Reported = IsReport (U.cut_into s.upstream workers target) (U.value s.upstream) (U.reported s.upstream workers target) (IsEntryOf (g.B.Demand.needed s.barrier) counted value) in
-    let before = told-before (U.told_so_far s.upstream workers target p) Reported c.args.progress.listed entries waits told in
+    let before = told-before c.args.progress.passes (U.told_so_far s.upstream workers target p) Reported c.args.progress.listed entries unlisted told in
     record {
       lists = lists;
       cut = g.met.U.Stream.cut_law s.upstream workers target p held planned.0 kept.0;
@@ -97,6 +99,6 @@ returns-clause-entries g c = λ waits planned entries told.
       before = entries;
       last = entry;
       are = refl;
-      of_barriers = g.met.U.Stream.reported_law s.upstream workers target p entries kept.0 before;
+      of_barriers = g.met.U.Stream.reported_law s.upstream workers target p entries kept.0 before.1;
       of_run = is-entry (g.B.Demand.needed s.barrier) counted value (g.met.B.Barrier.enough_law s.barrier) lists entry (subst R fresh.0 kept.3);
     }

@@ -1,0 +1,135 @@
+//! Distinct items, hashed as the caller asks.
+ghost use Rattle.std.specs.Prelude.{◌≡◌, ◌++◌, List, [], None, IfOk, map, refl};
+ghost use Rattle.stages.specs.declared.flags.Operation.TheVariants.{Distinct as distinct_row};
+ghost use Rattle.spliterator.specs.Clones.{ClonesAlike};
+ghost use Rattle.stages.specs.Distinct.{distinct, distinct_after};
+ghost use Rattle.barriers.specs.Needs.{no_item};
+ghost use Rattle.barriers.specs.NeedLaws.{KeepsEnough-never};
+ghost use Rattle.barriers.specs.BarrierFlags.{KeepsSound-distinct};
+
+use crate::{Barrier, Demand, Need};
+use indexmap::IndexSet;
+use spliterator::{NoMemory, OrderedValue, Value};
+use stages::Operation;
+use std::alloc::Global;
+use std::hash::{BuildHasher, Hash};
+
+// Of equal items the first, in the order of the items. The items go into a set that is empty; none is cloned.
+pub(crate) fn first_ones<T: Value + Hash + Drop, S: BuildHasher + Drop>(
+    mut empty: IndexSet<T, S>,
+    items: Vec<T>,
+) -> Result<Vec<T>, NoMemory>
+    requires { empty.keys ≡ [] }
+    ensures { IfOk result (λ kept. map T.content kept.items ≡ distinct T.same (map T.content items.items)) }
+{
+    let alloc = *items.allocator();
+    empty.extend(items)?;
+    Ok(empty.into_iter().collect(alloc)?)
+}
+
+// The items go into the set of those that came, and what is new there is cloned: an item that repeats is not.
+pub(crate) fn carry_distinct<T: Value + Hash + Clone + Drop, S: BuildHasher>(
+    came: &mut IndexSet<T, S>,
+    items: Vec<T>,
+) -> Result<Vec<T>, NoMemory>
+    requires { ClonesAlike T.is_clone T.content }
+    ensures { (more : List T.Content) → IfOk result (λ kept.
+        distinct_after T.same (map T.content came.old.keys) (map T.content items.items ++ more)
+        ≡ map T.content kept.items ++ distinct_after T.same (map T.content came.new.keys) more) }
+{
+    let alloc = *items.allocator();
+    let known = came.len();
+    came.extend(items)?;
+    Ok(Vec::from_clones(alloc, &came.as_slice()[known..])?)
+}
+
+/// `Distinct` that hashes as it is told, as by a `RandomState` where strangers choose the items.
+#[derive(Clone, Copy, Debug)]
+pub struct DistinctWith<S> {
+    pub hashes: S,
+}
+
+impl<S> DistinctWith<S> {
+    /// Items are hashed by `hashes`.
+    pub fn new(hashes: S) -> DistinctWith<S>
+        ensures { result.hashes ≡ hashes }
+    {
+        DistinctWith { hashes }
+    }
+}
+
+impl<T: Value, S> Demand<T> for DistinctWith<S> {
+    ghost needed = { λ _. None };
+
+    ghost counted = { λ _. no_item };
+
+    fn need(&self) -> Need {
+        Need::Never
+    }
+
+    fn counts(&self, _x: &T) -> bool {
+        false
+    }
+}
+
+impl<T: OrderedValue + Hash + Clone + Drop, S: BuildHasher + Copy> Barrier<T> for DistinctWith<S> {
+    /// Of the items that came the first ones, as clones.
+    type State = IndexSet<T, S>;
+
+    ghost value = { λ _. distinct T.same };
+
+    ghost operation = { λ _. distinct_row };
+
+    ghost size_after = { λ _ _. None };
+
+    ghost value_behind = { λ _ came. distinct_after T.same (map T.content came.keys) };
+
+    ghost needed_behind = { λ _ _. None };
+
+    ghost can_carry = { λ _. ClonesAlike T.is_clone T.content };
+
+    ghost enough_law = { λ _. KeepsEnough-never no_item (distinct T.same) };
+
+    ghost enough_behind = { λ _ came. KeepsEnough-never no_item (distinct_after T.same (map T.content came.keys)) };
+
+    ghost of_nothing = { λ _ _. refl };
+
+    ghost flag_law = { λ _. KeepsSound-distinct T.same T.same_decides T.order };
+
+    fn apply(&self, items: Vec<T>) -> Result<Vec<T>, NoMemory>
+        ensures { IfOk result (λ kept. map T.content kept.items ≡ distinct T.same (map T.content items.items)) }
+    {
+        let empty = IndexSet::with_hasher(*items.allocator(), self.hashes);
+        first_ones(empty, items)
+    }
+
+    fn operation(&self) -> Operation {
+        Operation::Distinct
+    }
+
+    fn size_after(&self, _size: Option<u64>) -> Option<u64> {
+        None
+    }
+
+    fn fresh(&self, alloc: Global) -> IndexSet<T, S> {
+        IndexSet::with_hasher(alloc, self.hashes)
+    }
+
+    fn need_behind(&self, _state: &IndexSet<T, S>) -> Need {
+        Need::Never
+    }
+
+    fn carry(
+        &self,
+        state: &mut IndexSet<T, S>,
+        items: Vec<T>,
+        _is_cut: bool,
+    ) -> Result<Vec<T>, NoMemory>
+        requires { ClonesAlike T.is_clone T.content }
+        ensures { (more : List T.Content) → IfOk result (λ kept.
+            distinct_after T.same (map T.content state.old.keys) (map T.content items.items ++ more)
+            ≡ map T.content kept.items ++ distinct_after T.same (map T.content state.new.keys) more) }
+    {
+        carry_distinct(state, items)
+    }
+}

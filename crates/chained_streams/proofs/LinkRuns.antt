@@ -1,0 +1,91 @@
+-- The run of a link.
+use Rattle.std.specs.Prelude.{◌≡◌, ◌<◌, ◌≤◌, ◌++◌, ℕ, zero, suc, Bool, true, List, [], ◌∷◌, Option, Some, None, Result, Ok, Err, IfOk, flat_map, length, map, slice_get, slice_index_or, refl}
+use Rattle.std.proofs.Common.{sym, ap, ◌∙◌, subst, arith, inl}
+use Rattle.std.specs.Option.{is_some}
+use Rattle.std.proofs.lemmas.List.{length-map}
+use Rattle.std.proofs.lemmas.List.Concat.{flat_map-append}
+use Rattle.std.proofs.lemmas.List.Elements.{All-nil}
+use Rattle.barriers.specs.Needs.{KeepsEnough, IsOutcome, IsToldBy, no_item}
+use Rattle.collectors.specs.NestedLaws.{push}
+use Rattle.leaf_board.specs.Closing.{Outcome, count_of, cut_of}
+use Rattle.leaf_reading.specs.Fronts.{folding}
+use Rattle.leaf_reading.specs.declared.leaf_end.LeafEnd.{LeafEnd}
+use Rattle.leaf_reading.specs.declared.leaf_end.LeafEnd.TheVariants.{Done}
+use Rattle.stealing_pool.specs.Jobs.{Work, EndsLeaf, StandsForRun}
+use Rattle.stealing_pool.specs.Reports.{Reports}
+use Rattle.stealing_pool.specs.Spans.{joined}
+use Rattle.stealing_pool.specs.SpanLaws.{leaf-ends}
+use Rattle.parallel_streams.specs.LeafLaws.{joined-through}
+use Rattle.parallel_streams.specs.Progress.{barred_work}
+use Rattle.parallel_streams.specs.ProgressLaws.{ends-own}
+use Rattle.parallel_streams.specs.declared.part.Part.{Part}
+use Rattle.parallel_streams.specs.declared.part.Part.TheVariants.{Own}
+use Rattle.parallel_streams.proofs.Gathering.{goes-on, kept-own}
+use Rattle.chained_streams.specs.Chains.{images_at, link_work, no_images}
+use Rattle.chained_streams.specs.ChainLaws.{nothing-at}
+
+-- the element at a place, and behind the last
+pub get-some : {X : Type 0} (xs : List X) (i : ℕ) (x : X) → i < length xs → x ≡ slice_index_or xs i x → slice_get xs i ≡ Some x
+get-some [] i x within is = absurd (omega (arith, within))
+get-some (y ∷ xs) zero x within is = ap Some (sym is)
+get-some (y ∷ xs) (suc i) x within is = get-some xs i x (omega (arith, within)) is
+
+pub get-none : {X : Type 0} (xs : List X) (i : ℕ) → length xs ≤ i → slice_get xs i ≡ None
+get-none [] i all = refl
+get-none (y ∷ xs) zero all = absurd (omega (arith, all))
+get-none (y ∷ xs) (suc i) all = get-none xs i (omega (arith, all))
+
+module _ {L S T C : Type 0} (needed : L → S → Option ℕ) (counted : L → C → Bool) (images : L → C → List C) (is_value : C → Type 0) (content : T → C) (lists : List (List C)) where
+  abbrev own : Option L → Option S → Work (List T)
+  own link state = link_work needed counted images is_value content link state lists
+
+  -- a leaf of the run of a link
+  pub ends-link : {E : Type 0} (links : Option L) (states : Option S) (link : L) (state : S) (cut leaf : ℕ) (r : Result (LeafEnd (List T)) E) → links ≡ Some link → states ≡ Some state
+      → IfOk r (EndsLeaf (own (Some link) (Some state)) cut leaf) → IfOk r (EndsLeaf (own links states) cut leaf)
+  ends-link links states link state cut leaf r is_link is_state h =
+      let P : Option L → Type 0 = λ l. IfOk r (EndsLeaf (own l states) cut leaf) in
+      let Q : Option S → Type 0 = λ s. IfOk r (EndsLeaf (own (Some link) s) cut leaf) in
+      subst P (sym is_link) (subst Q (sym is_state) h)
+
+  nothing-ends : (cut leaf : ℕ) (state : Option S) → leaf < length lists → EndsLeaf (own None state) cut leaf (Done (record { count = 0; kept = [] }))
+  nothing-ends cut leaf state within =
+      let W : ℕ → Type 0 = λ n. leaf < n in
+      leaf-ends (folding None no_item is_value [] push) (map content) (map (flat_map no_images) lists) leaf cut [] (subst W (sym (length-map lists (flat_map no_images))) within) (nothing-at lists leaf)
+      (Done (record { count = 0; kept = [] }))
+      ([], [], refl, (All-nil is_value, refl), refl, refl, (λ one n few. absurd (omega (arith, few))), inl refl)
+
+  -- once all links have run, nothing is kept
+  pub nothing-kept : {P E : Type 0} (before : Work P) (turn : Bool) (link : Option L) (state : Option S) (cut leaf : ℕ) (r : Result (LeafEnd (Part P T)) E) → turn ≡ true → link ≡ None
+      → leaf < (barred_work turn before (own link state)).leaves
+      → IfOk r (λ end. end ≡ Done (record { count = 0; kept = Own [] })) → IfOk r (EndsLeaf (barred_work turn before (own link state)) cut leaf)
+  nothing-kept before turn link state cut leaf (Err e) is none within h = tt
+  nothing-kept {P} before turn link state cut leaf (Ok end) is none within h =
+      let Q : LeafEnd (Part P T) → Type 0 = λ e. EndsLeaf (barred_work turn before (own link state)) cut leaf e in
+      let R : Option L → Type 0 = λ l. EndsLeaf (barred_work turn before (own l state)) cut leaf (Done (record { count = 0; kept = Own [] })) in
+      let W : Bool → Type 0 = λ b. leaf < (barred_work b before (own link state)).leaves in
+      let V : ℕ → Type 0 = λ n. leaf < n in
+      let few = subst V (length-map lists (flat_map (images_at images link state))) (subst W is within) in
+      subst Q (sym h) (subst R (sym none) (ends-own before (own None state) turn cut leaf (Done (record { count = 0; kept = [] })) is (nothing-ends cut leaf state few)))
+
+  -- what a link's run kept
+  pub kept-link : {P : Type 0} (before : Work P) (turn : Bool) (links : Option L) (states : Option S) (link : L) (state : S) (part : Part P T) (items : List T) (entry : Outcome)
+      → links ≡ Some link → states ≡ Some state → part ≡ Own items
+      → StandsForRun (barred_work turn before (own links states)) part
+      → Reports (barred_work turn before (own links states)).needed (barred_work turn before (own links states)).leaves (barred_work turn before (own links states)).full entry.leaves (count_of entry) (cut_of entry)
+      → (turn ≡ true) × IsOutcome (needed link state) (counted link) (flat_map (images link) (joined lists)) (map content items) × IsToldBy (needed link state) (counted link) (map content items) (is_some (cut_of entry))
+  kept-link {P} before turn links states link state part items entry is_link is_state is stands reports =
+      let work : Option L → Option S → Work (Part P T) = λ l s. barred_work turn before (own l s) in
+      let Stands : Option L → Option S → Type 0 = λ l s. StandsForRun (work l s) part in
+      let Told : Option L → Option S → Type 0 = λ l s. Reports (work l s).needed (work l s).leaves (work l s).full entry.leaves (count_of entry) (cut_of entry) in
+      let stood = subst (λ s. Stands (Some link) s) is_state (subst (λ l. Stands l states) is_link stands) in
+      let told = subst (λ s. Told (Some link) s) is_state (subst (λ l. Told l states) is_link reports) in
+      let kept = kept-own before is_value (needed link state) (counted link) content (map (flat_map (images link)) lists) turn part items entry is stood told in
+      let Q : List C → Type 0 = λ whole. IsOutcome (needed link state) (counted link) whole (map content items) in
+      (kept.0, subst Q (joined-through (images link) lists (joined lists) refl) kept.1, kept.2)
+
+-- .. and what it leaves of the present list, whatever is behind that
+pub carried-link : {C : Type 0} (needed : Option ℕ) (counted : C → Bool) (images : C → List C) (old now : List C → List C) → KeepsEnough needed counted old
+    → (whole front left : List C) → IsOutcome needed counted (flat_map images whole) front → ((more : List C) → old (front ++ more) ≡ left ++ now more)
+    → (more : List C) → old (flat_map images (whole ++ more)) ≡ left ++ now (flat_map images more)
+carried-link needed counted images old now law whole front left outcome carried more =
+    ap old (flat_map-append images whole more) ∙ goes-on needed counted old now law (flat_map images whole) front left outcome carried (flat_map images more)

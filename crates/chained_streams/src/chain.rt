@@ -1,0 +1,559 @@
+//! A chain of barriers behind a stream.
+ghost use Rattle.std.specs.Prelude.{◌≡◌, ◌&&◌, ◌==◌, ◌<◌, ◌≤◌, ℕ, [], List, None, Ok, true, All, IfOk, flat_map, length, map, slice_get, ⊤};
+ghost use Rattle.std.proofs.lemmas.List.{length-map};
+ghost use Rattle.leaf_board.specs.Statuses.{SameFrom, StaysSeat};
+ghost use Rattle.leaf_reading.specs.Fronts.{folding};
+ghost use Rattle.leaf_reading.specs.declared.leaf_end.LeafEnd.TheVariants.{Done};
+ghost use Rattle.parallel_streams.specs.declared.part.Part.TheVariants.{Own};
+ghost use Rattle.spliterator.specs.Clones.{ClonesAlike};
+ghost use Rattle.stages.specs.declared.flags.StreamFlags.{StreamFlags};
+ghost use Rattle.stages.specs.Flags.{flags_of};
+ghost use Rattle.stealing_pool.specs.Jobs.{EndsLeaf};
+ghost use Rattle.stealing_pool.specs.Spans.{work_of};
+ghost use Rattle.parallel_streams.specs.Progress.{barred_work, next_leaves};
+ghost use Rattle.chained_streams.specs.Chains.{AreFresh, HoldsChain, IsFirstRun, IsPlannedChain, behind_links, is_own_turn, left_of_chain, link_behind, link_value, link_work, links_waiting, lists_of, through_links};
+ghost use Rattle.chained_streams.specs.ChainLaws.{IsSound-unknown, both-true, chain-leaves, chain-parts, chain-whole, count-lists};
+
+use barriers::{Barrier, Behind, Demand, Need};
+use collectors::{Collector, ToList, combine_containers};
+use leaf_board::Handout;
+use leaf_reading::{LeafEnd, Portion, Reading, feed_whole, read_leaf};
+use parallel_streams::{Listed, Part, Places, Stream, end_before, end_own};
+use sources::SliceSplit;
+use split_tree::Tree;
+use spliterator::{NoMemory, Value};
+use stages::{Sink, Stage, StreamFlags, Then};
+use std::alloc::Global;
+use stealing_pool::RunEntry;
+
+/// Stages that look at one item at a time, and the barrier behind them.
+#[derive(Drop)]
+pub struct Link<A, B> {
+    pub stage: A,
+    pub barrier: B,
+}
+
+/// A stream's items through links, one after another. A clone of an item must have the item's content: that is part of what the stream
+/// relies on.
+///
+/// The number of barriers is that of a list, which a program may make while it runs. A report says nothing of how the leaves of its runs were
+/// cut.
+#[derive(Drop)]
+pub struct Chain<U, A, B> {
+    pub upstream: U,
+    pub links: Vec<Link<A, B>>,
+}
+
+/// How far a chain has come: the stream before it, a state a link, how many links have run over the present segment, the list that the last of
+/// these left, and how many items the longest list had that came to one of them.
+#[derive(Drop)]
+pub struct ChainProgress<P, S, T> {
+    pub before: P,
+    pub states: Vec<S>,
+    pub run: usize,
+    pub listed: Option<Listed<T>>,
+    pub gathered: u64,
+}
+
+// What is kept of a leaf of which nothing is listed.
+fn nothing_kept<P: Drop, T: Value + Clone + Drop>(
+    alloc: Global,
+) -> Result<LeafEnd<Part<P, T>>, NoMemory>
+    requires { ClonesAlike T.is_clone T.content }
+    ensures { IfOk result (λ end. end ≡ Done (record { count = 0; kept = Own [] })) }
+{
+    let kept = ToList::new(alloc).supply()?;
+    Ok(LeafEnd::Done(Portion {
+        count: 0,
+        kept: Part::Own(kept),
+    }))
+}
+
+// The most items that a list is made for where it isn't known how many come.
+const MOST_ROOM: u64 = 1 << 20;
+
+impl<U: Stream, A: Stage<In = U::Item, Out = U::Item>, B: Barrier<U::Item>> Chain<U, A, B> {
+    // The states before any item.
+    fn fresh_states(&self, alloc: Global) -> Result<Vec<B::State>, NoMemory>
+        ensures { let step = link_behind A.expand B.value_behind in
+            IfOk result (λ states. AreFresh step (link_value A.expand B.value) self.now.links.items states.items) }
+    {
+        let mut states = Vec::with_capacity(alloc, self.links.len())?;
+        for at in 0..self.links.len() {
+            states.push(self.links[at].barrier.fresh(alloc))?;
+        }
+        Ok(states)
+    }
+
+    // Whether nothing that is still to come matters to some link.
+    fn is_over(&self, states: &[B::State]) -> bool
+        requires { All (λ link. B.Demand.ready link.barrier) self.now.links.items }
+        ensures { let step = link_behind A.expand B.value_behind in
+            result ≡ true → (items : List _) → behind_links step self.now.links.items states.now items ≡ [] }
+    {
+        let count = self.links.len().min(states.len());
+        for at in 0..count {
+            if self.links[at].barrier.is_over(&states[at]) {
+                return true;
+            }
+        }
+        false
+    }
+
+    // How many links need no run over a segment: the first, where it lets all pass.
+    fn first_run(&self, states: &[B::State]) -> usize
+        ensures start { let first = IsFirstRun (link_behind A.expand B.value_behind) (λ link. A.expand link.stage) in
+            first self.now.links.items states.now result }
+        ensures within { result ≤ length self.now.links.items }
+    {
+        if self.links.is_empty() {
+            return 0;
+        }
+        if states.is_empty() {
+            return 0;
+        }
+        if self.links[0].barrier.lets_pass(&states[0]) {
+            1
+        } else {
+            0
+        }
+    }
+
+    // Whether the barriers of the stream before have run.
+    fn is_own_turn(&self, progress: &ChainProgress<U::Progress, B::State, U::Item>) -> bool
+        ensures { result ≡ is_own_turn (U.done self.now.upstream progress.now.before) progress.now.listed }
+    {
+        progress.listed.is_some() || self.upstream.is_gathered(&progress.before)
+    }
+
+    // How many items a leaf's list is made for: those of all leaves for the first one, behind which the others are put.
+    fn room(&self, progress: &ChainProgress<U::Progress, B::State, U::Item>, leaf: usize) -> u64 {
+        if progress.listed.is_some() {
+            return 0;
+        }
+        let leaves = self.upstream.leaves(&progress.before).max(1) as u64;
+        match self.upstream.segment_size(&progress.before) {
+            Some(number) if leaf == 0 => number.min(MOST_ROOM),
+            Some(number) => (number / leaves).min(MOST_ROOM),
+            None => 0,
+        }
+    }
+
+    // Runs a leaf of the next run, through a stage into a collector: over the stream before, or over the last link's list.
+    fn read_own_leaf<
+        G: Stage<In = U::Item>,
+        D: Demand<G::Out>,
+        C: Collector<Item = G::Out>,
+        L: Handout,
+    >(
+        &self,
+        alloc: Global,
+        progress: &ChainProgress<U::Progress, B::State, U::Item>,
+        reading: &Reading<'_, G, D, C>,
+        board: &L,
+        seat: &mut L::Seat,
+        leaf: usize,
+    ) -> Result<LeafEnd<C::Acc>, NoMemory>
+        requires ready { U.ready self.now.upstream }
+        requires clones { ClonesAlike U.Item.is_clone U.Item.content }
+        requires stages { All (λ link. A.ready link.stage) self.now.links.items }
+        requires stage { G.ready reading.now.stage.now }
+        requires demand { D.ready reading.now.demand.now }
+        requires collector { C.ready reading.now.collector.now }
+        requires before { U.holds self.now.upstream progress.now.before }
+        requires holds { let holds = HoldsChain (link_behind A.expand B.value_behind) (λ link. A.expand link.stage) in
+            holds self.now.links.items progress.now.states.items progress.now.run progress.now.listed }
+        requires turn { is_own_turn (U.done self.now.upstream progress.now.before) progress.now.listed ≡ true }
+        requires board { L.leaves board.now ≡ length (lists_of (λ link. A.expand link.stage) U.Item.content self.now.links.items progress.now.run (U.parts self.now.upstream progress.now.before) progress.now.listed) }
+        requires of { L.is_of board.now seat.old }
+        requires within { leaf < L.leaves board.now }
+        ensures seat { StaysSeat (L.is_of board.now) L.number L.draws_left L.made_cut seat.old seat.new }
+        ensures same { SameFrom (L.status seat.old) (L.status seat.new) }
+        ensures end { let needs = folding (D.needed reading.now.demand.now) (D.counted reading.now.demand.now) G.Out.is_value in
+            let fold = needs (C.empty reading.now.collector.now) (C.add reading.now.collector.now) in
+            let lists = map (flat_map (G.expand reading.now.stage.now)) (lists_of (λ link. A.expand link.stage) U.Item.content self.now.links.items progress.now.run (U.parts self.now.upstream progress.now.before) progress.now.listed) in
+            IfOk result (EndsLeaf (work_of fold (C.content reading.now.collector.now) lists) (L.cut seat.new) leaf) }
+    {
+        match &progress.listed {
+            Some(listed) => {
+                let items = listed.places.part(&listed.items, leaf);
+                read_leaf(alloc, SliceSplit::new(items), reading, board, seat, leaf)
+            }
+            None if progress.run == 0 => {
+                self.upstream
+                    .run_last_leaf(alloc, &progress.before, reading, board, seat, leaf)
+            }
+            None => {
+                let fused = Then::new(&self.links[0].stage, reading.stage);
+                let reading = Reading {
+                    stage: &fused,
+                    demand: reading.demand,
+                    collector: reading.collector,
+                };
+                self.upstream
+                    .run_last_leaf(alloc, &progress.before, &reading, board, seat, leaf)
+            }
+        }
+    }
+}
+
+impl<U: Stream, A: Stage<In = U::Item, Out = U::Item>, B: Barrier<U::Item>> Stream
+    for Chain<U, A, B> {
+    type Item = U::Item;
+
+    type Progress = ChainProgress<U::Progress, B::State, U::Item>;
+
+    type Part = Part<U::Part, U::Item>;
+
+    ghost ready = { λ s. U.ready s.upstream × ClonesAlike U.Item.is_clone U.Item.content
+        × All (λ link. A.ready link.stage × B.Demand.ready link.barrier × B.can_carry link.barrier) s.links.items };
+
+    ghost value = { λ s. through_links (link_value A.expand B.value) s.links.items (U.value s.upstream) };
+
+    ghost size = { λ _. None };
+
+    ghost told = { λ _. flags_of 0 };
+
+    ghost holds = { λ s p. let holds = HoldsChain (link_behind A.expand B.value_behind) (λ link. A.expand link.stage) in
+        U.holds s.upstream p.before × holds s.links.items p.states.items p.run p.listed };
+
+    ghost left = { λ s p. let step = link_behind A.expand B.value_behind in
+        left_of_chain step U.Item.content p.run s.links.items p.states.items (U.left s.upstream p.before) (U.behind s.upstream p.before) p.listed };
+
+    ghost behind = { λ s p. let step = link_behind A.expand B.value_behind in
+        behind_links step s.links.items p.states.items (U.behind s.upstream p.before) };
+
+    ghost still = { λ s p. U.still s.upstream p.before };
+
+    ghost done = { λ s p. is_own_turn (U.done s.upstream p.before) p.listed && (p.run == length s.links.items) };
+
+    ghost waiting = { λ s p. links_waiting (U.waiting s.upstream p.before) (length s.links.items) p.run p.listed };
+
+    ghost leaves_next = { λ s p. next_leaves (U.leaves_next s.upstream p.before) p.listed };
+
+    ghost work = { λ s p.
+        let own = link_work (λ link state. B.needed_behind link.barrier state) (λ link. B.Demand.counted link.barrier) (λ link. A.expand link.stage) in
+        let next = own U.Item.is_value U.Item.content (slice_get s.links.items p.run) (slice_get p.states.items p.run) in
+        let lists = lists_of (λ link. A.expand link.stage) U.Item.content s.links.items p.run (U.parts s.upstream p.before) p.listed in
+        barred_work (is_own_turn (U.done s.upstream p.before) p.listed) (U.work s.upstream p.before) (next lists) };
+
+    ghost parts = { λ s p. lists_of (λ link. A.expand link.stage) U.Item.content s.links.items p.run (U.parts s.upstream p.before) p.listed };
+
+    ghost cut_into = { λ _ _ _ _. ⊤ };
+
+    ghost planned = { λ s workers target p.
+        let step = link_behind A.expand B.value_behind in
+        let value = link_value A.expand B.value in
+        U.planned s.upstream workers target p.before
+        × IsPlannedChain step value U.Item.content (U.value s.upstream) s.links.items p.run p.states.items p.listed };
+
+    ghost reported = { λ _ _ _ _. ⊤ };
+
+    ghost told_so_far = { λ _ _ _ _ _. ⊤ };
+
+    ghost flag_law = { λ s. IsSound-unknown U.Item.order (through_links (link_value A.expand B.value) s.links.items (U.value s.upstream)) };
+
+    ghost work_law = { λ s p unrun.
+        let own = link_work (λ link state. B.needed_behind link.barrier state) (λ link. B.Demand.counted link.barrier) (λ link. A.expand link.stage) in
+        let next = own U.Item.is_value U.Item.content (slice_get s.links.items p.run) (slice_get p.states.items p.run) in
+        let lists = lists_of (λ link. A.expand link.stage) U.Item.content s.links.items p.run (U.parts s.upstream p.before) p.listed in
+        let leaves = chain-leaves (λ link. A.expand link.stage) U.Item.content s.links.items p.run (U.done s.upstream p.before) (U.work s.upstream p.before) (next lists) in
+        leaves (U.parts s.upstream p.before) (U.leaves_next s.upstream p.before) p.listed (length-map lists _) (U.work_law s.upstream p.before) (U.parts_count s.upstream p.before) };
+
+    ghost reported_law = { λ s workers target p entries done told. tt };
+
+    ghost parts_law = { λ s p held done.
+        let step = link_behind A.expand B.value_behind in
+        let left = chain-parts step (λ link. A.expand link.stage) U.Item.content s.links.items p.states.items p.run p.listed (U.done s.upstream p.before) in
+        left (U.left s.upstream p.before) (U.behind s.upstream p.before) (U.parts s.upstream p.before) held.1 done (U.parts_law s.upstream p.before held.0) };
+
+    ghost whole_law = { λ s workers target p held planned done.
+        let step = link_behind A.expand B.value_behind in
+        let value = link_value A.expand B.value in
+        let whole = chain-whole step (λ link. A.expand link.stage) value U.Item.content s.links.items p.states.items p.run p.listed (U.done s.upstream p.before) in
+        whole (U.value s.upstream) (U.parts s.upstream p.before) held.1.2 planned.1 done (U.whole_law s.upstream workers target p.before held.0 planned.0) };
+
+    ghost cut_law = { λ s workers target p held planned done. tt };
+
+    ghost parts_count = { λ s p done.
+        let turn = both-true (is_own_turn (U.done s.upstream p.before) p.listed) (p.run == length s.links.items) done in
+        let count = count-lists (λ link. A.expand link.stage) U.Item.content s.links.items p.run (U.done s.upstream p.before) in
+        count (U.parts s.upstream p.before) (U.leaves_next s.upstream p.before) p.listed turn.0 (U.parts_count s.upstream p.before) };
+
+    fn known_size(&self) -> Option<u64> {
+        None
+    }
+
+    fn flags(&self) -> StreamFlags {
+        StreamFlags::of(0)
+    }
+
+    fn has_barrier(&self) -> bool {
+        !self.links.is_empty() || self.upstream.has_barrier()
+    }
+
+    fn growth(&self) -> u64 {
+        let mut growth = self.upstream.growth();
+        for link in self.links.iter() {
+            growth = growth.saturating_mul(link.stage.growth());
+        }
+        growth
+    }
+
+    fn start(
+        &self,
+        alloc: Global,
+        workers: u32,
+        target: u64,
+        most: Option<u64>,
+    ) -> Result<ChainProgress<U::Progress, B::State, U::Item>, NoMemory> {
+        let before = self.upstream.start(alloc, workers, target, most)?;
+        let states = self.fresh_states(alloc)?;
+        Ok(ChainProgress {
+            before,
+            states,
+            run: 0,
+            listed: None,
+            gathered: 0,
+        })
+    }
+
+    fn is_last(&self, progress: &ChainProgress<U::Progress, B::State, U::Item>) -> bool {
+        self.upstream.is_last(&progress.before) || self.is_over(&progress.states)
+    }
+
+    fn go_on(
+        &self,
+        alloc: Global,
+        progress: ChainProgress<U::Progress, B::State, U::Item>,
+        workers: u32,
+        target: u64,
+        most: u64,
+    ) -> Result<ChainProgress<U::Progress, B::State, U::Item>, NoMemory> {
+        let ChainProgress { before, states, .. } = progress;
+        let before = self.upstream.go_on(alloc, before, workers, target, most)?;
+        let run = self.first_run(&states);
+        Ok(ChainProgress {
+            before,
+            states,
+            run,
+            listed: None,
+            gathered: 0,
+        })
+    }
+
+    fn segment_size(
+        &self,
+        progress: &ChainProgress<U::Progress, B::State, U::Item>,
+    ) -> Option<u64> {
+        if self.links.is_empty() {
+            self.upstream.segment_size(&progress.before)
+        } else {
+            None
+        }
+    }
+
+    fn gathered(&self, progress: &ChainProgress<U::Progress, B::State, U::Item>) -> u64 {
+        self.upstream
+            .gathered(&progress.before)
+            .max(progress.gathered)
+    }
+
+    fn is_gathered(&self, progress: &ChainProgress<U::Progress, B::State, U::Item>) -> bool {
+        self.is_own_turn(progress) && progress.run == self.links.len()
+    }
+
+    fn leaves(&self, progress: &ChainProgress<U::Progress, B::State, U::Item>) -> usize {
+        match &progress.listed {
+            Some(listed) => listed.places.leaves(),
+            None => self.upstream.leaves(&progress.before),
+        }
+    }
+
+    fn tree<'p>(&self, progress: &'p ChainProgress<U::Progress, B::State, U::Item>) -> &'p Tree {
+        match &progress.listed {
+            Some(listed) => listed.places.tree(),
+            None => self.upstream.tree(&progress.before),
+        }
+    }
+
+    fn need(&self, progress: &ChainProgress<U::Progress, B::State, U::Item>) -> Need {
+        if !self.is_own_turn(progress) {
+            return self.upstream.need(&progress.before);
+        }
+        let Some(link) = self.links.get(progress.run) else {
+            return Need::Never;
+        };
+        let Some(state) = progress.states.get(progress.run) else {
+            return Need::Never;
+        };
+        link.barrier.need_behind(state)
+    }
+
+    fn run_barrier_leaf<L: Handout>(
+        &self,
+        alloc: Global,
+        progress: &ChainProgress<U::Progress, B::State, U::Item>,
+        board: &L,
+        seat: &mut L::Seat,
+        leaf: usize,
+    ) -> Result<LeafEnd<Part<U::Part, U::Item>>, NoMemory> {
+        if !self.is_own_turn(progress) {
+            return end_before(
+                self.upstream
+                    .run_barrier_leaf(alloc, &progress.before, board, seat, leaf),
+            );
+        }
+        let run = progress.run;
+        if run >= self.links.len() {
+            return nothing_kept(alloc);
+        }
+        let link = &self.links[run];
+        let demand = Behind {
+            barrier: &link.barrier,
+            state: &progress.states[run],
+        };
+        let reading = Reading {
+            stage: &link.stage,
+            demand: &demand,
+            collector: &ToList::with_room(alloc, self.room(progress, leaf)),
+        };
+        end_own(self.read_own_leaf(alloc, progress, &reading, board, seat, leaf))
+    }
+
+    // A run keeps parts of one kind, so that a mixture stands for no leaves.
+    fn combine(
+        &self,
+        alloc: Global,
+        progress: &ChainProgress<U::Progress, B::State, U::Item>,
+        kept: &mut Part<U::Part, U::Item>,
+        following: Part<U::Part, U::Item>,
+    ) -> Result<(), NoMemory> {
+        match kept {
+            Part::Before(kept) => match following {
+                Part::Before(following) => {
+                    self.upstream
+                        .combine(alloc, &progress.before, kept, following)
+                }
+                Part::Own(_following) => Ok(()),
+            },
+            Part::Own(kept) => match following {
+                Part::Before(_following) => Ok(()),
+                Part::Own(following) => combine_containers(&ToList::new(alloc), kept, following),
+            },
+        }
+    }
+
+    fn gather(
+        &self,
+        alloc: Global,
+        progress: ChainProgress<U::Progress, B::State, U::Item>,
+        part: Part<U::Part, U::Item>,
+        entry: &RunEntry,
+        workers: u32,
+        target: u64,
+    ) -> Result<ChainProgress<U::Progress, B::State, U::Item>, NoMemory> {
+        let ChainProgress {
+            before,
+            mut states,
+            run,
+            listed,
+            gathered,
+        } = progress;
+        match part {
+            Part::Before(part) => {
+                let before = self
+                    .upstream
+                    .gather(alloc, before, part, entry, workers, target)?;
+                Ok(ChainProgress {
+                    before,
+                    states,
+                    run,
+                    listed,
+                    gathered,
+                })
+            }
+            Part::Own(pieces) => {
+                let list = pieces.into_list()?;
+                let gathered = gathered.max(list.len() as u64);
+                let is_cut = entry.cut().is_some();
+                if run >= self.links.len() {
+                    return Ok(ChainProgress {
+                        before,
+                        states,
+                        run,
+                        listed,
+                        gathered,
+                    });
+                }
+                drop(listed);
+                let barrier = &self.links[run].barrier;
+                let items = barrier.carry(&mut states[run], list, is_cut)?;
+                let places = Places::cut(alloc, items.as_slice(), workers, target)?;
+                let listed = Some(Listed { items, places });
+                Ok(ChainProgress {
+                    before,
+                    states,
+                    run: run + 1,
+                    listed,
+                    gathered,
+                })
+            }
+        }
+    }
+
+    fn take_listed(
+        &self,
+        progress: &mut ChainProgress<U::Progress, B::State, U::Item>,
+    ) -> Option<Listed<U::Item>> {
+        match progress.listed.take() {
+            Some(listed) => {
+                progress.run = 0;
+                Some(listed)
+            }
+            None => None,
+        }
+    }
+
+    fn feed_last_leaf<G: Stage<In = U::Item>, K: Sink<G::Out>>(
+        &self,
+        alloc: Global,
+        progress: &ChainProgress<U::Progress, B::State, U::Item>,
+        stage: &G,
+        leaf: usize,
+        sink: &mut K,
+    ) -> Result<(), NoMemory> {
+        match &progress.listed {
+            Some(listed) => {
+                let items = listed.places.part(&listed.items, leaf);
+                feed_whole(alloc, stage, SliceSplit::new(items), sink)
+            }
+            None if progress.run == 0 => {
+                self.upstream
+                    .feed_last_leaf(alloc, &progress.before, stage, leaf, sink)
+            }
+            None => {
+                let fused = Then::new(&self.links[0].stage, stage);
+                self.upstream
+                    .feed_last_leaf(alloc, &progress.before, &fused, leaf, sink)
+            }
+        }
+    }
+
+    fn run_last_leaf<
+        G: Stage<In = U::Item>,
+        D: Demand<G::Out>,
+        C: Collector<Item = G::Out>,
+        L: Handout,
+    >(
+        &self,
+        alloc: Global,
+        progress: &ChainProgress<U::Progress, B::State, U::Item>,
+        reading: &Reading<'_, G, D, C>,
+        board: &L,
+        seat: &mut L::Seat,
+        leaf: usize,
+    ) -> Result<LeafEnd<C::Acc>, NoMemory> {
+        self.read_own_leaf(alloc, progress, reading, board, seat, leaf)
+    }
+}
