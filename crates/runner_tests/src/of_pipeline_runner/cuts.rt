@@ -1,9 +1,9 @@
-//! Limits, skips and whiles behind filters, which are done by cutting the source.
+//! Limits, skips and whiles behind filters, over several segments.
 
 use super::rows::{Row, TARGETS_OF_LONG, TWO, all_right, all_right_at};
 use std::test::Fail;
 
-/// The places are near the front, far behind it, at an end of the parts that are counted, and nowhere.
+/// The cuts are near the front, far behind it, near the end of a segment, and nowhere.
 static RANGES: [Row<'_>; 20] = [
     (
         b"range 0 300000\nfilter divisible 3\nlimit 5000\nsum\n",

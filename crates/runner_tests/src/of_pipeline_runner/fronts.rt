@@ -4,7 +4,7 @@ use super::gates::Watch;
 use super::rows::{Row, TARGETS_OF_LONG, TWO, WORKERS, all_right_at, right_at};
 use std::test::Fail;
 
-/// A front decides these. At target 1 the whole range has 65,536 leaves, and the fronts of all rows and the lists behind them fewer.
+/// The first segments decide these. At target 1 the whole range has 65,536 leaves, and all runs of these rows fewer.
 static BY_FRONT: [Row<'_>; 6] = [
     (
         b"range 0 1000000\nfilter divisible 3\ndistinct\nfindfirst\n",
@@ -32,7 +32,7 @@ static BY_FRONT: [Row<'_>; 6] = [
     ),
 ];
 
-/// The first front doesn't decide these; a longer one decides two of them.
+/// The first segment doesn't decide these.
 static BEHIND_FRONT: [Row<'_>; 4] = [
     (
         b"range 0 9000000\ndropwhile less 5000\nfindfirst\n",

@@ -8,18 +8,15 @@ use std::sync::atomic::{AtomicU64, Ordering};
 const TURNS: u64 = 50_000_000;
 
 /// Counts the leaves that were entered and ended, and the calls of no worker. It may hold the first worker at its first leaf until another
-/// worker has entered a leaf, or leaf 0 of one run until another worker has, or leaf 0 of each run until so many others of that run have ended, or each
-/// worker at its first leaf of each run until so many have come to one.
+/// worker has entered a leaf, or leaf 0 of one run until another worker has, or each worker at its first leaf of each run until so many have come to one.
 #[derive(Drop)]
 pub struct Watch {
     holds: bool,
     held_run: u64,
-    others: u64,
     // the workers of each run, and its leaves
     wanted: u32,
     leaves: u64,
     runs: AtomicU64,
-    others_ended: AtomicU64,
     /// A bit for each worker that has entered a leaf, and that has entered one of each run, in turn.
     workers: AtomicU64,
     came: [AtomicU64; 2],
@@ -35,11 +32,9 @@ impl Watch {
         Watch {
             holds,
             held_run: 0,
-            others: 0,
             wanted: 0,
             leaves: 1,
             runs: AtomicU64::new(0),
-            others_ended: AtomicU64::new(0),
             workers: AtomicU64::new(0),
             came: [AtomicU64::new(0), AtomicU64::new(0)],
             entered: AtomicU64::new(0),
@@ -47,13 +42,6 @@ impl Watch {
             strays: AtomicU64::new(0),
             missed: AtomicU64::new(0),
         }
-    }
-
-    /// A gate that holds leaf 0 of each run until so many other leaves of the run have ended. Each run has as many leaves.
-    pub fn of_each_run(others: u64) -> Watch {
-        let mut gate = Watch::new(false);
-        gate.others = others;
-        gate
     }
 
     /// A gate that holds leaf 0 of one run until another worker has entered a leaf. Runs are counted from 1.
@@ -135,19 +123,14 @@ impl Gate for Watch {
             self.wait_for(&self.workers, own.wrapping_add(1));
         }
         if leaf == 0 {
-            // the other leaves of this run and of those before it
             let runs = self.runs.fetch_add(1, Ordering::SeqCst).wrapping_add(1);
             if runs == self.held_run {
                 self.wait_for(&self.workers, own.wrapping_add(1));
             }
-            self.wait_for(&self.others_ended, self.others.wrapping_mul(runs));
         }
     }
 
-    fn after_leaf(&self, worker: u32, leaf: usize) {
+    fn after_leaf(&self, worker: u32, _leaf: usize) {
         self.count(&self.ended, worker);
-        if leaf > 0 {
-            self.others_ended.fetch_add(1, Ordering::SeqCst);
-        }
     }
 }

@@ -195,30 +195,18 @@ fn are_run_by_as_many_workers(rt: HostRuntime) -> Result<(), Fail> {
     Ok(())
 }
 
-// Each barrier keeps the ten items, and stands behind a cut into words, so that its items come in a run: each of the six runs has ten leaves.
-// Leaf 0 is held until another worker has ended the other nine.
-const BARRIERS: &[u8] =
-    b"pipeline 1\nlines 10\na\nb\nc\nd\ne\nf\ng\nh\ni\nj\nflatmap words\nskip 0\nflatmap words\ntakewhile longer 0\nflatmap words\ndropwhile empty\ndistinct\nflatmap words\nlimit 11\njoining ,\n";
-
-#[test]
-fn are_run_by_two_workers_behind_each_barrier(rt: HostRuntime) -> Result<(), Fail> {
-    let gate = Watch::of_each_run(9);
-    watch(&rt, rt.alloc(), &Case::of(BARRIERS, 2, 1), &gate)?;
-    assert!(rt; gate.calls() == (60, 60, 0));
-    Ok(())
-}
-
-// The place of the last but one even number is sought. Behind two runs over the first items, the third counts the rest's images by all workers, in
-// four leaves. Each other run has one leaf: those of the first items, those of parts of a leaf, and that of the sum.
+// The segments have 3,125, 3,125, 6,250 and so on up to 100,000 numbers, and two runs each: that of the skip, and the sum's over what it left. The thirteenth run
+// is the skip's over the last one, in two leaves; each run before it has one leaf.
 const FAR: &[u8] = b"pipeline 1\nrange 0 200000\nfilter divisible 2\nskip 99999\nsum\n";
 
 #[test]
-fn are_counted_by_two_workers_behind_the_first_items(rt: HostRuntime) -> Result<(), Fail> {
-    let gate = Watch::of_run(3);
+fn are_run_by_two_workers_in_a_long_segment(rt: HostRuntime) -> Result<(), Fail> {
+    let gate = Watch::of_run(13);
     let written = watch(&rt, rt.alloc(), &Case::of(FAR, 2, 65_536), &gate)?;
     assert!(rt;
-        gate.worker_count() == 2 && written.as_str() == "199998\n",
-        "{written}"
+        gate.worker_count() == 2 && gate.calls() == (15, 15, 0) && written.as_str() == "199998\n",
+        "{:?} {written}",
+        gate.calls()
     );
     Ok(())
 }
