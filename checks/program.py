@@ -76,7 +76,7 @@ DECIDED = [
     ("range 0 4611686018427387904\nmap mod 1000000007\ndropwhile less 30000000\nfindfirst", "Optional[30000000]"),
 ]
 # how many random ones are tried beside these, and what each may take
-MANY = 300
+MANY = 1_000
 SECONDS = 5
 MOST_MEMORY = 400_000_000
 # the most requests of a row, so that each can be refused, and how many of another command line are refused, evenly spread where it makes more
