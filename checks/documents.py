@@ -25,7 +25,7 @@ from built import PSTREAM, ROOT, conclude, need_program, run
 DOCS = ROOT / "docs"
 # the most bytes that each page may have, and those that README.md, examples/README.md and docs/ may have in all, docs/signatures.md aside
 SIZES, ALL_SIZES = {
-    "README.md": 7_000, "examples/README.md": 5_500, "examples/why/README.md": 1_800, "bench/README.md": 4_000, "docs/ARCHITECTURE.md": 10_500,
+    "README.md": 7_000, "examples/README.md": 5_500, "examples/why/README.md": 1_900, "bench/README.md": 4_000, "docs/ARCHITECTURE.md": 10_500,
     "docs/DECISIONS.md": 30_000, "docs/PROVED.md": 14_000, "docs/TOOLCHAIN.md": 10_000, "docs/board.md": 8_000, "docs/faults.md": 6_000,
     "docs/from-java.md": 20_000, "docs/glossary.md": 6_000, "docs/inside.md": 12_000, "docs/language.md": 10_100, "docs/library.md": 18_800,
     "docs/many-machines.md": 6_500, "docs/performance.md": 8_000, "docs/pool.md": 8_000, "docs/pstream.1": 6_400, "docs/signatures.md": 250_000,

@@ -136,6 +136,7 @@ def rayon_answers():
 def program():
     """A first item soon, a want of memory told, and one answer whatever the workers."""
     yield "the first of 2^62 numbers", ran([PSTREAM, WHY / "first.pipeline"], seconds=SOON), (0, "Optional[0]\n", "")
+    yield "three that differ of 2^62 numbers", ran([PSTREAM, WHY / "distinct.pipeline"], seconds=SOON), (0, "[0, 1, 2]\n", "")
     wanted = (3, "", "out of memory\n")
     yield "a list of ten million numbers in 60 MB", ran([PSTREAM, WHY / "list.pipeline"], preexec_fn=little_memory), wanted
     groups = {}
@@ -149,9 +150,10 @@ def program():
 # Others.
 
 def java():
-    """Java's parallel streams: wrong numbers, no first number, the end of the process."""
+    """Java's parallel streams: wrong numbers, no first numbers, the end of the process."""
     yield from wrong_answers("Java", ran(["java", WHY / "Reduce.java"]))
     yield f"Java: no first number in {LONG} seconds", ran(["java", WHY / "First.java"], seconds=LONG), ("no end", "", "")
+    yield f"Java: no three that differ in {LONG} seconds", ran(["java", WHY / "Distinct.java"], seconds=LONG), ("no end", "", "")
     status, out, err = ran(["java", "-Xmx60m", WHY / "List.java"])
     yield "Java: a list in 60 MB", (status, out, "java.lang.OutOfMemoryError" in err), (1, "", True)
 
