@@ -116,7 +116,7 @@ PIPELINES = [
     Row("flatmap repeat 2\nmap mod 10\nsum", lambda n: 9 * n, 9),
     Row("filter divisible 2\nlimit HALF\nmax", lambda n: f"Optional[{n - 2}]", 28, 0, of_segment, 2, 1, segmented=True),
     Row("filter divisible 2\nskip 9\nmin", lambda n: "Optional[18]", 28, 0, of_first, segmented=True),
-    Row("takewhile less HALF\nmap mod 10\nsum", lambda n: 9 * n // 4, 28, 1_500, before_half, 1.2, segmented=True),
+    Row("takewhile less HALF\nmap mod 10\nsum", lambda n: 9 * n // 4, 28, 2_500, before_half, 1.2, segmented=True),
     Row("dropwhile less HALF\nmap mod 10\nsum", lambda n: 9 * n // 4, 28, 0, of_segment, 1.2, segmented=True),
     # (a set makes room for half of what comes; a segment that passes, or of which little is left, has one run with several workers)
     Row("map mod 1000\ndistinct\nsum", lambda n: 499_500, 28, 0, lambda at: of_segment(at) * (12 if at.items > 1_000_000 else 8.5) / 5, 1.2, segmented=True),
@@ -155,7 +155,9 @@ TERMINALS = [
     Row("to_sorted_list", None, 50, 0, an_item(16), joins=1),
     Row("sorted_by_key", None, 8, 0, an_item(32), joins=1, sorting=SORTING),
     Row("limit", None, 16, 0, of_segment, 2, 1, segmented=True),
-    *[Row(name, None, 16, 0, of_first, segmented=True) for name in "skip drop_while".split()],
+    # (what a skip drops goes first, and what a drop while tests comes once more)
+    Row("skip", None, 16, 0, lambda at: of_first(at) * 9 // 10, segmented=True),
+    Row("drop_while", None, 16, 0, lambda at: of_first(at) * 21 // 20, segmented=True),
     # (of many items a while's lists have a quarter more room)
     Row("take_while", None, 16, 0, lambda at: of_segment(at) * (5 if at.items > 1_000_000 else 4) // 4, 2, 1, segmented=True),
     Row("distinct", None, 16, 0, lambda at: entries(24)(at) + of_segment(at), 2, 1, segmented=True),
