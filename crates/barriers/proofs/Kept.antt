@@ -1,5 +1,5 @@
 -- What a set keeps of a list.
-use Rattle.std.proofs.Common.{◌≡◌, ◌≤◌, ◌-◌, ℕ, arith, Bool, true, false, cond, ◌||◌, List, [], ◌∷◌, ◌++◌, map, fold, take, drop, length, ap, ap₂, ◌∙◌, sym, refl, append_assoc, append-nil}
+use Rattle.std.proofs.Common.{◌≡◌, ◌≤◌, ◌-◌, ℕ, arith, Bool, true, false, cond, not, ◌||◌, None, Result, Ok, Err, IfOk, List, [], ◌∷◌, ◌++◌, filter, map, fold, take, drop, length, ap, ap₂, ◌∙◌, sym, refl, append_assoc, append-nil}
 use Rattle.std.specs.List.{list_any}
 use Rattle.std.proofs.lemmas.List.{map-append, length-map, length-append, length-drop, drop-map}
 use Rattle.std.proofs.lemmas.List.Folds.{list_any-append}
@@ -8,6 +8,7 @@ use Rattle.indexmap.specs.IndexSet.{insert_key}
 use Rattle.spliterator.specs.Values.{DecidesEquality}
 use Rattle.stages.specs.Distinct.{distinct, distinct_after}
 use Rattle.stages.specs.Tests.{either}
+use Rattle.barriers.specs.Thinned.{IsThinned}
 
 pub all-behind : {T : Type 0} (n : ℕ) (l : List T) → take (length l - n) (drop n l) ≡ drop n l
 all-behind n l = ap (λ m. take m (drop n l)) (sym (length-drop n l)) ∙ take-length (drop n l)
@@ -56,10 +57,94 @@ module _ {C : Type 0} (same : C → C → Bool) (decides : DecidesEquality same)
       ∙ ap (λ l. x ∷ (rest ++ distinct_after same l more)) (append_assoc E (x ∷ []) rest)
       ∙ ap (λ l. l ++ distinct_after same (E ++ l) more) (sym (new-item E ks x none)))
 
+  or-more : (a b c : Bool) → (a ≡ true → b ≡ true) → (a || c) ≡ true → (b || c) ≡ true
+  or-more true b c h is = ap (λ d. d || c) (h refl)
+  or-more false true c h is = refl
+  or-more false false c h is = is
+
+  -- all that came in one list came in another
+  abbrev CameIn : List C → List C → Type 0
+  CameIn E F = (k : C) → among k E ≡ true → among k F ≡ true
+
+  came-front : (E l : List C) → CameIn E (E ++ l)
+  came-front E l k there = list_any-append (same k) E l ∙ ap (λ b. b || among k l) there
+
+  came-both : (E F : List C) (x : C) → CameIn E F → CameIn (E ++ x ∷ []) (F ++ x ∷ [])
+  came-both E F x within k there =
+      list_any-append (same k) F (x ∷ []) ∙ or-more (among k E) (among k F) (same k x || false) (within k) (sym (list_any-append (same k) E (x ∷ [])) ∙ there)
+
+  abbrev is_new : List C → C → Bool
+  is_new came k = not (among k came)
+
+  -- what came makes no difference
+  without-known : (came E ks more : List C) → CameIn came E → distinct_after same E (ks ++ more) ≡ distinct_after same E (filter (is_new came) ks ++ more)
+  without-known came E [] more within = refl
+  without-known came E (x ∷ ks) more within =
+      either (among x came)
+      (λ there.
+      let out : filter (is_new came) (x ∷ ks) ≡ filter (is_new came) ks = ap (λ b. cond (not b) (x ∷ filter (is_new came) ks) (filter (is_new came) ks)) there in
+      known-item E (ks ++ more) x (within x there) ∙ without-known came E ks more within ∙ ap (λ l. distinct_after same E (l ++ more)) (sym out))
+      (λ none.
+      let kept : filter (is_new came) (x ∷ ks) ≡ x ∷ filter (is_new came) ks = ap (λ b. cond (not b) (x ∷ filter (is_new came) ks) (filter (is_new came) ks)) none in
+      ap (λ l. cond (among x E) l (x ∷ l)) (without-known came (E ++ x ∷ []) ks more (λ k there. came-front E (x ∷ []) k (within k there)))
+      ∙ ap (λ l. distinct_after same E (l ++ more)) (sym kept))
+
+  -- nor does what repeats
+  without-repeats : (seen E ks more : List C) → CameIn seen E → distinct_after same E (ks ++ more) ≡ distinct_after same E (distinct_after same seen ks ++ more)
+  without-repeats seen E [] more within = refl
+  without-repeats seen E (x ∷ ks) more within =
+      either (among x seen)
+      (λ there.
+      known-item E (ks ++ more) x (within x there) ∙ without-repeats seen E ks more within ∙ ap (λ l. distinct_after same E (l ++ more)) (sym (known-item seen ks x there)))
+      (λ none.
+      ap (λ l. cond (among x E) l (x ∷ l)) (without-repeats (seen ++ x ∷ []) (E ++ x ∷ []) ks more (came-both seen E x within))
+      ∙ ap (λ l. distinct_after same E (l ++ more)) (sym (new-item seen ks x none)))
+
+  repeats-thinned : (came ks : List C) → IsThinned None (distinct_after same came) ks (distinct same ks)
+  repeats-thinned came ks = λ before more.
+      let E = came ++ distinct_after same came before in
+      new-both came before (ks ++ more)
+      ∙ ap (λ l. distinct_after same came before ++ l) (without-repeats [] E ks more (λ k there. absurd cc))
+      ∙ sym (new-both came before (distinct same ks ++ more))
+
+  known-thinned : (came ks : List C) → IsThinned None (distinct_after same came) ks (filter (is_new came) ks)
+  known-thinned came ks = λ before more.
+      let E = came ++ distinct_after same came before in
+      new-both came before (ks ++ more)
+      ∙ ap (λ l. distinct_after same came before ++ l) (without-known came E ks more (came-front came (distinct_after same came before)))
+      ∙ sym (new-both came before (filter (is_new came) ks ++ more))
+
   module _ {T : Type 0} (content : T → C) (eq : T → T → Bool) (alike : (x y : T) → eq x y ≡ same (content x) (content y)) where
     among-contents : (x : T) (xs : List T) → list_any (eq x) xs ≡ among (content x) (map content xs)
     among-contents x [] = refl
     among-contents x (y ∷ ys) = ap₂ (λ b c. b || c) (alike x y) (among-contents x ys)
+
+    both-ways : (a b : Bool) (x : T) (rest : List T) (others : List C) → a ≡ b → map content rest ≡ others
+        → map content (cond (not a) (x ∷ rest) rest) ≡ cond (not b) (content x ∷ others) others
+    both-ways true true x rest others e same_rest = same_rest
+    both-ways false false x rest others e same_rest = ap (λ l. content x ∷ l) same_rest
+    both-ways true false x rest others e same_rest = absurd cc
+    both-ways false true x rest others e same_rest = absurd cc
+
+    new-contents : (came xs : List T) → map content (filter (λ x. not (list_any (eq x) came)) xs) ≡ filter (is_new (map content came)) (map content xs)
+    new-contents came [] = refl
+    new-contents came (x ∷ xs) =
+        both-ways (list_any (eq x) came) (among (content x) (map content came)) x (filter (λ y. not (list_any (eq y) came)) xs) (filter (is_new (map content came)) (map content xs)) (among-contents x came) (new-contents came xs)
+
+    came-thinned : (came xs kept : List T) → kept ≡ filter (λ x. not (list_any (eq x) came)) xs → IsThinned None (distinct_after same (map content came)) (map content xs) (map content kept)
+    came-thinned came xs kept is = λ before more.
+        known-thinned (map content came) (map content xs) before more
+        ∙ ap (λ l. distinct_after same (map content came) (before ++ (l ++ more))) (sym (ap (map content) is ∙ new-contents came xs))
+
+    -- of a list what didn't come, and of that the first ones
+    pub new-thinned : {V E : Type 0} (list : V → List T) (came xs middle : List T) (r : Result V E) → middle ≡ filter (λ x. not (list_any (eq x) came)) xs
+        → IfOk r (λ v. map content (list v) ≡ distinct same (map content middle))
+        → IfOk r (λ v. IsThinned None (distinct_after same (map content came)) (map content xs) (map content (list v)))
+    new-thinned list came xs middle (Err e) is first = tt
+    new-thinned list came xs middle (Ok v) is first = λ before more.
+        came-thinned came xs middle is before more
+        ∙ repeats-thinned (map content came) (map content middle) before more
+        ∙ ap (λ l. distinct_after same (map content came) (before ++ (l ++ more))) (sym first)
 
     -- a set keeps what it had, and behind it what is new
     kept-more : (old xs : List T) → map content (fold (insert_key eq) old xs) ≡ map content old ++ distinct_after same (map content old) (map content xs)

@@ -69,9 +69,10 @@ impl<T: Value, P: Test<T>, S> Demand<T> for AnyBarrier<P, S> {
 /// With a state of another barrier, which none of its own calls makes, the barrier is over: nothing is left of what comes.
 impl<T: OrderedValue + Hash + Clone + Drop, P: Test<T>, S: BuildHasher + Copy> Barrier<T>
     for AnyBarrier<P, S> {
-    ghost use Rattle.std.specs.Prelude.{◌≡◌, ◌++◌, List, IfOk, map};
+    ghost use Rattle.std.specs.Prelude.{◌≡◌, ◌++◌, List, IfOk, OnOk, map};
     ghost use Rattle.spliterator.specs.Clones.{ClonesAlike};
     ghost use Rattle.barriers.specs.Needs.{IsToldBy};
+    ghost use Rattle.barriers.specs.Thinned.{IsThinned};
     ghost use Rattle.barriers.specs.Parts.{KeepsEnough-taken_while};
     ghost use Rattle.barriers.specs.AnyBarriers.{any_ready, any_counted, any_value, any_operation, any_size_after, any_can_carry, any_needed_behind, any_value_behind};
     ghost use Rattle.barriers.specs.AnyBarrierLaws.{KeepsEnough-any, KeepsEnough-any_behind, KeepsSound-any, nothing-any};
@@ -188,6 +189,26 @@ impl<T: OrderedValue + Hash + Clone + Drop, P: Test<T>, S: BuildHasher + Copy> B
                 Barrier::<T>::lets_pass(barrier, is_dropping)
             }
             _ => false,
+        }
+    }
+
+    fn thins(&self, state: &AnyState<T, S>) -> bool {
+        match (self, state) {
+            (AnyBarrier::Distinct(barrier), AnyState::Distinct(came)) => {
+                Barrier::<T>::thins(barrier, came)
+            }
+            _ => false,
+        }
+    }
+
+    fn thin(&self, state: &AnyState<T, S>, items: &mut Vec<T>) -> Result<(), NoMemory>
+        ensures { let needed = any_needed_behind ⟦<TakeWhile<P> as Barrier<T>>⟧.needed_behind self.now state.now in
+            let left = any_value_behind T.content T.same P.holds self.now state.now in
+            OnOk result (IsThinned needed left (map T.content items.old.items) (map T.content items.new.items)) }
+    {
+        match (self, state) {
+            (AnyBarrier::Distinct(barrier), AnyState::Distinct(came)) => barrier.thin(came, items),
+            _ => Ok(()),
         }
     }
 

@@ -1,8 +1,9 @@
 //! Operations that look at a whole list.
-ghost use Rattle.std.specs.Prelude.{◌≡◌, ◌≢◌, ◌++◌, ◌^◌, ℕ, true, false, ⊤, List, [], Option, Some, IfOk, map};
+ghost use Rattle.std.specs.Prelude.{◌≡◌, ◌≢◌, ◌++◌, ◌^◌, ℕ, true, false, ⊤, List, [], Option, Some, IfOk, OnOk, map};
 ghost use Rattle.stages.specs.declared.flags.Operation.{Operation};
 ghost use Rattle.stages.specs.Flags.{KeepsSound};
 ghost use Rattle.barriers.specs.Needs.{need_of, CountsNone, IsBelow, IsToldBy, KeepsEnough};
+ghost use Rattle.barriers.specs.Thinned.{IsThinned};
 
 use crate::{Demand, Need};
 use spliterator::{NoMemory, OrderedValue};
@@ -64,6 +65,19 @@ pub trait Barrier<T: OrderedValue>: Demand<T> {
         ensures { result ≡ true → (more : List T.Content) → value_behind self.now _state.now more ≡ more }
     {
         false
+    }
+
+    /// Whether `thin` may pay. It is no promise.
+    fn thins(&self, _state: &Self::State) -> bool {
+        false
+    }
+
+    /// Of some items those that make the difference that all of them make. Refused: the items are gone.
+    fn thin(&self, _state: &Self::State, _items: &mut Vec<T>) -> Result<(), NoMemory>
+        ensures { let thinned = IsThinned (needed_behind self.now _state.now) (value_behind self.now _state.now) in
+            OnOk result (thinned (map T.content _items.old.items) (map T.content _items.new.items)) }
+    {
+        Ok(())
     }
 
     /// What the barrier leaves of the next items. The state is then behind them. `is_cut` says whether the run that kept the items was cut,

@@ -1,18 +1,19 @@
-ghost use Rattle.std.specs.Prelude.{◌≡◌, ◌++◌, List, None, IfOk, map, refl};
+ghost use Rattle.std.specs.Prelude.{◌≡◌, ◌++◌, List, None, IfOk, OnOk, map, refl};
 ghost use Rattle.stages.specs.declared.flags.Operation.TheVariants.{Distinct as distinct_row};
 ghost use Rattle.spliterator.specs.Clones.{ClonesAlike};
 ghost use Rattle.stages.specs.Distinct.{distinct, distinct_after};
 ghost use Rattle.barriers.specs.Needs.{no_item};
 ghost use Rattle.barriers.specs.NeedLaws.{KeepsEnough-never};
+ghost use Rattle.barriers.specs.Thinned.{IsThinned};
 ghost use Rattle.barriers.specs.BarrierFlags.{KeepsSound-distinct};
 
-use crate::distinct_with::{carry_distinct, first_ones};
+use crate::distinct_with::{carry_distinct, first_ones, thin_distinct};
 use crate::{Barrier, Demand, Need};
 use indexmap::IndexSet;
 use spliterator::{NoMemory, OrderedValue, Value};
 use stages::Operation;
 use std::alloc::Global;
-use std::hash::Hash;
+use std::hash::{BuildHasherDefault, Hash};
 
 /// Of equal items the first, in the order of the items (`java.util.stream.Stream`, `distinct`). `apply` moves the items; none is cloned.
 #[derive(Clone, Copy, Debug)]
@@ -78,6 +79,17 @@ impl<T: OrderedValue + Hash + Clone + Drop> Barrier<T> for Distinct {
 
     fn need_behind(&self, _state: &IndexSet<T>) -> Need {
         Need::Never
+    }
+
+    fn thins(&self, state: &IndexSet<T>) -> bool {
+        !state.is_empty()
+    }
+
+    fn thin(&self, state: &IndexSet<T>, items: &mut Vec<T>) -> Result<(), NoMemory>
+        ensures { let thinned = IsThinned None (distinct_after T.same (map T.content state.now.keys)) in
+            OnOk result (thinned (map T.content items.old.items) (map T.content items.new.items)) }
+    {
+        thin_distinct(state, BuildHasherDefault::new(), items)
     }
 
     fn carry(

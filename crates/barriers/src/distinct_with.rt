@@ -1,10 +1,12 @@
 //! Distinct items, hashed as the caller asks.
-ghost use Rattle.std.specs.Prelude.{◌≡◌, ◌++◌, List, [], None, IfOk, map, refl};
+ghost use Rattle.std.specs.Prelude.{◌≡◌, ◌++◌, List, [], None, IfOk, OnOk, filter, map, not, refl};
+ghost use Rattle.std.specs.List.{list_any};
 ghost use Rattle.stages.specs.declared.flags.Operation.TheVariants.{Distinct as distinct_row};
 ghost use Rattle.spliterator.specs.Clones.{ClonesAlike};
 ghost use Rattle.stages.specs.Distinct.{distinct, distinct_after};
 ghost use Rattle.barriers.specs.Needs.{no_item};
 ghost use Rattle.barriers.specs.NeedLaws.{KeepsEnough-never};
+ghost use Rattle.barriers.specs.Thinned.{IsThinned};
 ghost use Rattle.barriers.specs.BarrierFlags.{KeepsSound-distinct};
 
 use crate::{Barrier, Demand, Need};
@@ -13,6 +15,7 @@ use spliterator::{NoMemory, OrderedValue, Value};
 use stages::Operation;
 use std::alloc::Global;
 use std::hash::{BuildHasher, Hash};
+use std::mem;
 
 // Of equal items the first, in the order of the items. The items go into a set that is empty; none is cloned.
 pub(crate) fn first_ones<T: Value + Hash + Drop, S: BuildHasher + Drop>(
@@ -25,6 +28,54 @@ pub(crate) fn first_ones<T: Value + Hash + Drop, S: BuildHasher + Drop>(
     let alloc = *items.allocator();
     empty.extend(items)?;
     Ok(empty.into_iter().collect(alloc)?)
+}
+
+// So many of a leaf's items tell whether its others repeat.
+const SAMPLE: usize = 1 << 10;
+
+// Drops the items that came.
+fn drop_known<T: Value + Hash + Drop, S: BuildHasher>(came: &IndexSet<T, S>, items: &mut Vec<T>)
+    ensures { let came = λ (x : T). list_any (T.PartialEq.eq x) came.now.keys in
+        items.new.items ≡ filter (λ x. not (came x)) items.old.items }
+{
+    items.retain(|x| !came.contains(x));
+}
+
+// Where it pays, drops the items that came, and of equal ones all but the first. The set is empty.
+fn keep_new<T: Value + Hash + Drop, S: BuildHasher + Drop>(
+    came: &IndexSet<T, S>,
+    empty: IndexSet<T, S>,
+    mut items: Vec<T>,
+    pays: bool,
+) -> Result<Vec<T>, NoMemory>
+    requires { empty.keys ≡ [] }
+    ensures { let thinned = IsThinned None (distinct_after T.same (map T.content came.now.keys)) in
+        IfOk result (λ kept. thinned (map T.content items.items) (map T.content kept.items)) }
+{
+    if !pays {
+        return Ok(items);
+    }
+    drop_known(came, &mut items);
+    first_ones(empty, items)
+}
+
+// Drops items that came, and of equal ones all but the first. Where most of a sample are new, the others stay as they are: a set of them would not pay.
+pub(crate) fn thin_distinct<T: Value + Hash + Drop, S: BuildHasher + Copy + Drop>(
+    came: &IndexSet<T, S>,
+    hashes: S,
+    items: &mut Vec<T>,
+) -> Result<(), NoMemory>
+    ensures { let thinned = IsThinned None (distinct_after T.same (map T.content came.now.keys)) in
+        OnOk result (thinned (map T.content items.old.items) (map T.content items.new.items)) }
+{
+    let alloc = *items.allocator();
+    let others = items.split_off(SAMPLE.min(items.len()))?;
+    let sample = mem::replace(items, Vec::new(alloc));
+    *items = keep_new(came, IndexSet::with_hasher(alloc, hashes), sample, true)?;
+    let pays = items.len() <= SAMPLE / 2;
+    let mut rest = keep_new(came, IndexSet::with_hasher(alloc, hashes), others, pays)?;
+    items.append(&mut rest)?;
+    Ok(())
 }
 
 // The items go into the set of those that came, and what is new there is cloned: an item that repeats is not.
@@ -117,6 +168,17 @@ impl<T: OrderedValue + Hash + Clone + Drop, S: BuildHasher + Copy> Barrier<T> fo
 
     fn need_behind(&self, _state: &IndexSet<T, S>) -> Need {
         Need::Never
+    }
+
+    fn thins(&self, state: &IndexSet<T, S>) -> bool {
+        !state.is_empty()
+    }
+
+    fn thin(&self, state: &IndexSet<T, S>, items: &mut Vec<T>) -> Result<(), NoMemory>
+        ensures { let thinned = IsThinned None (distinct_after T.same (map T.content state.now.keys)) in
+            OnOk result (thinned (map T.content items.old.items) (map T.content items.new.items)) }
+    {
+        thin_distinct(state, self.hashes, items)
     }
 
     fn carry(

@@ -25,6 +25,16 @@ impl<T> Model for Pieces<T> {
 }
 
 impl<T: Drop> Pieces<T> {
+    /// A list in one piece.
+    pub fn of(list: Vec<T>) -> Pieces<T>
+        ensures { result ≡ list.items }
+    {
+        Pieces {
+            before: Vec::new(*list.allocator()),
+            last: list,
+        }
+    }
+
     /// No items.
     pub(crate) fn new(alloc: Global) -> Pieces<T>
         ensures { result ≡ [] }
@@ -76,7 +86,7 @@ impl<T: Drop> Pieces<T> {
     }
 
     /// Puts another list behind. Its long pieces are taken as they stand.
-    pub(crate) fn join(&mut self, later: Pieces<T>) -> Result<(), AllocError>
+    pub fn join(&mut self, later: Pieces<T>) -> Result<(), AllocError>
         ensures { OnOk result (self.new ≡ self.old ++ later) }
     {
         let Pieces {

@@ -3,6 +3,7 @@ use Rattle.std.specs.Prelude.{◌≡◌, ℕ, Bool, true, false, List, [], ◌++
 use Rattle.std.proofs.Common.{sym, ap, ◌∙◌, subst, ⊎_elim, append-nil, append_assoc}
 use Rattle.std.specs.Option.{is_some}
 use Rattle.barriers.specs.Needs.{KeepsEnough, IsOutcome, IsToldBy}
+use Rattle.barriers.specs.Thinned.{IsThinned, thinned-told}
 use Rattle.collectors.specs.NestedLaws.{push, listed}
 use Rattle.leaf_board.specs.Closing.{Outcome, count_of, cut_of}
 use Rattle.leaf_reading.specs.Fronts.{folding}
@@ -16,15 +17,15 @@ use Rattle.parallel_streams.specs.declared.part.Part.{Part}
 use Rattle.parallel_streams.specs.declared.part.Part.TheVariants.{Own}
 use Rattle.parallel_streams.proofs.Hits.{front-told}
 
-module _ {P T C : Type 0} (before : Work P) (is_value : C → Type 0) (needed : Option ℕ) (counted : C → Bool) (content : T → C) (lists : List (List C)) where
+module _ {P T C : Type 0} (before : Work P) (is_value : C → Type 0) (needed : Option ℕ) (counted : C → Bool) (content : T → C) (value : List C → List C) (lists : List (List C)) where
   abbrev own : Work (List T)
-  own = own_work needed counted is_value content lists
+  own = own_work needed counted is_value content value lists
 
-  -- what the run kept
+  -- what the run kept: so much of a front that it makes the same difference
   pub kept-own : (done : Bool) (part : Part P T) (items : List T) (entry : Outcome) → part ≡ Own items
       → StandsForRun (barred_work done before own) part
       → Reports (barred_work done before own).needed (barred_work done before own).leaves (barred_work done before own).full entry.leaves (count_of entry) (cut_of entry)
-      → (done ≡ true) × IsOutcome needed counted (joined lists) (map content items) × IsToldBy needed counted (map content items) (is_some (cut_of entry))
+      → (done ≡ true) × (front : List C) × IsOutcome needed counted (joined lists) front × IsThinned needed value front (map content items) × IsToldBy needed counted (map content items) (is_some (cut_of entry))
       × Reports needed (length lists) (full_count counted lists) entry.leaves (count_of entry) (cut_of entry)
   kept-own false part items entry is stands reports =
       let Q : Part P T → Type 0 = λ p. StandsForRun (barred_work false before own) p in
@@ -35,12 +36,16 @@ module _ {P T C : Type 0} (before : Work P) (is_value : C → Type 0) (needed : 
       no-true e = cc
   kept-own true part items entry is stands reports =
       let Q : Part P T → Type 0 = λ p. StandsForRun (barred_work true before own) p in
-      let mine = (stands-own before own true items (subst Q is stands)).1 in
-      let run = run-last (folding needed counted is_value [] push) (map content) lists items mine in
-      let same : run.0 ≡ map content items = sym (run.2.1 ∙ listed run.0) in
-      let Outcome' : List C → Type 0 = λ l. IsOutcome needed counted (joined lists) l in
-      let Told : List C → Type 0 = λ l. IsToldBy needed counted l (is_some (cut_of entry)) in
-      (refl, subst Outcome' same run.1, subst Told same (front-told needed counted lists entry.leaves (count_of entry) (cut_of entry) run.0 reports run.1 run.3), reports)
+      told (stands-own before own true items (subst Q is stands)).1
+    where
+      told : StandsForRun own items → _
+      told (to, count, within, (front, keeps, thinned), last) =
+          let run = run-last (folding needed counted is_value [] push) (λ l. l) lists front (to, count, within, keeps, last) in
+          let same : run.0 ≡ front = sym (run.2.1 ∙ listed run.0) in
+          let Outcome' : List C → Type 0 = λ l. IsOutcome needed counted (joined lists) l in
+          let Told : List C → Type 0 = λ l. IsToldBy needed counted l (is_some (cut_of entry)) in
+          let of_front = subst Told same (front-told needed counted lists entry.leaves (count_of entry) (cut_of entry) run.0 reports run.1 run.3) in
+          (refl, front, subst Outcome' same run.1, thinned, thinned-told value needed counted front (map content items) (is_some (cut_of entry)) thinned of_front, reports)
 
 module _ {C : Type 0} (needed : Option ℕ) (counted : C → Bool) (value_before value_after : List C → List C) (law : KeepsEnough needed counted value_before)
     (whole front kept : List C) (outcome : IsOutcome needed counted whole front) (carried : (more : List C) → value_before (front ++ more) ≡ kept ++ value_after more) where

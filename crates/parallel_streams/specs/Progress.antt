@@ -2,7 +2,8 @@
 use Rattle.std.specs.Prelude.{◌≡◌, ◌+◌, ℕ, Bool, true, false, List, [], ◌++◌, ◌&&◌, Option, Some, None, Result, Ok, Err, map, length}
 use Rattle.collectors.specs.NestedLaws.{push}
 use Rattle.stealing_pool.specs.Jobs.{Work}
-use Rattle.stealing_pool.specs.Spans.{work_of}
+use Rattle.stealing_pool.specs.Spans.{full_count, work_of}
+use Rattle.barriers.specs.Thinned.{IsThinned}
 use Rattle.leaf_board.specs.Closing.{Outcome}
 use Rattle.leaf_reading.specs.Fronts.{folding}
 use Rattle.leaf_reading.specs.declared.leaf_end.LeafEnd.{LeafEnd}
@@ -82,9 +83,18 @@ abbrev pub KeepsOwn : {P T : Type 0} → (List T → Type 0) → Part P T → Ty
 KeepsOwn keeps (Before p) = ⊥
 KeepsOwn keeps (Own items) = keeps items
 
--- what there is to do in a barrier's own run: to list the items of these leaves, as far as the barrier needs them
-abbrev pub own_work : {T C : Type 0} → Option ℕ → (C → Bool) → (C → Type 0) → (T → C) → List (List C) → Work (List T)
-own_work needed counted is_value content lists = work_of (folding needed counted is_value [] push) (map content) lists
+-- the fronts that a barrier needs of the items of these leaves
+abbrev pub fronts_of : {C : Type 0} → Option ℕ → (C → Bool) → (C → Type 0) → List (List C) → Work (List C)
+fronts_of needed counted is_value lists = work_of (folding needed counted is_value [] push) (λ front. front) lists
+
+-- What there is to do in a barrier's own run: to list the items of these leaves, as far as the barrier needs them. What makes no difference to the barrier may be left out.
+abbrev pub own_work : {T C : Type 0} → Option ℕ → (C → Bool) → (C → Type 0) → (T → C) → (List C → List C) → List (List C) → Work (List T)
+own_work needed counted is_value content value lists = record {
+  leaves = length lists;
+  full = full_count counted lists;
+  needed = needed;
+  Keeps = λ from to count kept. (front : List _) × (fronts_of needed counted is_value lists).Keeps from to count front × IsThinned needed value front (map content kept);
+}
 
 -- while a barrier before has not run, the next run is that barrier's; then it is this barrier's own
 abbrev pub barred_work : {P T : Type 0} → Bool → Work P → Work (List T) → Work (Part P T)
@@ -99,3 +109,15 @@ end_with f Cut = Cut
 abbrev pub ended_with : {A B E : Type 0} → (A → B) → Result (LeafEnd A) E → Result (LeafEnd B) E
 ended_with f (Ok end) = Ok (end_with f end)
 ended_with f (Err refused) = Err refused
+
+-- how a leaf of a barrier's own run ended, with so much of its list left that it makes the same difference
+abbrev pub EndsThinned : {P T : Type 0} → (List T → List T → Type 0) → LeafEnd (Part P T) → LeafEnd (List T) → Type 0
+EndsThinned thinned (Done left) (Done p) = (left.count ≡ p.count) × KeepsOwn (thinned p.kept) left.kept
+EndsThinned thinned (Done left) Cut = ⊥
+EndsThinned thinned Cut (Done p) = ⊥
+EndsThinned thinned Cut Cut = Unit {0}
+
+abbrev pub EndedThinned : {P T E : Type 0} → (List T → List T → Type 0) → Result (LeafEnd (Part P T)) E → Result (LeafEnd (List T)) E → Type 0
+EndedThinned thinned (Err refused) end = Unit {0}
+EndedThinned thinned (Ok ended) (Ok end) = EndsThinned thinned ended end
+EndedThinned thinned (Ok ended) (Err refused) = ⊥

@@ -1,20 +1,24 @@
 -- What holds of the progress of a stream with barriers.
 use Rattle.std.specs.Prelude.{◌≡◌, ◌<◌, ◌+◌, ◌++◌, ◌&&◌, ℕ, Bool, true, false, List, [], Option, Some, None, Result, Ok, Err, OnOk, IfOk, map, length, slice_get, slice_index_or, refl}
-use Rattle.std.proofs.Common.{sym, ap, ◌∙◌, subst, arith, true≢false}
-use Rattle.std.proofs.lemmas.List.{length-map}
+use Rattle.std.proofs.Common.{sym, ap, ap₂, ◌∙◌, subst, arith, true≢false}
+use Rattle.std.proofs.lemmas.List.{length-map, map-append}
+use Rattle.std.proofs.lemmas.List.Elements.{All-append}
+use Rattle.barriers.specs.Thinned.{IsThinned, thinned-both}
+use Rattle.collectors.specs.NestedLaws.{listed, push}
+use Rattle.leaf_board.specs.Case.{IsLawful}
 use Rattle.stealing_pool.specs.Jobs.{Work, Combines, StandsForRun, EndsLeaf}
 use Rattle.leaf_reading.specs.declared.leaf_end.LeafEnd.{LeafEnd}
 use Rattle.leaf_reading.specs.declared.leaf_end.LeafEnd.TheVariants.{Done, Cut}
 use Rattle.leaf_board.specs.Closing.{Outcome}
-use Rattle.leaf_reading.specs.Fronts.{Folding, Folds}
-use Rattle.stealing_pool.specs.Spans.{joined, work_of}
+use Rattle.leaf_reading.specs.Fronts.{Folding, Folds, IsWithin, folding}
+use Rattle.stealing_pool.specs.Spans.{full_count, joined, work_of}
 use Rattle.stealing_pool.specs.SpanLaws.{spans-combine}
 use Rattle.parallel_streams.specs.LeafLaws.{map-both, get-mapped}
 use Rattle.parallel_streams.specs.Cuts.{cut_at, cut_at-map, joined-cut_at, length-cut_at}
 use Rattle.parallel_streams.specs.Ends.{ends_of}
 use Rattle.parallel_streams.specs.Leaves.{IsCutList}
 use Rattle.parallel_streams.specs.LeafCutLaws.{IsCutList-ends}
-use Rattle.parallel_streams.specs.Progress.{HoldsListed, IsCut, IsPlannedList, ToldSoFar, is_listed, is_ready, left_of, next_leaves, parts_of, barred_work, end_with, ended_with}
+use Rattle.parallel_streams.specs.Progress.{HoldsListed, IsCut, IsPlannedList, ToldSoFar, is_listed, is_ready, left_of, next_leaves, parts_of, barred_work, own_work, fronts_of, KeepsOwn, EndsThinned, EndedThinned, end_with, ended_with}
 use Rattle.parallel_streams.specs.declared.part.Listed.{Listed}
 use Rattle.parallel_streams.specs.declared.part.Part.{Part}
 use Rattle.parallel_streams.specs.declared.part.Part.TheVariants.{Before, Own}
@@ -121,25 +125,55 @@ module _ {P T : Type 0} (before : Work P) (own : Work (List T)) where
   ends-own false cut i end is h = absurd (true≢false (sym is))
 
 module _ {P T : Type 0} (before : Work P) where
-  pub combines-own_ok : {C U E : Type 0} (f : Folding C (List C)) (content : List T → List C) (lists : List (List C)) (done : Bool) (r : Result U E) (kept following : Part P T) (left right both : List T)
-      → kept ≡ Own left → following ≡ Own right
-      → ((l m : List C) → Folds f l (content left) → Folds f m (content right) → OnOk r (Folds f (l ++ m) (content both)))
-      → OnOk r (Combines (barred_work done before (work_of f content lists)) kept following (Own both))
-  combines-own_ok f content lists done (Err e) kept following left right both is_left is_right law = tt
-  combines-own_ok f content lists done (Ok u) kept following left right both is_left is_right law =
-      let own = work_of f content lists in
-      let Q : Part P T → Type 0 = λ k. Combines (barred_work done before own) k following (Own both) in
-      let R : Part P T → Type 0 = λ m. Combines (barred_work done before own) (Own left) m (Own both) in
-      subst Q (sym is_left) (subst R (sym is_right) (combines-own before own done left right both (spans-combine f content lists left right both law)))
+  module _ {C : Type 0} (needed : Option ℕ) (counted : C → Bool) (is_value : C → Type 0) (content : T → C) (value : List C → List C) (lists : List (List C)) where
+    abbrev own : Work (List T)
+    own = own_work needed counted is_value content value lists
 
-  pub ends-own_ok : {E : Type 0} (own : Work (List T)) (done : Bool) (cut i : ℕ) (end : Result (LeafEnd (List T)) E) (ended : Result (LeafEnd (Part P T)) E) → ended ≡ ended_with Own end → done ≡ true
-      → IfOk end (EndsLeaf own cut i) → IfOk ended (EndsLeaf (barred_work done before own) cut i)
-  ends-own_ok {E} own done cut i (Ok end) ended is held h =
-      let Q : Result (LeafEnd (Part P T)) E → Type 0 = λ r. IfOk r (EndsLeaf (barred_work done before own) cut i) in
-      subst Q (sym is) (ends-own before own done cut i end held h)
-  ends-own_ok {E} own done cut i (Err refused) ended is held h =
-      let Q : Result (LeafEnd (Part P T)) E → Type 0 = λ r. IfOk r (EndsLeaf (barred_work done before own) cut i) in
-      subst Q (sym is) tt
+    abbrev listing : Folding C (List C)
+    listing = folding needed counted is_value [] push
+
+    folds-both : (a b l m : List C) → Folds listing a l → Folds listing b m → Folds listing (a ++ b) (l ++ m)
+    folds-both a b l m first second = (All-append is_value a b first.0 second.0, ap₂ (λ x y. x ++ y) (first.1 ∙ listed a) (second.1 ∙ listed b) ∙ sym (listed (a ++ b)))
+
+    combines-thinned : (left right both : List T) → both ≡ left ++ right → Combines own left right both
+    combines-thinned left right both joins from middle to count more p q (l, of_left, first) few (m, of_right, second) =
+        let Left : List C → Type 0 = λ k. IsThinned needed value (l ++ m) k in (
+          l ++ m,
+          spans-combine listing (λ front. front) lists l m (l ++ m) (λ a b. folds-both a b l m) from middle to count more p q of_left few of_right,
+          subst Left (sym (ap (map content) joins ∙ map-append content left right)) (thinned-both value needed l m (map content left) (map content right) first second),
+        )
+
+    pub combines-own_ok : {U E : Type 0} (done : Bool) (r : Result U E) (kept following : Part P T) (left right both : List T)
+        → kept ≡ Own left → following ≡ Own right → OnOk r (both ≡ left ++ right) → OnOk r (Combines (barred_work done before own) kept following (Own both))
+    combines-own_ok done (Err e) kept following left right both is_left is_right joins = tt
+    combines-own_ok done (Ok u) kept following left right both is_left is_right joins =
+        let Q : Part P T → Type 0 = λ k. Combines (barred_work done before own) k following (Own both) in
+        let R : Part P T → Type 0 = λ m. Combines (barred_work done before own) (Own left) m (Own both) in
+        subst Q (sym is_left) (subst R (sym is_right) (combines-own before own done left right both (combines-thinned left right both joins)))
+
+    abbrev Thinned : List T → List T → Type 0
+    Thinned whole kept = IsThinned needed value (map content whole) (map content kept)
+
+    keeps-thinned : (i n : ℕ) (whole : List T) (part : Part P T) → (fronts_of needed counted is_value lists).Keeps i (i + 1) n (map content whole) → KeepsOwn (Thinned whole) part → KeepsOwn (own.Keeps i (i + 1) n) part
+    keeps-thinned i n whole (Before k) keeps thinned = absurd thinned
+    keeps-thinned i n whole (Own k) keeps thinned = (map content whole, keeps, thinned)
+
+    -- what is left of a leaf's list stands for the leaf
+    ends-thinned : (cut i : ℕ) (end : LeafEnd (List T)) (ended : LeafEnd (Part P T)) (done : Bool) → done ≡ true → EndsThinned Thinned ended end
+        → EndsLeaf (work_of listing (map content) lists) cut i end → EndsLeaf (barred_work done before own) cut i ended
+    ends-thinned cut i end ended false is thinned h = absurd (true≢false (sym is))
+    ends-thinned cut i Cut Cut true is thinned h = h
+    ends-thinned cut i Cut (Done left) true is thinned h = absurd thinned
+    ends-thinned cut i (Done p) Cut true is thinned h = absurd thinned
+    ends-thinned cut i (Done p) (Done left) true is thinned h =
+        let Q : ℕ → Type 0 = λ n. KeepsOwn (own.Keeps i (i + 1) n) left.kept × IsLawful needed (full_count counted lists i) n × IsWithin needed n in
+        subst Q (sym thinned.0) (keeps-thinned i p.count p.kept left.kept h.0 thinned.1, h.1, h.2)
+
+    pub ends-own_ok : {E : Type 0} (done : Bool) (cut i : ℕ) (end : Result (LeafEnd (List T)) E) (ended : Result (LeafEnd (Part P T)) E) → EndedThinned Thinned ended end → done ≡ true
+        → IfOk end (EndsLeaf (work_of listing (map content) lists) cut i) → IfOk ended (EndsLeaf (barred_work done before own) cut i)
+    ends-own_ok done cut i end (Err refused) thinned is h = tt
+    ends-own_ok done cut i (Ok end) (Ok ended) thinned is h = ends-thinned cut i end ended done is thinned h
+    ends-own_ok done cut i (Err refused) (Ok ended) thinned is h = absurd thinned
 
   pub ends-before_ok : {E : Type 0} (own : Work (List T)) (done : Bool) (cut i : ℕ) (end : Result (LeafEnd P) E) (ended : Result (LeafEnd (Part P T)) E) → ended ≡ ended_with Before end → done ≡ false
       → IfOk end (EndsLeaf before cut i) → IfOk ended (EndsLeaf (barred_work done before own) cut i)

@@ -8,7 +8,7 @@ use crate::Stream;
 use crate::part::{BarredProgress, Listed, Part, end_before, end_own};
 use crate::places::Places;
 use barriers::{Barrier, Behind, Demand, Need};
-use collectors::{Collector, ToList, combine_containers};
+use collectors::{Collector, ToList};
 use leaf_board::Handout;
 use leaf_reading::{LeafEnd, Reading, feed_whole, read_leaf};
 use sources::SliceSplit;
@@ -75,7 +75,7 @@ impl<U: Stream, B: Barrier<U::Item>> Stream for Barred<U, B> {
 
     ghost leaves_next = { λ s p. next_leaves (U.leaves_next s.upstream p.before) p.listed };
 
-    ghost work = { λ s p. let own = own_work (B.needed_behind s.barrier p.state) (B.Demand.counted s.barrier) U.Item.is_value U.Item.content in
+    ghost work = { λ s p. let own = own_work (B.needed_behind s.barrier p.state) (B.Demand.counted s.barrier) U.Item.is_value U.Item.content (B.value_behind s.barrier p.state) in
         barred_work (U.done s.upstream p.before) (U.work s.upstream p.before) (own (U.parts s.upstream p.before)) };
 
     ghost parts = { λ s p. parts_of U.Item.content (U.parts s.upstream p.before) p.listed };
@@ -98,7 +98,7 @@ impl<U: Stream, B: Barrier<U::Item>> Stream for Barred<U, B> {
     ghost flag_law = { λ s. B.flag_law s.barrier (U.told s.upstream) (U.size s.upstream) (U.value s.upstream) (U.flag_law s.upstream) };
 
     ghost work_law = { λ s p unrun.
-        let own = own_work (B.needed_behind s.barrier p.state) (B.Demand.counted s.barrier) U.Item.is_value U.Item.content in
+        let own = own_work (B.needed_behind s.barrier p.state) (B.Demand.counted s.barrier) U.Item.is_value U.Item.content (B.value_behind s.barrier p.state) in
         let leaves = barred-leaves p.passes (U.done s.upstream p.before) (U.work s.upstream p.before) (own (U.parts s.upstream p.before)) in
         leaves (U.leaves_next s.upstream p.before) p.listed unrun (U.work_law s.upstream p.before) (U.parts_count s.upstream p.before) };
 
@@ -249,10 +249,10 @@ impl<U: Stream, B: Barrier<U::Item>> Stream for Barred<U, B> {
                 demand: &demand,
                 collector: &ToList::with_room(alloc, self.room(&progress.before, leaf)),
             };
-            end_own(
-                self.upstream
-                    .run_last_leaf(alloc, &progress.before, &reading, board, seat, leaf),
-            )
+            let end = self
+                .upstream
+                .run_last_leaf(alloc, &progress.before, &reading, board, seat, leaf);
+            end_own(&self.barrier, &progress.state, end)
         } else {
             end_before(
                 self.upstream
@@ -279,7 +279,7 @@ impl<U: Stream, B: Barrier<U::Item>> Stream for Barred<U, B> {
             },
             Part::Own(kept) => match following {
                 Part::Before(_following) => Ok(()),
-                Part::Own(following) => combine_containers(&ToList::new(alloc), kept, following),
+                Part::Own(following) => Ok(kept.join(following)?),
             },
         }
     }

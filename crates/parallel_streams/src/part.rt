@@ -1,12 +1,14 @@
 //! What the runs of barriers keep, and what they leave.
-ghost use Rattle.std.specs.Prelude.{◌≡◌};
-ghost use Rattle.parallel_streams.specs.Progress.{ended_with};
-ghost use Rattle.parallel_streams.specs.declared.part.Part.TheVariants.{Before as before_part, Own as own_part};
+ghost use Rattle.std.specs.Prelude.{◌≡◌, IfOk, map};
+ghost use Rattle.barriers.specs.Thinned.{IsThinned};
+ghost use Rattle.parallel_streams.specs.Progress.{EndedThinned, ended_with};
+ghost use Rattle.parallel_streams.specs.declared.part.Part.TheVariants.{Before as before_part};
 
 use crate::places::Places;
+use barriers::Barrier;
 use collectors::Pieces;
 use leaf_reading::{LeafEnd, Portion};
-use spliterator::NoMemory;
+use spliterator::{NoMemory, OrderedValue};
 
 /// The value of a barrier: its items, and how they are cut into the leaves of the next run.
 #[derive(Drop)]
@@ -50,18 +52,40 @@ pub fn end_before<P: Drop, T: Drop>(
     }
 }
 
-/// How a leaf of the last barrier's run ended.
-pub fn end_own<P: Drop, T: Drop>(
+// A list without what makes no difference to the barrier.
+fn thin_pieces<T: OrderedValue + Drop, B: Barrier<T>>(
+    barrier: &B,
+    state: &B::State,
+    pieces: Pieces<T>,
+) -> Result<Pieces<T>, NoMemory>
+    ensures { let thinned = IsThinned (B.needed_behind barrier.now state.now) (B.value_behind barrier.now state.now) in
+        IfOk result (λ kept. thinned (map T.content pieces) (map T.content kept)) }
+{
+    if !barrier.thins(state) {
+        return Ok(pieces);
+    }
+    let mut list = pieces.into_list()?;
+    barrier.thin(state, &mut list)?;
+    Ok(Pieces::of(list))
+}
+
+/// How a leaf of the last barrier's run ended. What makes no difference to the barrier is left out.
+pub fn end_own<P: Drop, T: OrderedValue + Drop, B: Barrier<T>>(
+    barrier: &B,
+    state: &B::State,
     end: Result<LeafEnd<Pieces<T>>, NoMemory>,
 ) -> Result<LeafEnd<Part<P, T>>, NoMemory>
-    ensures { result ≡ ended_with own_part end }
+    ensures { let thinned = IsThinned (B.needed_behind barrier.now state.now) (B.value_behind barrier.now state.now) in
+        EndedThinned (λ whole kept. thinned (map T.content whole) (map T.content kept)) result end }
 {
-    match end {
-        Ok(LeafEnd::Done(Portion { count, kept })) => Ok(LeafEnd::Done(Portion {
-            count,
-            kept: Part::Own(kept),
-        })),
-        Ok(LeafEnd::Cut) => Ok(LeafEnd::Cut),
-        Err(refused) => Err(refused),
+    match end? {
+        LeafEnd::Done(Portion { count, kept }) => {
+            let kept = thin_pieces(barrier, state, kept)?;
+            Ok(LeafEnd::Done(Portion {
+                count,
+                kept: Part::Own(kept),
+            }))
+        }
+        LeafEnd::Cut => Ok(LeafEnd::Cut),
     }
 }

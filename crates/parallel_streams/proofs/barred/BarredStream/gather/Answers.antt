@@ -4,6 +4,7 @@ use Rattle.leaf_board.specs.Closing.{count_of, cut_of}
 use Rattle.stealing_pool.specs.Reports.{Reports}
 use Rattle.stealing_pool.specs.Spans.{full_count, joined}
 use Rattle.barriers.specs.Needs.{IsToldBy}
+use Rattle.barriers.specs.Thinned.{thinned-behind}
 use Rattle.parallel_streams.specs.Ends.{ends_of}
 use Rattle.parallel_streams.specs.Leaves.{AreLeafEnds}
 use Rattle.parallel_streams.specs.ProgressLaws.{told-before, left-unlisted, fresh-unlisted, unready-unlisted}
@@ -20,10 +21,10 @@ carry-requires-clause-told g c =
     let content = g.U.Item.Value.content in
     let needed = g.B.Barrier.needed_behind s.barrier c.args.progress.state in
     let counted = g.B.Demand.counted s.barrier in
-    let kept = kept-own (U.work s.upstream p) g.U.Item.Value.is_value needed counted content (U.parts s.upstream p) (U.done s.upstream p) c.args.part c.in-Own.pieces c.args.entry.now c.in-Own.is c.requires.part c.requires.entry in
+    let kept = kept-own (U.work s.upstream p) g.U.Item.Value.is_value needed counted content (g.B.Barrier.value_behind s.barrier c.args.progress.state) (U.parts s.upstream p) (U.done s.upstream p) c.args.part c.in-Own.pieces c.args.entry.now c.in-Own.is c.requires.part c.requires.entry in
     let P : List _ → Type 0 = λ l. IsToldBy needed counted (map content l) (is_some (cut_of c.args.entry.now)) in
     let Q : Bool → Type 0 = λ is_cut. IsToldBy needed counted (map content c.in_ok-list-in-Own.list.items) is_cut in
-    subst Q (sym (c.is_some-is_cut.ensures ∙ ap is_some c.cut.ensures)) (subst P (sym c.in_ok-list-in-Own.ensures) kept.2)
+    subst Q (sym (c.is_some-is_cut.ensures ∙ ap is_some c.cut.ensures)) (subst P (sym c.in_ok-list-in-Own.ensures) kept.4)
 
 pub returns-clause-left : goal.returns-clause-left
 returns-clause-left g c = λ waits.
@@ -38,11 +39,11 @@ returns-clause-left g c = λ waits.
     let counted = g.B.Demand.counted s.barrier in
     let lists = U.parts s.upstream p in
     let behind = U.behind s.upstream p in
-    let kept = kept-own (U.work s.upstream p) g.U.Item.Value.is_value needed counted content lists (U.done s.upstream p) c.args.part c.in-Own.pieces c.args.entry.now c.in-Own.is c.requires.part c.requires.entry in
-    let front = map content c.in-Own.pieces in
+    let kept = kept-own (U.work s.upstream p) g.U.Item.Value.is_value needed counted content old lists (U.done s.upstream p) c.args.part c.in-Own.pieces c.args.entry.now c.in-Own.is c.requires.part c.requires.entry in
     let items = map content c.in_ok-items-in-Own.items.items in
-    let carried : (more : List _) → old (front ++ more) ≡ items ++ now more = λ more. ap (λ l. old (map content l ++ more)) (sym c.in_ok-list-in-Own.ensures) ∙ c.in_ok-items-in-Own.ensures more in
-    let on = goes-on needed counted old now (g.met.B.Barrier.enough_behind s.barrier c.args.progress.state) (joined lists) front items kept.1 carried behind in
+    let carried : (more : List _) → old (kept.1 ++ more) ≡ items ++ now more =
+    λ more. thinned-behind old needed kept.1 (map content c.in-Own.pieces) more kept.3 ∙ ap (λ l. old (map content l ++ more)) (sym c.in_ok-list-in-Own.ensures) ∙ c.in_ok-items-in-Own.ensures more in
+    let on = goes-on needed counted old now (g.met.B.Barrier.enough_behind s.barrier c.args.progress.state) (joined lists) kept.1 items kept.2 carried behind in
     let split = g.met.U.Stream.parts_law s.upstream p c.requires.holds.0 kept.0 in
     sym on ∙ ap old (sym split) ∙ sym (left-unlisted content old (U.left s.upstream p) behind c.args.progress.listed (unready-unlisted c.args.progress.passes (U.done s.upstream p) c.args.progress.listed waits))
 
@@ -61,13 +62,13 @@ returns-clause-planned g c = λ waits planned.
     let needed = B.needed_behind s.barrier c.args.progress.state in
     let counted = g.B.Demand.counted s.barrier in
     let lists = U.parts s.upstream p in
-    let kept = kept-own (U.work s.upstream p) g.U.Item.Value.is_value needed counted content lists (U.done s.upstream p) c.args.part c.in-Own.pieces c.args.entry.now c.in-Own.is c.requires.part c.requires.entry in
-    let front = map content c.in-Own.pieces in
+    let kept = kept-own (U.work s.upstream p) g.U.Item.Value.is_value needed counted content old lists (U.done s.upstream p) c.args.part c.in-Own.pieces c.args.entry.now c.in-Own.is c.requires.part c.requires.entry in
     let items = map content c.in_ok-items-in-Own.items.items in
-    let carried : (more : List _) → old (front ++ more) ≡ items ++ now more = λ more. ap (λ l. old (map content l ++ more)) (sym c.in_ok-list-in-Own.ensures) ∙ c.in_ok-items-in-Own.ensures more in
+    let carried : (more : List _) → old (kept.1 ++ more) ≡ items ++ now more =
+    λ more. thinned-behind old needed kept.1 (map content c.in-Own.pieces) more kept.3 ∙ ap (λ l. old (map content l ++ more)) (sym c.in_ok-list-in-Own.ensures) ∙ c.in_ok-items-in-Own.ensures more in
     let unlisted = unready-unlisted c.args.progress.passes (U.done s.upstream p) c.args.progress.listed waits in
     let fresh = fresh-unlisted content (g.B.Demand.needed s.barrier) needed value old (U.value s.upstream) workers target c.args.progress.passes c.args.progress.listed unlisted planned.1 in
-    let is = kept-value needed counted old now (g.met.B.Barrier.enough_behind s.barrier c.args.progress.state) (joined lists) front items kept.1 carried value fresh.1 (g.met.B.Barrier.of_nothing s.barrier c.carry.new.state) in
+    let is = kept-value needed counted old now (g.met.B.Barrier.enough_behind s.barrier c.args.progress.state) (joined lists) kept.1 items kept.2 carried value fresh.1 (g.met.B.Barrier.of_nothing s.barrier c.carry.new.state) in
     let whole = g.met.U.Stream.whole_law s.upstream workers target p c.requires.holds.0 planned.0 kept.0 in
     let Q : List _ → Type 0 = λ l. AreLeafEnds workers target (length l) (ends_of c.in_ok-places-in-Own.places) in
     (planned.0, (subst Q c.as_slice.ensures.value c.in_ok-places-in-Own.ensures.leaves, is ∙ ap value whole))
@@ -86,7 +87,7 @@ returns-clause-entries g c = λ waits planned entries told.
     let lists = U.parts s.upstream p in
     let entry = c.args.entry.now in
     let held = c.requires.holds.0 in
-    let kept = kept-own (U.work s.upstream p) g.U.Item.Value.is_value needed counted g.U.Item.Value.content lists (U.done s.upstream p) c.args.part c.in-Own.pieces entry c.in-Own.is c.requires.part c.requires.entry in
+    let kept = kept-own (U.work s.upstream p) g.U.Item.Value.is_value needed counted g.U.Item.Value.content (B.value_behind s.barrier c.args.progress.state) lists (U.done s.upstream p) c.args.part c.in-Own.pieces entry c.in-Own.is c.requires.part c.requires.entry in
     let unlisted = unready-unlisted c.args.progress.passes (U.done s.upstream p) c.args.progress.listed waits in
     let fresh = fresh-unlisted g.U.Item.Value.content (g.B.Demand.needed s.barrier) needed value (B.value_behind s.barrier c.args.progress.state) (U.value s.upstream) workers target c.args.progress.passes c.args.progress.listed unlisted planned.1 in
     let R : Option ℕ → Type 0 = λ n. Reports n (length lists) (full_count counted lists) entry.leaves (count_of entry) (cut_of entry) in
@@ -100,5 +101,5 @@ returns-clause-entries g c = λ waits planned entries told.
       last = entry;
       are = refl;
       of_barriers = g.met.U.Stream.reported_law s.upstream workers target p entries kept.0 before.1;
-      of_run = is-entry (g.B.Demand.needed s.barrier) counted value (g.met.B.Barrier.enough_law s.barrier) lists entry (subst R fresh.0 kept.3);
+      of_run = is-entry (g.B.Demand.needed s.barrier) counted value (g.met.B.Barrier.enough_law s.barrier) lists entry (subst R fresh.0 kept.5);
     }

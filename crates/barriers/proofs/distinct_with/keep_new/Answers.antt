@@ -1,0 +1,7 @@
+use Rattle.barriers.proofs.Kept.{new-thinned}
+use Rattle.barriers.proofs.distinct_with.keep_new.Goals as goal
+
+pub returns : goal.returns
+returns g c =
+    new-thinned g.T.Value.same g.met.T.Value.same_decides g.T.Value.content g.T.PartialEq.eq g.met.T.Value.eq_is_same (λ v. v.items) c.args.came.now.keys c.args.items.items c.drop_known.new.items.items c.first_ones.result
+    c.drop_known.ensures c.first_ones.ensures
