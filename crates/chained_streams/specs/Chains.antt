@@ -106,7 +106,11 @@ abbrev pub images_at : {L S C : Type 0} → (L → C → List C) → Option L �
 images_at images (Some link) (Some state) = images link
 images_at images _ _ = no_images
 
+abbrev pub behind_at : {L S C : Type 0} → (L → S → List C → List C) → Option L → Option S → List C → List C
+behind_at behind (Some link) (Some state) items = behind link state items
+behind_at behind _ _ items = []
+
 -- what there is to do in its run: to list what its stages make of the present lists, as far as its barrier needs it
-abbrev pub link_work : {L S T C : Type 0} → (L → S → Option ℕ) → (L → C → Bool) → (L → C → List C) → (C → Type 0) → (T → C) → Option L → Option S → List (List C) → Work (List T)
-link_work needed counted images is_value content link state lists =
-    own_work (needed_at needed link state) (counted_at counted link state) is_value content (map (flat_map (images_at images link state)) lists)
+abbrev pub link_work : {L S T C : Type 0} → (L → S → Option ℕ) → (L → C → Bool) → (L → S → List C → List C) → (L → C → List C) → (C → Type 0) → (T → C) → Option L → Option S → List (List C) → Work (List T)
+link_work needed counted behind images is_value content link state lists =
+    own_work (needed_at needed link state) (counted_at counted link state) is_value content (behind_at behind link state) (map (flat_map (images_at images link state)) lists)

@@ -15,7 +15,7 @@ ghost use Rattle.chained_streams.specs.Chains.{AreFresh, HoldsChain, IsFirstRun,
 ghost use Rattle.chained_streams.specs.ChainLaws.{IsSound-unknown, both-true, chain-leaves, chain-parts, chain-whole, count-lists};
 
 use barriers::{Barrier, Behind, Demand, Need};
-use collectors::{Collector, ToList, combine_containers};
+use collectors::{Collector, ToList};
 use leaf_board::Handout;
 use leaf_reading::{LeafEnd, Portion, Reading, feed_whole, read_leaf};
 use parallel_streams::{Listed, Part, Places, Stream, end_before, end_own};
@@ -232,7 +232,7 @@ impl<U: Stream, A: Stage<In = U::Item, Out = U::Item>, B: Barrier<U::Item>> Stre
     ghost leaves_next = { λ s p. next_leaves (U.leaves_next s.upstream p.before) p.listed };
 
     ghost work = { λ s p.
-        let own = link_work (λ link state. B.needed_behind link.barrier state) (λ link. B.Demand.counted link.barrier) (λ link. A.expand link.stage) in
+        let own = link_work (λ link state. B.needed_behind link.barrier state) (λ link. B.Demand.counted link.barrier) (λ link state. B.value_behind link.barrier state) (λ link. A.expand link.stage) in
         let next = own U.Item.is_value U.Item.content (slice_get s.links.items p.run) (slice_get p.states.items p.run) in
         let lists = lists_of (λ link. A.expand link.stage) U.Item.content s.links.items p.run (U.parts s.upstream p.before) p.listed in
         barred_work (is_own_turn (U.done s.upstream p.before) p.listed) (U.work s.upstream p.before) (next lists) };
@@ -254,7 +254,7 @@ impl<U: Stream, A: Stage<In = U::Item, Out = U::Item>, B: Barrier<U::Item>> Stre
     ghost flag_law = { λ s. IsSound-unknown U.Item.order (through_links (link_value A.expand B.value) s.links.items (U.value s.upstream)) };
 
     ghost work_law = { λ s p unrun.
-        let own = link_work (λ link state. B.needed_behind link.barrier state) (λ link. B.Demand.counted link.barrier) (λ link. A.expand link.stage) in
+        let own = link_work (λ link state. B.needed_behind link.barrier state) (λ link. B.Demand.counted link.barrier) (λ link state. B.value_behind link.barrier state) (λ link. A.expand link.stage) in
         let next = own U.Item.is_value U.Item.content (slice_get s.links.items p.run) (slice_get p.states.items p.run) in
         let lists = lists_of (λ link. A.expand link.stage) U.Item.content s.links.items p.run (U.parts s.upstream p.before) p.listed in
         let leaves = chain-leaves (λ link. A.expand link.stage) U.Item.content s.links.items p.run (U.done s.upstream p.before) (U.work s.upstream p.before) (next lists) in
@@ -409,16 +409,18 @@ impl<U: Stream, A: Stage<In = U::Item, Out = U::Item>, B: Barrier<U::Item>> Stre
             return nothing_kept(alloc);
         }
         let link = &self.links[run];
+        let state = &progress.states[run];
         let demand = Behind {
             barrier: &link.barrier,
-            state: &progress.states[run],
+            state,
         };
         let reading = Reading {
             stage: &link.stage,
             demand: &demand,
             collector: &ToList::with_room(alloc, self.room(progress, leaf)),
         };
-        end_own(self.read_own_leaf(alloc, progress, &reading, board, seat, leaf))
+        let end = self.read_own_leaf(alloc, progress, &reading, board, seat, leaf);
+        end_own(&link.barrier, state, end)
     }
 
     // A run keeps parts of one kind, so that a mixture stands for no leaves.
@@ -439,7 +441,7 @@ impl<U: Stream, A: Stage<In = U::Item, Out = U::Item>, B: Barrier<U::Item>> Stre
             },
             Part::Own(kept) => match following {
                 Part::Before(_following) => Ok(()),
-                Part::Own(following) => combine_containers(&ToList::new(alloc), kept, following),
+                Part::Own(following) => Ok(kept.join(following)?),
             },
         }
     }

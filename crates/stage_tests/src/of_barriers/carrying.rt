@@ -134,6 +134,37 @@ fn an_item_of_an_earlier_part_stands_once(rt: HostRuntime) -> Result<(), NoMemor
     Ok(())
 }
 
+/// Remainders of the numbers from 0 on, by a number.
+fn remainders(alloc: Global, number: i64, by: i64) -> Result<Vec<i64>, NoMemory> {
+    let mut items = Vec::new(alloc);
+    for item in 0..number {
+        items.push(item.checked_rem(by).unwrap_or(0))?;
+    }
+    Ok(items)
+}
+
+/// How many remainders of 5,000 numbers there are, and how many of the 5,000 are left once 0 to 9 came. Where of the first 1,024 more than 512 are new,
+/// those behind them stay.
+static THINNED: [(i64, usize); 5] = [(5, 0), (10, 0), (100, 180), (600, 4_566), (5_000, 4_990)];
+
+#[test]
+fn what_came_and_what_repeats_is_thinned(rt: HostRuntime) -> Result<(), NoMemory> {
+    let alloc = rt.alloc();
+    for &(by, left) in &THINNED {
+        let mut came = Distinct.fresh(alloc);
+        assert!(rt; !Barrier::<i64>::thins(&Distinct, &came));
+        Distinct.carry(&mut came, remainders(alloc, 10, 10)?, false)?;
+        assert!(rt; Barrier::<i64>::thins(&Distinct, &came));
+        let mut items = remainders(alloc, 5_000, by)?;
+        Distinct.thin(&came, &mut items)?;
+        assert!(rt; items.len() == left, "{by}: {}", items.len());
+        let new = Distinct.carry(&mut came, items, false)?;
+        let wanted: Vec<i64> = (10..by).collect(alloc)?;
+        assert!(rt; new == wanted, "{by}");
+    }
+    Ok(())
+}
+
 fn texts(alloc: Global, words: &[&str]) -> Result<Vec<String>, NoMemory> {
     let mut texts = Vec::new(alloc);
     for word in words {

@@ -180,6 +180,7 @@ fn check_cut<R: Threads + Abort + Alloc<A = Global> + Sync>(
 // Segments end where there are 2,560, 5,120 and 10,240 of 20,480 numbers.
 #[test]
 fn barriers_cut_at_each_place_of_segments(rt: HostRuntime) -> Result<(), StreamError> {
+    let numbers: Vec<i64> = (0..20_480).collect(rt.alloc())?;
     for workers in [1, 2, 7, 64] {
         let gate = &Workers::new(0, 1);
         let run = Run {
@@ -192,7 +193,8 @@ fn barriers_cut_at_each_place_of_segments(rt: HostRuntime) -> Result<(), StreamE
                 0, 1, 2_559, 2_560, 2_561, 5_119, 5_120, 10_241, 20_479, 20_480, 20_481,
             ] {
                 check_cut(&rt, &run, items, cut)?;
-                two_behind::check(&rt, &run, i64::from(items), cut)?;
+                let slice: &[i64] = if items == 0 { &[] } else { &numbers };
+                two_behind::check(&rt, &run, i64::from(items), slice, cut)?;
             }
         }
     }
@@ -236,7 +238,7 @@ fn fronts_of_a_great_source_end(rt: HostRuntime) -> Result<(), StreamError> {
             let found = behind::sum_behind(&rt, &run, behind, end, cut)?;
             assert!(rt; found == sum_of(cut), "{cut}: {found}");
         }
-        two_behind::check(&rt, &run, end, cut)?;
+        two_behind::check(&rt, &run, end, &[], cut)?;
         let behind = numbers_below(&rt, end).skip(u64::from(cut));
         let found = behind.find_first(&rt, rt.alloc(), &run)?;
         assert!(rt; found == Some(i64::from(cut)), "{cut}: {found:?}");

@@ -1,6 +1,7 @@
 use Rattle.std.proofs.Common.{◌≡◌, ◌<◌, ◌++◌, ℕ, Bool, List, add-one, arith, drop, length, map, slice_get, slice_set, sym, subst, ap, ◌∙◌}
 use Rattle.std.specs.Option.{is_some}
 use Rattle.barriers.specs.Needs.{IsToldBy}
+use Rattle.barriers.specs.Thinned.{thinned-behind}
 use Rattle.leaf_board.specs.Closing.{cut_of}
 use Rattle.stealing_pool.specs.Spans.{joined}
 use Rattle.chained_streams.specs.Chains.{AreFresh, is_own_turn, left_by, link_behind, link_value, lists_of, through_links}
@@ -21,7 +22,7 @@ carry-requires-clause-told g c =
     let state = c.index_mut.result.now in
     let in_links : p.run < length links = omega (arith, c.if-run-len.false, c.len.ensures) in
     let in_states : p.run < length states = omega (arith, in_links, c.requires.holds.1.0) in
-    let kept = kept-link {L = Link g.row.A.Denot g.row.B.Denot} {S = g.row.B-State.Denot} (λ link state. g.B.Barrier.needed_behind link.barrier state) (λ link. g.B.Demand.counted link.barrier) (λ link. g.A.Stage.expand link.stage)
+    let kept = kept-link {L = Link g.row.A.Denot g.row.B.Denot} {S = g.row.B-State.Denot} (λ link state. g.B.Barrier.needed_behind link.barrier state) (λ link. g.B.Demand.counted link.barrier) (λ link state. g.B.Barrier.value_behind link.barrier state) (λ link. g.A.Stage.expand link.stage)
     g.U.Item.Value.is_value content (lists_of (λ link. g.A.Stage.expand link.stage) content s.links.items p.run (U.parts s.upstream p.before) p.listed) (U.work s.upstream p.before) (is_own_turn (U.done s.upstream p.before) p.listed)
     (slice_get links p.run) (slice_get states p.run) link state c.args.part c.in-Own.pieces c.args.entry.now
     (get-some links p.run link in_links c.index.ensures) (get-some states p.run state in_states c.index_mut.ensures.value) c.in-Own.is c.requires.part c.requires.entry in
@@ -29,7 +30,7 @@ carry-requires-clause-told g c =
     let counted = g.B.Demand.counted link.barrier in
     let P : List _ → Type 0 = λ l. IsToldBy needed counted (map content l) (is_some (cut_of c.args.entry.now)) in
     let Q : Bool → Type 0 = λ is_cut. IsToldBy needed counted (map content c.in_ok-list-in-Own.list.items) is_cut in
-    subst Q (sym (c.is_some-is_cut.ensures ∙ ap is_some c.cut.ensures)) (subst P (sym c.in_ok-list-in-Own.ensures) kept.2)
+    subst Q (sym (c.is_some-is_cut.ensures ∙ ap is_some c.cut.ensures)) (subst P (sym c.in_ok-list-in-Own.ensures) kept.4)
 
 pub returns-in_ok-places-in-Own-clause-left : goal.returns-in_ok-places-in-Own-clause-left
 returns-in_ok-places-in-Own-clause-left g c = λ waits.
@@ -46,17 +47,17 @@ returns-in_ok-places-in-Own-clause-left g c = λ waits.
     let in_states : p.run < length states = omega (arith, in_links, c.requires.holds.1.0) in
     let parts = U.parts s.upstream p.before in
     let lists = lists_of (λ link. g.A.Stage.expand link.stage) content s.links.items p.run parts p.listed in
-    let kept = kept-link {L = Link g.row.A.Denot g.row.B.Denot} {S = g.row.B-State.Denot} (λ link state. B.needed_behind link.barrier state) (λ link. g.B.Demand.counted link.barrier) (λ link. g.A.Stage.expand link.stage)
+    let kept = kept-link {L = Link g.row.A.Denot g.row.B.Denot} {S = g.row.B-State.Denot} (λ link state. B.needed_behind link.barrier state) (λ link. g.B.Demand.counted link.barrier) (λ link state. g.B.Barrier.value_behind link.barrier state) (λ link. g.A.Stage.expand link.stage)
     g.U.Item.Value.is_value content lists (U.work s.upstream p.before) (is_own_turn (U.done s.upstream p.before) p.listed)
     (slice_get links p.run) (slice_get states p.run) link state c.args.part c.in-Own.pieces c.args.entry.now
     (get-some links p.run link in_links c.index.ensures) (get-some states p.run state in_states c.index_mut.ensures.value) c.in-Own.is c.requires.part c.requires.entry in
     let new = c.carry.new.state in
     let old = B.value_behind link.barrier state in
     let items = map content c.in_ok-items-in-Own.items.items in
-    let front = map content c.in-Own.pieces in
-    let carried : (more : List _) → old (front ++ more) ≡ items ++ B.value_behind link.barrier new more = λ more. ap (λ l. old (map content l ++ more)) (sym c.in_ok-list-in-Own.ensures) ∙ c.in_ok-items-in-Own.ensures more in
+    let carried : (more : List _) → old (kept.1 ++ more) ≡ items ++ B.value_behind link.barrier new more =
+    λ more. thinned-behind old (B.needed_behind link.barrier state) kept.1 (map content c.in-Own.pieces) more kept.3 ∙ ap (λ l. old (map content l ++ more)) (sym c.in_ok-list-in-Own.ensures) ∙ c.in_ok-items-in-Own.ensures more in
     let law = carried-link (B.needed_behind link.barrier state) (g.B.Demand.counted link.barrier) (g.A.Stage.expand link.stage) old (B.value_behind link.barrier new)
-    (g.met.B.Barrier.enough_behind link.barrier state) (joined lists) front items kept.1 carried in
+    (g.met.B.Barrier.enough_behind link.barrier state) (joined lists) kept.1 items kept.2 carried in
     let step = link_behind g.A.Stage.expand B.value_behind in
     let behind = U.behind s.upstream p.before in
     ap (λ n. left_by step n links (slice_set states p.run new) items behind) (add-one p.run)
@@ -78,17 +79,17 @@ returns-in_ok-places-in-Own-clause-planned g c = λ waits planned.
     let in_states : p.run < length states = omega (arith, in_links, c.requires.holds.1.0) in
     let parts = U.parts s.upstream p.before in
     let lists = lists_of (λ link. g.A.Stage.expand link.stage) content s.links.items p.run parts p.listed in
-    let kept = kept-link {L = Link g.row.A.Denot g.row.B.Denot} {S = g.row.B-State.Denot} (λ link state. B.needed_behind link.barrier state) (λ link. g.B.Demand.counted link.barrier) (λ link. g.A.Stage.expand link.stage)
+    let kept = kept-link {L = Link g.row.A.Denot g.row.B.Denot} {S = g.row.B-State.Denot} (λ link state. B.needed_behind link.barrier state) (λ link. g.B.Demand.counted link.barrier) (λ link state. g.B.Barrier.value_behind link.barrier state) (λ link. g.A.Stage.expand link.stage)
     g.U.Item.Value.is_value content lists (U.work s.upstream p.before) (is_own_turn (U.done s.upstream p.before) p.listed)
     (slice_get links p.run) (slice_get states p.run) link state c.args.part c.in-Own.pieces c.args.entry.now
     (get-some links p.run link in_links c.index.ensures) (get-some states p.run state in_states c.index_mut.ensures.value) c.in-Own.is c.requires.part c.requires.entry in
     let new = c.carry.new.state in
     let old = B.value_behind link.barrier state in
     let items = map content c.in_ok-items-in-Own.items.items in
-    let front = map content c.in-Own.pieces in
-    let carried : (more : List _) → old (front ++ more) ≡ items ++ B.value_behind link.barrier new more = λ more. ap (λ l. old (map content l ++ more)) (sym c.in_ok-list-in-Own.ensures) ∙ c.in_ok-items-in-Own.ensures more in
+    let carried : (more : List _) → old (kept.1 ++ more) ≡ items ++ B.value_behind link.barrier new more =
+    λ more. thinned-behind old (B.needed_behind link.barrier state) kept.1 (map content c.in-Own.pieces) more kept.3 ∙ ap (λ l. old (map content l ++ more)) (sym c.in_ok-list-in-Own.ensures) ∙ c.in_ok-items-in-Own.ensures more in
     let law = carried-link (B.needed_behind link.barrier state) (g.B.Demand.counted link.barrier) (g.A.Stage.expand link.stage) old (B.value_behind link.barrier new)
-    (g.met.B.Barrier.enough_behind link.barrier state) (joined lists) front items kept.1 carried in
+    (g.met.B.Barrier.enough_behind link.barrier state) (joined lists) kept.1 items kept.2 carried in
     let step = link_behind g.A.Stage.expand B.value_behind in
     let value = link_value g.A.Stage.expand B.value in
     let whole = U.value s.upstream in
