@@ -89,8 +89,8 @@ module _ {L S T C : Type 0} (needed : L → S → Option ℕ) (counted : L → C
       let stood = subst (λ s. Stands (Some link) s) is_state (subst (λ l. Stands l states) is_link stands) in
       let told = subst (λ s. Told (Some link) s) is_state (subst (λ l. Told l states) is_link reports) in
       let kept = kept-own before is_value (needed link state) (counted link) content (behind link state) (map (flat_map (images link)) lists) turn part items entry is stood told in
-      let Q : List C → Type 0 = λ whole. IsOutcome (needed link state) (counted link) whole kept.1 in
-      (kept.0, kept.1, subst Q (joined-through (images link) lists (joined lists) refl) kept.2, kept.3, kept.4)
+      let Q : List C → Type 0 = λ whole. IsOutcome (needed link state) (counted link) whole kept.1.0 in
+      (kept.0, kept.1.0, subst Q (joined-through (images link) lists (joined lists) refl) kept.1.1, kept.1.2, kept.1.3)
 
 -- .. and what it leaves of the present list, whatever is behind that
 pub carried-link : {C : Type 0} (needed : Option ℕ) (counted : C → Bool) (images : C → List C) (old now : List C → List C) → KeepsEnough needed counted old

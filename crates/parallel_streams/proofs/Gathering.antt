@@ -21,12 +21,25 @@ module _ {P T C : Type 0} (before : Work P) (is_value : C → Type 0) (needed : 
   abbrev own : Work (List T)
   own = own_work needed counted is_value content value lists
 
-  -- what the run kept: so much of a front that it makes the same difference
+  -- what a run kept: so much of a front that it makes the same difference
+  abbrev KeptOwn : List T → Outcome → Type 0
+  KeptOwn items entry =
+      (front : List C) × IsOutcome needed counted (joined lists) front × IsThinned needed value front (map content items) × IsToldBy needed counted (map content items) (is_some (cut_of entry))
+      × Reports needed (length lists) (full_count counted lists) entry.leaves (count_of entry) (cut_of entry)
+
+  kept-front : (items : List T) (entry : Outcome) → StandsForRun own items → Reports needed (length lists) (full_count counted lists) entry.leaves (count_of entry) (cut_of entry) → KeptOwn items entry
+  kept-front items entry (to, count, within, (front, keeps, thinned), last) reports =
+      let run = run-last (folding needed counted is_value [] push) (λ l. l) lists front (to, count, within, keeps, last) in
+      let same : run.0 ≡ front = sym (run.2.1 ∙ listed run.0) in
+      let Outcome' : List C → Type 0 = λ l. IsOutcome needed counted (joined lists) l in
+      let Told : List C → Type 0 = λ l. IsToldBy needed counted l (is_some (cut_of entry)) in
+      let told = subst Told same (front-told needed counted lists entry.leaves (count_of entry) (cut_of entry) run.0 reports run.1 run.3) in
+      (front, subst Outcome' same run.1, thinned, thinned-told value needed counted front (map content items) (is_some (cut_of entry)) thinned told, reports)
+
   pub kept-own : (done : Bool) (part : Part P T) (items : List T) (entry : Outcome) → part ≡ Own items
       → StandsForRun (barred_work done before own) part
       → Reports (barred_work done before own).needed (barred_work done before own).leaves (barred_work done before own).full entry.leaves (count_of entry) (cut_of entry)
-      → (done ≡ true) × (front : List C) × IsOutcome needed counted (joined lists) front × IsThinned needed value front (map content items) × IsToldBy needed counted (map content items) (is_some (cut_of entry))
-      × Reports needed (length lists) (full_count counted lists) entry.leaves (count_of entry) (cut_of entry)
+      → (done ≡ true) × KeptOwn items entry
   kept-own false part items entry is stands reports =
       let Q : Part P T → Type 0 = λ p. StandsForRun (barred_work false before own) p in
       let none = (stands-own before own false items (subst Q is stands)).0 in
@@ -36,16 +49,7 @@ module _ {P T C : Type 0} (before : Work P) (is_value : C → Type 0) (needed : 
       no-true e = cc
   kept-own true part items entry is stands reports =
       let Q : Part P T → Type 0 = λ p. StandsForRun (barred_work true before own) p in
-      told (stands-own before own true items (subst Q is stands)).1
-    where
-      told : StandsForRun own items → _
-      told (to, count, within, (front, keeps, thinned), last) =
-          let run = run-last (folding needed counted is_value [] push) (λ l. l) lists front (to, count, within, keeps, last) in
-          let same : run.0 ≡ front = sym (run.2.1 ∙ listed run.0) in
-          let Outcome' : List C → Type 0 = λ l. IsOutcome needed counted (joined lists) l in
-          let Told : List C → Type 0 = λ l. IsToldBy needed counted l (is_some (cut_of entry)) in
-          let of_front = subst Told same (front-told needed counted lists entry.leaves (count_of entry) (cut_of entry) run.0 reports run.1 run.3) in
-          (refl, front, subst Outcome' same run.1, thinned, thinned-told value needed counted front (map content items) (is_some (cut_of entry)) thinned of_front, reports)
+      (refl, kept-front items entry (stands-own before own true items (subst Q is stands)).1 reports)
 
 module _ {C : Type 0} (needed : Option ℕ) (counted : C → Bool) (value_before value_after : List C → List C) (law : KeepsEnough needed counted value_before)
     (whole front kept : List C) (outcome : IsOutcome needed counted whole front) (carried : (more : List C) → value_before (front ++ more) ≡ kept ++ value_after more) where

@@ -143,10 +143,8 @@ module _ {P T : Type 0} (before : Work P) where
           subst Left (sym (ap (map content) joins ∙ map-append content left right)) (thinned-both value needed l m (map content left) (map content right) first second),
         )
 
-    pub combines-own_ok : {U E : Type 0} (done : Bool) (r : Result U E) (kept following : Part P T) (left right both : List T)
-        → kept ≡ Own left → following ≡ Own right → OnOk r (both ≡ left ++ right) → OnOk r (Combines (barred_work done before own) kept following (Own both))
-    combines-own_ok done (Err e) kept following left right both is_left is_right joins = tt
-    combines-own_ok done (Ok u) kept following left right both is_left is_right joins =
+    pub combines-joined : (done : Bool) (kept following : Part P T) (left right both : List T) → kept ≡ Own left → following ≡ Own right → both ≡ left ++ right → Combines (barred_work done before own) kept following (Own both)
+    combines-joined done kept following left right both is_left is_right joins =
         let Q : Part P T → Type 0 = λ k. Combines (barred_work done before own) k following (Own both) in
         let R : Part P T → Type 0 = λ m. Combines (barred_work done before own) (Own left) m (Own both) in
         subst Q (sym is_left) (subst R (sym is_right) (combines-own before own done left right both (combines-thinned left right both joins)))

@@ -1,10 +1,10 @@
 use Rattle.std.proofs.Common.{flat_map, map, slice_get}
-use Rattle.parallel_streams.specs.ProgressLaws.{combines-own_ok}
+use Rattle.parallel_streams.specs.ProgressLaws.{combines-joined}
 use Rattle.chained_streams.specs.Chains.{behind_at, counted_at, images_at, is_own_turn, lists_of, needed_at}
 use Rattle.chained_streams.proofs.chain.ChainStream.combine.Goals as goal
 
-pub returns-in-Own-following-2 : goal.returns-in-Own-following-2
-returns-in-Own-following-2 g c =
+pub returns-in_ok-join-in-Own-following-2 : goal.returns-in_ok-join-in-Own-following-2
+returns-in_ok-join-in-Own-following-2 g c =
     let s = c.args.self.now in
     let U = g.U.Stream in
     let p = c.args.progress.now in
@@ -16,5 +16,5 @@ returns-in-Own-following-2 g c =
     let behind = behind_at (λ link state. g.B.Barrier.value_behind link.barrier state) link state in
     let content = g.U.Item.Value.content in
     let lists = map (flat_map images) (lists_of (λ link. g.A.Stage.expand link.stage) content s.links.items p.run (U.parts s.upstream p.before) p.listed) in
-    combines-own_ok (U.work s.upstream p.before) needed counted g.U.Item.Value.is_value content behind lists (is_own_turn (U.done s.upstream p.before) p.listed)
-    c.join.result c.args.kept.now c.args.following c.in-Own.kept c.in-Own-following-2.following c.join.new.self c.in-Own.is c.in-Own-following-2.is c.join.ensures
+    combines-joined (U.work s.upstream p.before) needed counted g.U.Item.Value.is_value content behind lists (is_own_turn (U.done s.upstream p.before) p.listed)
+    c.args.kept.now c.args.following c.in-Own.kept c.in-Own-following-2.following c.join.new.self c.in-Own.is c.in-Own-following-2.is c.in_ok-join-in-Own-following-2.ensures

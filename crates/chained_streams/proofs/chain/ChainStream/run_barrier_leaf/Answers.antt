@@ -30,5 +30,5 @@ returns-clause-end g c =
     let in_states : p.run < length states = omega (arith, in_links, c.requires.holds.1.0) in
     ends-link {L = Link g.row.A.Denot g.row.B.Denot} {S = g.row.B-State.Denot} (λ link state. g.B.Barrier.needed_behind link.barrier state) (λ link. g.B.Demand.counted link.barrier) (λ link state. g.B.Barrier.value_behind link.barrier state) (λ link. g.A.Stage.expand link.stage)
     g.U.Item.Value.is_value content lists (U.work s.upstream p.before) (is_own_turn (U.done s.upstream p.before) p.listed) (slice_get links p.run) (slice_get states p.run) link state
-    (g.L.Handout.cut c.read_own_leaf.new.seat) c.args.leaf c.read_own_leaf.result c.end_own.result (sym c.is_own_turn.ensures ∙ c.if-not-is_own_turn.false)
-    (get-some links p.run link in_links c.index-link.ensures) (get-some states p.run state in_states c.index-state.ensures) c.end_own.ensures c.read_own_leaf.ensures.end
+    (g.L.Handout.cut c.read_own_leaf-end.new.seat) c.args.leaf c.read_own_leaf-end.result c.end_own.result (sym c.is_own_turn.ensures ∙ c.if-not-is_own_turn.false)
+    (get-some links p.run link in_links c.index-link.ensures) (get-some states p.run state in_states c.index-state.ensures) c.end_own.ensures c.read_own_leaf-end.ensures.end

@@ -24,7 +24,7 @@ carry-requires-clause-told g c =
     let kept = kept-own (U.work s.upstream p) g.U.Item.Value.is_value needed counted content (g.B.Barrier.value_behind s.barrier c.args.progress.state) (U.parts s.upstream p) (U.done s.upstream p) c.args.part c.in-Own.pieces c.args.entry.now c.in-Own.is c.requires.part c.requires.entry in
     let P : List _ → Type 0 = λ l. IsToldBy needed counted (map content l) (is_some (cut_of c.args.entry.now)) in
     let Q : Bool → Type 0 = λ is_cut. IsToldBy needed counted (map content c.in_ok-list-in-Own.list.items) is_cut in
-    subst Q (sym (c.is_some-is_cut.ensures ∙ ap is_some c.cut.ensures)) (subst P (sym c.in_ok-list-in-Own.ensures) kept.4)
+    subst Q (sym (c.is_some-is_cut.ensures ∙ ap is_some c.cut.ensures)) (subst P (sym c.in_ok-list-in-Own.ensures) kept.1.3)
 
 pub returns-clause-left : goal.returns-clause-left
 returns-clause-left g c = λ waits.
@@ -41,9 +41,9 @@ returns-clause-left g c = λ waits.
     let behind = U.behind s.upstream p in
     let kept = kept-own (U.work s.upstream p) g.U.Item.Value.is_value needed counted content old lists (U.done s.upstream p) c.args.part c.in-Own.pieces c.args.entry.now c.in-Own.is c.requires.part c.requires.entry in
     let items = map content c.in_ok-items-in-Own.items.items in
-    let carried : (more : List _) → old (kept.1 ++ more) ≡ items ++ now more =
-    λ more. thinned-behind old needed kept.1 (map content c.in-Own.pieces) more kept.3 ∙ ap (λ l. old (map content l ++ more)) (sym c.in_ok-list-in-Own.ensures) ∙ c.in_ok-items-in-Own.ensures more in
-    let on = goes-on needed counted old now (g.met.B.Barrier.enough_behind s.barrier c.args.progress.state) (joined lists) kept.1 items kept.2 carried behind in
+    let carried : (more : List _) → old (kept.1.0 ++ more) ≡ items ++ now more =
+    λ more. thinned-behind old needed kept.1.0 (map content c.in-Own.pieces) more kept.1.2 ∙ ap (λ l. old (map content l ++ more)) (sym c.in_ok-list-in-Own.ensures) ∙ c.in_ok-items-in-Own.ensures more in
+    let on = goes-on needed counted old now (g.met.B.Barrier.enough_behind s.barrier c.args.progress.state) (joined lists) kept.1.0 items kept.1.1 carried behind in
     let split = g.met.U.Stream.parts_law s.upstream p c.requires.holds.0 kept.0 in
     sym on ∙ ap old (sym split) ∙ sym (left-unlisted content old (U.left s.upstream p) behind c.args.progress.listed (unready-unlisted c.args.progress.passes (U.done s.upstream p) c.args.progress.listed waits))
 
@@ -64,11 +64,11 @@ returns-clause-planned g c = λ waits planned.
     let lists = U.parts s.upstream p in
     let kept = kept-own (U.work s.upstream p) g.U.Item.Value.is_value needed counted content old lists (U.done s.upstream p) c.args.part c.in-Own.pieces c.args.entry.now c.in-Own.is c.requires.part c.requires.entry in
     let items = map content c.in_ok-items-in-Own.items.items in
-    let carried : (more : List _) → old (kept.1 ++ more) ≡ items ++ now more =
-    λ more. thinned-behind old needed kept.1 (map content c.in-Own.pieces) more kept.3 ∙ ap (λ l. old (map content l ++ more)) (sym c.in_ok-list-in-Own.ensures) ∙ c.in_ok-items-in-Own.ensures more in
+    let carried : (more : List _) → old (kept.1.0 ++ more) ≡ items ++ now more =
+    λ more. thinned-behind old needed kept.1.0 (map content c.in-Own.pieces) more kept.1.2 ∙ ap (λ l. old (map content l ++ more)) (sym c.in_ok-list-in-Own.ensures) ∙ c.in_ok-items-in-Own.ensures more in
     let unlisted = unready-unlisted c.args.progress.passes (U.done s.upstream p) c.args.progress.listed waits in
     let fresh = fresh-unlisted content (g.B.Demand.needed s.barrier) needed value old (U.value s.upstream) workers target c.args.progress.passes c.args.progress.listed unlisted planned.1 in
-    let is = kept-value needed counted old now (g.met.B.Barrier.enough_behind s.barrier c.args.progress.state) (joined lists) kept.1 items kept.2 carried value fresh.1 (g.met.B.Barrier.of_nothing s.barrier c.carry.new.state) in
+    let is = kept-value needed counted old now (g.met.B.Barrier.enough_behind s.barrier c.args.progress.state) (joined lists) kept.1.0 items kept.1.1 carried value fresh.1 (g.met.B.Barrier.of_nothing s.barrier c.carry.new.state) in
     let whole = g.met.U.Stream.whole_law s.upstream workers target p c.requires.holds.0 planned.0 kept.0 in
     let Q : List _ → Type 0 = λ l. AreLeafEnds workers target (length l) (ends_of c.in_ok-places-in-Own.places) in
     (planned.0, (subst Q c.as_slice.ensures.value c.in_ok-places-in-Own.ensures.leaves, is ∙ ap value whole))
@@ -101,5 +101,5 @@ returns-clause-entries g c = λ waits planned entries told.
       last = entry;
       are = refl;
       of_barriers = g.met.U.Stream.reported_law s.upstream workers target p entries kept.0 before.1;
-      of_run = is-entry (g.B.Demand.needed s.barrier) counted value (g.met.B.Barrier.enough_law s.barrier) lists entry (subst R fresh.0 kept.5);
+      of_run = is-entry (g.B.Demand.needed s.barrier) counted value (g.met.B.Barrier.enough_law s.barrier) lists entry (subst R fresh.0 kept.1.4);
     }
