@@ -1,6 +1,7 @@
 //! Distinct items, hashed as the caller asks.
-ghost use Rattle.std.specs.Prelude.{◌≡◌, ◌++◌, List, [], None, IfOk, OnOk, filter, map, not, refl};
+ghost use Rattle.std.specs.Prelude.{◌≡◌, ◌++◌, List, [], None, IfOk, OnOk, filter, map, not, refl, true};
 ghost use Rattle.std.specs.List.{list_any};
+ghost use Rattle.std.specs.Option.{is_some};
 ghost use Rattle.stages.specs.declared.flags.Operation.TheVariants.{Distinct as distinct_row};
 ghost use Rattle.spliterator.specs.Clones.{ClonesAlike};
 ghost use Rattle.stages.specs.Distinct.{distinct, distinct_after};
@@ -33,19 +34,54 @@ pub(crate) fn first_ones<T: Value + Hash + Drop, S: BuildHasher + Drop>(
 // So many of a leaf's items tell whether its others repeat.
 const SAMPLE: usize = 1 << 10;
 
-// Drops the items that came.
-fn drop_known<T: Value + Hash + Drop, S: BuildHasher>(came: &IndexSet<T, S>, items: &mut Vec<T>)
-    ensures { let came = λ (x : T). list_any (T.PartialEq.eq x) came.now.keys in
-        items.new.items ≡ filter (λ x. not (came x)) items.old.items }
+// Whether an item is the one at a place of a set.
+fn stands_at<T: Value + Hash, S: BuildHasher>(came: &IndexSet<T, S>, place: usize, x: &T) -> bool
+    ensures { result ≡ true → list_any (T.PartialEq.eq x.now) came.now.keys ≡ true }
 {
-    items.retain(|x| !came.contains(x));
+    let known = came.as_slice();
+    place < known.len() && *x == known[place]
+}
+
+// The place of an item in a set. Items often come again in the order in which they came first, as remainders do. So an item is compared with the one
+// that is expected, and hashed only where that is another.
+fn place_of<T: Value + Hash, S: BuildHasher>(
+    came: &IndexSet<T, S>,
+    expected: usize,
+    x: &T,
+) -> Option<usize>
+    ensures { is_some result ≡ list_any (T.PartialEq.eq x.now) came.now.keys }
+{
+    if stands_at(came, expected, x) {
+        return Some(expected);
+    }
+    came.get_index_of(x)
+}
+
+// The items that didn't come.
+fn without_known<T: Value + Hash + Drop, S: BuildHasher>(
+    came: &IndexSet<T, S>,
+    items: Vec<T>,
+) -> Result<Vec<T>, NoMemory>
+    ensures { let came = λ (x : T). list_any (T.PartialEq.eq x) came.now.keys in
+        IfOk result (λ kept. kept.items ≡ filter (λ x. not (came x)) items.items) }
+{
+    let mut kept = Vec::new(*items.allocator());
+    let mut expected = 0;
+    for x in items {
+        if let Some(place) = place_of(came, expected, &x) {
+            expected = place.saturating_add(1);
+            continue;
+        }
+        kept.push(x)?;
+    }
+    Ok(kept)
 }
 
 // Where it pays, drops the items that came, and of equal ones all but the first. The set is empty.
 fn keep_new<T: Value + Hash + Drop, S: BuildHasher + Drop>(
     came: &IndexSet<T, S>,
     empty: IndexSet<T, S>,
-    mut items: Vec<T>,
+    items: Vec<T>,
     pays: bool,
 ) -> Result<Vec<T>, NoMemory>
     requires { empty.keys ≡ [] }
@@ -55,8 +91,8 @@ fn keep_new<T: Value + Hash + Drop, S: BuildHasher + Drop>(
     if !pays {
         return Ok(items);
     }
-    drop_known(came, &mut items);
-    first_ones(empty, items)
+    let new = without_known(came, items)?;
+    first_ones(empty, new)
 }
 
 // Drops items that came, and of equal ones all but the first. Where most of a sample are new, the others stay as they are: a set of them would not pay.
