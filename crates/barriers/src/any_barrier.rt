@@ -1,5 +1,5 @@
 //! A barrier that is chosen at run time.
-use crate::{Barrier, Demand, DistinctWith, DropWhile, Limit, Need, Skip, TakeWhile};
+use crate::{Barrier, Demand, Distinct, DropWhile, Limit, Need, Skip, TakeWhile};
 use indexmap::IndexSet;
 use spliterator::{NoMemory, OrderedValue, Value};
 use stages::{Operation, Test};
@@ -9,7 +9,7 @@ use std::hash::{BuildHasher, Hash};
 /// One of the barriers, chosen at run time. `P` is the test of a while, and `S` hashes distinct items.
 #[derive(Drop)]
 pub enum AnyBarrier<P, S> {
-    Distinct(DistinctWith<S>),
+    Distinct(Distinct<S>),
     Limit(Limit),
     Skip(Skip),
     TakeWhile(TakeWhile<P>),

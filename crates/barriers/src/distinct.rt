@@ -1,4 +1,6 @@
-ghost use Rattle.std.specs.Prelude.{◌≡◌, ◌++◌, List, None, IfOk, OnOk, map, refl};
+ghost use Rattle.std.specs.Prelude.{◌≡◌, ◌++◌, List, [], None, IfOk, OnOk, filter, map, not, refl, true};
+ghost use Rattle.std.specs.List.{list_any};
+ghost use Rattle.std.specs.Option.{is_some};
 ghost use Rattle.stages.specs.declared.flags.Operation.TheVariants.{Distinct as distinct_row};
 ghost use Rattle.spliterator.specs.Clones.{ClonesAlike};
 ghost use Rattle.stages.specs.Distinct.{distinct, distinct_after};
@@ -7,19 +9,149 @@ ghost use Rattle.barriers.specs.NeedLaws.{KeepsEnough-never};
 ghost use Rattle.barriers.specs.Thinned.{IsThinned};
 ghost use Rattle.barriers.specs.BarrierFlags.{KeepsSound-distinct};
 
-use crate::distinct_with::{carry_distinct, first_ones, thin_distinct};
 use crate::{Barrier, Demand, Need};
 use indexmap::IndexSet;
 use spliterator::{NoMemory, OrderedValue, Value};
 use stages::Operation;
 use std::alloc::Global;
-use std::hash::{BuildHasherDefault, Hash};
+use std::hash::{BuildHasher, BuildHasherDefault, FoldHasher, Hash};
+use std::mem;
 
-/// Of equal items the first, in the order of the items (`java.util.stream.Stream`, `distinct`). `apply` moves the items; none is cloned.
+// Of equal items the first, in the order of the items. The items go into a set that is empty; none is cloned.
+fn first_ones<T: Value + Hash + Drop, S: BuildHasher + Drop>(
+    mut empty: IndexSet<T, S>,
+    items: Vec<T>,
+) -> Result<Vec<T>, NoMemory>
+    requires { empty.keys ≡ [] }
+    ensures { IfOk result (λ kept. map T.content kept.items ≡ distinct T.same (map T.content items.items)) }
+{
+    let alloc = *items.allocator();
+    empty.extend(items)?;
+    Ok(empty.into_iter().collect(alloc)?)
+}
+
+// So many of a leaf's items tell whether its others repeat.
+const SAMPLE: usize = 1 << 10;
+
+// Whether an item is the one at a place of a set.
+fn stands_at<T: Value + Hash, S: BuildHasher>(came: &IndexSet<T, S>, place: usize, x: &T) -> bool
+    ensures { result ≡ true → list_any (T.PartialEq.eq x.now) came.now.keys ≡ true }
+{
+    let known = came.as_slice();
+    place < known.len() && *x == known[place]
+}
+
+// The place of an item in a set. Items often come again in the order in which they came first, as remainders do. So an item is compared with the one
+// that is expected, and hashed only where that is another.
+fn place_of<T: Value + Hash, S: BuildHasher>(
+    came: &IndexSet<T, S>,
+    expected: usize,
+    x: &T,
+) -> Option<usize>
+    ensures { is_some result ≡ list_any (T.PartialEq.eq x.now) came.now.keys }
+{
+    if stands_at(came, expected, x) {
+        return Some(expected);
+    }
+    came.get_index_of(x)
+}
+
+// The items that didn't come.
+fn without_known<T: Value + Hash + Drop, S: BuildHasher>(
+    came: &IndexSet<T, S>,
+    items: Vec<T>,
+) -> Result<Vec<T>, NoMemory>
+    ensures { let came = λ (x : T). list_any (T.PartialEq.eq x) came.now.keys in
+        IfOk result (λ kept. kept.items ≡ filter (λ x. not (came x)) items.items) }
+{
+    let mut kept = Vec::new(*items.allocator());
+    let mut expected = 0;
+    for x in items {
+        if let Some(place) = place_of(came, expected, &x) {
+            expected = place.saturating_add(1);
+            continue;
+        }
+        kept.push(x)?;
+    }
+    Ok(kept)
+}
+
+// Where it pays, drops the items that came, and of equal ones all but the first. The set is empty.
+fn keep_new<T: Value + Hash + Drop, S: BuildHasher + Drop>(
+    came: &IndexSet<T, S>,
+    empty: IndexSet<T, S>,
+    items: Vec<T>,
+    pays: bool,
+) -> Result<Vec<T>, NoMemory>
+    requires { empty.keys ≡ [] }
+    ensures { let thinned = IsThinned None (distinct_after T.same (map T.content came.now.keys)) in
+        IfOk result (λ kept. thinned (map T.content items.items) (map T.content kept.items)) }
+{
+    if !pays {
+        return Ok(items);
+    }
+    let new = without_known(came, items)?;
+    first_ones(empty, new)
+}
+
+// Drops items that came, and of equal ones all but the first. Where most of a sample are new, the others stay as they are: a set of them would not pay.
+fn thin_distinct<T: Value + Hash + Drop, S: BuildHasher + Copy + Drop>(
+    came: &IndexSet<T, S>,
+    hashes: S,
+    items: &mut Vec<T>,
+) -> Result<(), NoMemory>
+    ensures { let thinned = IsThinned None (distinct_after T.same (map T.content came.now.keys)) in
+        OnOk result (thinned (map T.content items.old.items) (map T.content items.new.items)) }
+{
+    let alloc = *items.allocator();
+    let others = items.split_off(SAMPLE.min(items.len()))?;
+    let sample = mem::replace(items, Vec::new(alloc));
+    *items = keep_new(came, IndexSet::with_hasher(alloc, hashes), sample, true)?;
+    let pays = items.len() <= SAMPLE / 2;
+    let mut rest = keep_new(came, IndexSet::with_hasher(alloc, hashes), others, pays)?;
+    items.append(&mut rest)?;
+    Ok(())
+}
+
+// The items go into the set of those that came, and what is new there is cloned: an item that repeats is not.
+fn carry_distinct<T: Value + Hash + Clone + Drop, S: BuildHasher>(
+    came: &mut IndexSet<T, S>,
+    items: Vec<T>,
+) -> Result<Vec<T>, NoMemory>
+    requires { ClonesAlike T.is_clone T.content }
+    ensures { (more : List T.Content) → IfOk result (λ kept.
+        distinct_after T.same (map T.content came.old.keys) (map T.content items.items ++ more)
+        ≡ map T.content kept.items ++ distinct_after T.same (map T.content came.new.keys) more) }
+{
+    let alloc = *items.allocator();
+    let known = came.len();
+    came.extend(items)?;
+    Ok(Vec::from_clones(alloc, &came.as_slice()[known..])?)
+}
+
+/// Of equal items the first, in the order of the items (`java.util.stream.Stream`, `distinct`). `apply` moves the items; none is cloned. `S` hashes them.
 #[derive(Clone, Copy, Debug)]
-pub struct Distinct;
+pub struct Distinct<S = BuildHasherDefault<FoldHasher>> {
+    pub hashes: S,
+}
 
-impl<T: Value> Demand<T> for Distinct {
+impl Distinct {
+    /// Items are hashed by the fast hash of `IndexSet`.
+    pub fn new() -> Distinct {
+        Distinct::with_hasher(BuildHasherDefault::new())
+    }
+}
+
+impl<S> Distinct<S> {
+    /// Items are hashed by `hashes`, as by a `RandomState` where strangers choose the items.
+    pub fn with_hasher(hashes: S) -> Distinct<S>
+        ensures { result.hashes ≡ hashes }
+    {
+        Distinct { hashes }
+    }
+}
+
+impl<T: Value, S> Demand<T> for Distinct<S> {
     ghost needed = { λ _. None };
 
     ghost counted = { λ _. no_item };
@@ -33,9 +165,9 @@ impl<T: Value> Demand<T> for Distinct {
     }
 }
 
-impl<T: OrderedValue + Hash + Clone + Drop> Barrier<T> for Distinct {
+impl<T: OrderedValue + Hash + Clone + Drop, S: BuildHasher + Copy> Barrier<T> for Distinct<S> {
     /// Of the items that came the first ones, as clones.
-    type State = IndexSet<T>;
+    type State = IndexSet<T, S>;
 
     ghost value = { λ _. distinct T.same };
 
@@ -60,41 +192,40 @@ impl<T: OrderedValue + Hash + Clone + Drop> Barrier<T> for Distinct {
     fn apply(&self, items: Vec<T>) -> Result<Vec<T>, NoMemory>
         ensures { IfOk result (λ kept. map T.content kept.items ≡ distinct T.same (map T.content items.items)) }
     {
-        first_ones(IndexSet::new(*items.allocator()), items)
+        let empty = IndexSet::with_hasher(*items.allocator(), self.hashes);
+        first_ones(empty, items)
     }
 
     fn operation(&self) -> Operation {
         Operation::Distinct
     }
 
-    fn size_after(&self, _size: Option<u64>) -> Option<u64>
-        ensures { result ≡ None }
-    {
+    fn size_after(&self, _size: Option<u64>) -> Option<u64> {
         None
     }
 
-    fn fresh(&self, alloc: Global) -> IndexSet<T> {
-        IndexSet::new(alloc)
+    fn fresh(&self, alloc: Global) -> IndexSet<T, S> {
+        IndexSet::with_hasher(alloc, self.hashes)
     }
 
-    fn need_behind(&self, _state: &IndexSet<T>) -> Need {
+    fn need_behind(&self, _state: &IndexSet<T, S>) -> Need {
         Need::Never
     }
 
-    fn thins(&self, state: &IndexSet<T>) -> bool {
+    fn thins(&self, state: &IndexSet<T, S>) -> bool {
         !state.is_empty()
     }
 
-    fn thin(&self, state: &IndexSet<T>, items: &mut Vec<T>) -> Result<(), NoMemory>
+    fn thin(&self, state: &IndexSet<T, S>, items: &mut Vec<T>) -> Result<(), NoMemory>
         ensures { let thinned = IsThinned None (distinct_after T.same (map T.content state.now.keys)) in
             OnOk result (thinned (map T.content items.old.items) (map T.content items.new.items)) }
     {
-        thin_distinct(state, BuildHasherDefault::new(), items)
+        thin_distinct(state, self.hashes, items)
     }
 
     fn carry(
         &self,
-        state: &mut IndexSet<T>,
+        state: &mut IndexSet<T, S>,
         items: Vec<T>,
         _is_cut: bool,
     ) -> Result<Vec<T>, NoMemory>

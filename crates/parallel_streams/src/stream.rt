@@ -460,7 +460,7 @@ pub trait Stream {
     {
         Barred {
             upstream: self,
-            barrier: Distinct,
+            barrier: Distinct::new(),
         }
     }
 

@@ -7,7 +7,7 @@ ghost use Rattle.pipeline_meaning.specs.Walks.{one_after_other};
 ghost use Rattle.pipeline_value.specs.Barriers.{BarrierFits, IsReady, barrier_list};
 
 use crate::language_stages::LanguageStage;
-use barriers::{AnyBarrier, Barrier, Demand, DistinctWith, DropWhile, Limit, Skip, TakeWhile};
+use barriers::{AnyBarrier, Barrier, Demand, Distinct, DropWhile, Limit, Skip, TakeWhile};
 use chained_streams::Link;
 use pipeline_language::Barrier as Line;
 use pipeline_meaning::SeededHashes;
@@ -39,7 +39,7 @@ where
     ensures can { ⟦<LanguageBarrier<K> as Barrier<T>>⟧.can_carry result }
 {
     match barrier {
-        Line::Distinct => AnyBarrier::Distinct(DistinctWith::new(hashes)),
+        Line::Distinct => AnyBarrier::Distinct(Distinct::with_hasher(hashes)),
         Line::Limit(most) => AnyBarrier::Limit(Limit::new(most)),
         Line::Skip(number) => AnyBarrier::Skip(Skip::new(number)),
         Line::TakeWhile(test) => AnyBarrier::TakeWhile(TakeWhile::new(test)),

@@ -91,9 +91,9 @@ static APART: [(&[i64], &[i64]); 2] = [(&[3, 1, 3, 2, 1], &[3, 1, 2]), (&[], &[]
 #[test]
 fn equal_items_stand_once(rt: HostRuntime) -> Result<(), NoMemory> {
     for &(items, kept) in &APART {
-        check(&rt, &Distinct, items, kept)?;
+        check(&rt, &Distinct::new(), items, kept)?;
     }
-    let texts = value_of(rt.alloc(), &Distinct, &["b", "a", "b", "", "a", ""])?;
+    let texts = value_of(rt.alloc(), &Distinct::new(), &["b", "a", "b", "", "a", ""])?;
     assert!(rt; texts.as_slice() == ["b", "a", ""].as_slice());
     Ok(())
 }
@@ -193,7 +193,7 @@ fn demands_say_how_much_is_enough(rt: HostRuntime) {
             (Need::Never, none),
         ),
         (demand_of(&Skip::new(4)), (Need::Never, none)),
-        (demand_of(&Distinct), (Need::Never, none)),
+        (demand_of(&Distinct::new()), (Need::Never, none)),
     ];
     for (found, wanted) in rows {
         assert!(rt; found == wanted, "{:?}", wanted.1);

@@ -3,7 +3,7 @@ ghost use Rattle.std.specs.Prelude.{IfOk, map};
 ghost use Rattle.barriers.specs.Needs.{IsToldBy};
 
 use barriers::{
-    AnyBarrier, AnyState, Barrier, Behind, Demand, Distinct, DistinctWith, DropWhile, Limit, Need,
+    AnyBarrier, AnyState, Barrier, Behind, Demand, Distinct, DropWhile, Limit, Need,
     Skip, TakeWhile,
 };
 use parts::Below;
@@ -129,7 +129,7 @@ fn a_while_ends_in_one_part(rt: HostRuntime) -> Result<(), NoMemory> {
 #[test]
 fn an_item_of_an_earlier_part_stands_once(rt: HostRuntime) -> Result<(), NoMemory> {
     for &items in &LISTS {
-        check_cuts(&rt, &Distinct, items, &first_ones(rt.alloc(), items)?)?;
+        check_cuts(&rt, &Distinct::new(), items, &first_ones(rt.alloc(), items)?)?;
     }
     Ok(())
 }
@@ -151,14 +151,15 @@ static THINNED: [(i64, usize); 5] = [(5, 0), (10, 0), (100, 180), (600, 4_566), 
 fn what_came_and_what_repeats_is_thinned(rt: HostRuntime) -> Result<(), NoMemory> {
     let alloc = rt.alloc();
     for &(by, left) in &THINNED {
-        let mut came = Distinct.fresh(alloc);
-        assert!(rt; !Barrier::<i64>::thins(&Distinct, &came));
-        Distinct.carry(&mut came, remainders(alloc, 10, 10)?, false)?;
-        assert!(rt; Barrier::<i64>::thins(&Distinct, &came));
+        let distinct = Distinct::new();
+        let mut came = distinct.fresh(alloc);
+        assert!(rt; !Barrier::<i64>::thins(&distinct, &came));
+        distinct.carry(&mut came, remainders(alloc, 10, 10)?, false)?;
+        assert!(rt; Barrier::<i64>::thins(&distinct, &came));
         let mut items = remainders(alloc, 5_000, by)?;
-        Distinct.thin(&came, &mut items)?;
+        distinct.thin(&came, &mut items)?;
         assert!(rt; items.len() == left, "{by}: {}", items.len());
-        let new = Distinct.carry(&mut came, items, false)?;
+        let new = distinct.carry(&mut came, items, false)?;
         let wanted: Vec<i64> = (10..by).collect(alloc)?;
         assert!(rt; new == wanted, "{by}");
     }
@@ -176,9 +177,10 @@ fn texts(alloc: Global, words: &[&str]) -> Result<Vec<String>, NoMemory> {
 #[test]
 fn an_owned_text_of_an_earlier_part_stands_once(rt: HostRuntime) -> Result<(), NoMemory> {
     let alloc = rt.alloc();
-    let mut came = Distinct.fresh(alloc);
-    let first = Distinct.carry(&mut came, texts(alloc, &["b", "a", "b"])?, false)?;
-    let second = Distinct.carry(&mut came, texts(alloc, &["a", "c", "", "b"])?, false)?;
+    let distinct = Distinct::new();
+    let mut came = distinct.fresh(alloc);
+    let first = distinct.carry(&mut came, texts(alloc, &["b", "a", "b"])?, false)?;
+    let second = distinct.carry(&mut came, texts(alloc, &["a", "c", "", "b"])?, false)?;
     assert!(rt; first == texts(alloc, &["b", "a"])?);
     assert!(rt; second == texts(alloc, &["c", ""])?);
     Ok(())
@@ -244,7 +246,7 @@ fn a_state_tells_what_is_still_needed(rt: HostRuntime) -> Result<(), NoMemory> {
             (Need::Never, false, true),
         ),
         (
-            told_behind(alloc, &Distinct, &[1])?,
+            told_behind(alloc, &Distinct::new(), &[1])?,
             (Need::Never, false, false),
         ),
     ];
@@ -261,7 +263,7 @@ fn a_barrier_chosen_at_run_time_goes_across_parts(rt: HostRuntime) -> Result<(),
     let hashes = BuildHasherDefault::new();
     let rows: [(AnyOfNumbers, &[i64]); 5] = [
         (
-            AnyBarrier::Distinct(DistinctWith::new(hashes)),
+            AnyBarrier::Distinct(Distinct::with_hasher(hashes)),
             &[1, 2, 5, 4],
         ),
         (AnyBarrier::Limit(Limit::new(4)), &[1, 2, 5, 1]),

@@ -2,7 +2,7 @@ use Rattle.std.proofs.Common.{◌≡◌, [], map, fold, ap, ◌∙◌, rules}
 use Rattle.indexmap.specs.IndexSet.{insert_key}
 use Rattle.indexmap.proofs.CallerLemmas.{Drains-YieldsInOrder}
 use Rattle.barriers.proofs.Kept.{kept-distinct}
-use Rattle.barriers.proofs.distinct_with.first_ones.Goals as goal
+use Rattle.barriers.proofs.distinct.first_ones.Goals as goal
 
 pub returns : goal.returns
 returns g c =

@@ -2,7 +2,7 @@ use Rattle.std.proofs.Common.{◌≡◌, ◌++◌, List, None, map, subst, sym, 
 use Rattle.std.proofs.lemmas.List.{map-append, take-append-drop}
 use Rattle.stages.specs.Distinct.{distinct_after}
 use Rattle.barriers.specs.Thinned.{IsThinned, thinned-both}
-use Rattle.barriers.proofs.distinct_with.thin_distinct.Goals as goal
+use Rattle.barriers.proofs.distinct.thin_distinct.Goals as goal
 
 pub returns : goal.returns
 returns g c =

@@ -1,6 +1,6 @@
 use Rattle.std.proofs.Common.{◌≡◌, ◌++◌, filter, not}
 use Rattle.std.specs.List.{list_any}
-use Rattle.barriers.proofs.distinct_with.without_known.Given as goal
+use Rattle.barriers.proofs.distinct.without_known.Given as goal
 
 -- what is kept, followed by what didn't come of what is left, is what didn't come of all
 abbrev pub invariant-loop-x : goal.invariant-loop-x

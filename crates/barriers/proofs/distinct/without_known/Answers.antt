@@ -1,7 +1,7 @@
 use Rattle.std.proofs.Common.{◌≡◌, ◌++◌, ◌∷◌, [], Bool, List, append-nil, append_assoc, cond, filter, not, true, false, ap, sym, ◌∙◌, rules}
 use Rattle.std.specs.List.{list_any}
 use Rattle.std.proofs.lemmas.List.{nil_from_length}
-use Rattle.barriers.proofs.distinct_with.without_known.Goals as goal
+use Rattle.barriers.proofs.distinct.without_known.Goals as goal
 
 pub loop-x-preserved-in-Some-place_of : goal.loop-x-preserved-in-Some-place_of
 loop-x-preserved-in-Some-place_of g c =

@@ -1,5 +1,5 @@
 use Rattle.barriers.proofs.Kept.{new-thinned}
-use Rattle.barriers.proofs.distinct_with.keep_new.Goals as goal
+use Rattle.barriers.proofs.distinct.keep_new.Goals as goal
 
 pub returns : goal.returns
 returns g c =

@@ -3,7 +3,7 @@ use Rattle.indexmap.specs.IndexSet.{insert_key}
 use Rattle.indexmap.proofs.CallerLemmas.{Drains-YieldsInOrder}
 use Rattle.spliterator.specs.Clones.{clones-contents}
 use Rattle.barriers.proofs.Kept.{all-behind, distinct-goes_on, known-within}
-use Rattle.barriers.proofs.distinct_with.carry_distinct.Goals as goal
+use Rattle.barriers.proofs.distinct.carry_distinct.Goals as goal
 
 -- what the set had is a front of it
 within : (g : _) (c : goal.After-as_slice g) → c.len-known.result ≤ length c.as_slice.result.now
