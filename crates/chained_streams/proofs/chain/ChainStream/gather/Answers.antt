@@ -54,7 +54,7 @@ returns-in_ok-places-in-Own-clause-left g c = λ waits.
     let old = B.value_behind link.barrier state in
     let items = map content c.in_ok-items-in-Own.items.items in
     let front = map content c.in-Own.pieces in
-    let carried : (more : List _) → old (front ++ more) ≡ items ++ B.value_behind link.barrier new more = λ more. ap (λ l. old (map content l ++ more)) (sym c.in_ok-list-in-Own.ensures) ∙ c.in_ok-items-in-Own.ensures more in
+    let carried : (more : List _) → old (front ++ more) ≡ items ++ B.value_behind link.barrier new more = λ more. ap (λ l. old (map content l ++ more)) (sym c.in_ok-list-in-Own.ensures) ∙ c.in_ok-items-in-Own.ensures.goes_on more in
     let law = carried-link (B.needed_behind link.barrier state) (g.B.Demand.counted link.barrier) (g.A.Stage.expand link.stage) old (B.value_behind link.barrier new)
     (g.met.B.Barrier.enough_behind link.barrier state) (joined lists) front items kept.1 carried in
     let step = link_behind g.A.Stage.expand B.value_behind in
@@ -86,7 +86,7 @@ returns-in_ok-places-in-Own-clause-planned g c = λ waits planned.
     let old = B.value_behind link.barrier state in
     let items = map content c.in_ok-items-in-Own.items.items in
     let front = map content c.in-Own.pieces in
-    let carried : (more : List _) → old (front ++ more) ≡ items ++ B.value_behind link.barrier new more = λ more. ap (λ l. old (map content l ++ more)) (sym c.in_ok-list-in-Own.ensures) ∙ c.in_ok-items-in-Own.ensures more in
+    let carried : (more : List _) → old (front ++ more) ≡ items ++ B.value_behind link.barrier new more = λ more. ap (λ l. old (map content l ++ more)) (sym c.in_ok-list-in-Own.ensures) ∙ c.in_ok-items-in-Own.ensures.goes_on more in
     let law = carried-link (B.needed_behind link.barrier state) (g.B.Demand.counted link.barrier) (g.A.Stage.expand link.stage) old (B.value_behind link.barrier new)
     (g.met.B.Barrier.enough_behind link.barrier state) (joined lists) front items kept.1 carried in
     let step = link_behind g.A.Stage.expand B.value_behind in

@@ -41,7 +41,7 @@ returns-clause-left g c = λ waits.
     let kept = kept-own (U.work s.upstream p) g.U.Item.Value.is_value needed counted content lists (U.done s.upstream p) c.args.part c.in-Own.pieces c.args.entry.now c.in-Own.is c.requires.part c.requires.entry in
     let front = map content c.in-Own.pieces in
     let items = map content c.in_ok-items-in-Own.items.items in
-    let carried : (more : List _) → old (front ++ more) ≡ items ++ now more = λ more. ap (λ l. old (map content l ++ more)) (sym c.in_ok-list-in-Own.ensures) ∙ c.in_ok-items-in-Own.ensures more in
+    let carried : (more : List _) → old (front ++ more) ≡ items ++ now more = λ more. ap (λ l. old (map content l ++ more)) (sym c.in_ok-list-in-Own.ensures) ∙ c.in_ok-items-in-Own.ensures.goes_on more in
     let on = goes-on needed counted old now (g.met.B.Barrier.enough_behind s.barrier c.args.progress.state) (joined lists) front items kept.1 carried behind in
     let split = g.met.U.Stream.parts_law s.upstream p c.requires.holds.0 kept.0 in
     sym on ∙ ap old (sym split) ∙ sym (left-unlisted content old (U.left s.upstream p) behind c.args.progress.listed (unready-unlisted c.args.progress.passes (U.done s.upstream p) c.args.progress.listed waits))
@@ -64,7 +64,7 @@ returns-clause-planned g c = λ waits planned.
     let kept = kept-own (U.work s.upstream p) g.U.Item.Value.is_value needed counted content lists (U.done s.upstream p) c.args.part c.in-Own.pieces c.args.entry.now c.in-Own.is c.requires.part c.requires.entry in
     let front = map content c.in-Own.pieces in
     let items = map content c.in_ok-items-in-Own.items.items in
-    let carried : (more : List _) → old (front ++ more) ≡ items ++ now more = λ more. ap (λ l. old (map content l ++ more)) (sym c.in_ok-list-in-Own.ensures) ∙ c.in_ok-items-in-Own.ensures more in
+    let carried : (more : List _) → old (front ++ more) ≡ items ++ now more = λ more. ap (λ l. old (map content l ++ more)) (sym c.in_ok-list-in-Own.ensures) ∙ c.in_ok-items-in-Own.ensures.goes_on more in
     let unlisted = unready-unlisted c.args.progress.passes (U.done s.upstream p) c.args.progress.listed waits in
     let fresh = fresh-unlisted content (g.B.Demand.needed s.barrier) needed value old (U.value s.upstream) workers target c.args.progress.passes c.args.progress.listed unlisted planned.1 in
     let is = kept-value needed counted old now (g.met.B.Barrier.enough_behind s.barrier c.args.progress.state) (joined lists) front items kept.1 carried value fresh.1 (g.met.B.Barrier.of_nothing s.barrier c.carry.new.state) in
