@@ -26,11 +26,11 @@ IsPartBy gives [] s t = s ≡ t
 IsPartBy {S} gives (true ∷ path) s t = (part rest : S) × gives s (Some part) rest × IsPartBy gives path part t
 IsPartBy {S} gives (false ∷ path) s t = (part rest : S) × gives s (Some part) rest × IsPartBy gives path rest t
 
--- The source tells exact sizes, also of its parts, and it and each of them splits where it has two items.
+-- The source tells exact sizes, also of its parts, and it and each of them splits where it has more items than a first segment.
 pub record SplitsFinely {S : Type 0} (estimate told : S → ℕ) (gives : S → Option S → S → Type 0) (s : S) : Type 0 where
   pub sized : IsTrue (tells_sized (told s))
   pub subsized : IsTrue (tells_subsized (told s))
-  pub splits : (path : List Bool) (t rest : S) → IsPartBy gives path s t → gives t None rest → estimate t ≤ 1
+  pub splits : (path : List Bool) (t rest : S) → IsPartBy gives path s t → gives t None rest → estimate t ≤ first_segment
 
 abbrev pub Each : {X : Type 0} → (X → Type 0) → List X → Type 0
 Each P [] = Unit {0}

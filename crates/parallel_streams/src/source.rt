@@ -76,7 +76,7 @@ fn split_front<S: Spliterator>(source: S, most: u64, rest: &mut Vec<S>) -> Resul
     ensures fine { let fine = SplitsFinely S.estimate S.told S.split_gives in
         fine source → Each fine rest.old.items → IfOk result (λ front. fine front × Each fine rest.new.items) }
     ensures short { let fine = SplitsFinely S.estimate S.told S.split_gives in
-        fine source → IfOk result (λ front. S.estimate front ≤ max most 1) }
+        fine source → IfOk result (λ front. S.estimate front ≤ max most first_segment) }
 {
     let mut front = source;
     while front.estimate_size() > most {
