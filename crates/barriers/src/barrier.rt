@@ -61,7 +61,8 @@ pub trait Barrier<T: OrderedValue>: Demand<T> {
 
     /// Whether what is still to come is left as it is, and no number of items is needed of it. No is no promise.
     fn lets_pass(&self, _state: &Self::State) -> bool
-        ensures passes { result ≡ true → (more : List T.Content) → value_behind self.now _state.now more ≡ more }
+        ensures passes { result ≡ true
+            → (more : List T.Content) → value_behind self.now _state.now more ≡ more }
         ensures asks_nothing { result ≡ true → needed_behind self.now _state.now ≡ None }
     {
         false
@@ -82,7 +83,8 @@ pub trait Barrier<T: OrderedValue>: Demand<T> {
         ensures goes_on { (more : List T.Content) → IfOk result (λ kept.
             value_behind self.now state.old (map T.content items.items ++ more)
             ≡ map T.content kept.items ++ value_behind self.now state.new more) }
-        ensures lessened { let came = count_by (Self.counted self.now) (map T.content items.items) in
+        ensures lessened { let contents = map T.content items.items in
+            let came = count_by (Self.counted self.now) contents in
             let needed = less_needed (needed_behind self.now state.old) came in
             IfOk result (λ _. needed_behind self.now state.new ≡ needed) };
 

@@ -107,8 +107,8 @@ impl<X: Stream, D: Demand<X::Item>, C: Collector<Item = X::Item>> LeafJob
     }
 }
 
-// Promises of the lists of the last run's leaves that they are the segment's items, end to end, which are read then; and where the segment is the whole, that they are
-// the stream's, how they are cut, and that the entries so far are all.
+// Promises of the lists of the last run's leaves that they are the segment's items, end to end, which are read then; and where the segment is the
+// whole, that they are the stream's, how they are cut, and that the entries so far are all.
 fn promise_whole<X: Stream>(_stream: &X, _progress: &X::Progress)
     requires holds { X.holds _stream.now _progress.now }
     requires done { X.done _stream.now _progress.now ≡ true }

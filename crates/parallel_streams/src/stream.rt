@@ -88,7 +88,7 @@ pub trait Stream {
 
     ghost waiting: { Self → Self.Progress → ℕ };
 
-    // what the stream gives of the first so many items of its source, and whether these decide: some barrier needs no more than what comes of them
+    // what the stream gives of the first so many items of its source, and whether these decide: some barrier needs no more than comes of them
     ghost front: { Self → ℕ → List Self.Item.Content };
 
     ghost decided: { Self → ℕ → Type 0 };
@@ -102,7 +102,8 @@ pub trait Stream {
     // so many items of the source are in the segments up to the present one, and the barriers' states stand behind what comes of them
     ghost read: { Self → Self.Progress → ℕ → Type 0 };
 
-    // so many are in the segments before the present one, and with it; the states of the barriers that have run stand behind the latter, the others' behind the former
+    // so many are in the segments before the present one, and with it; the states of the barriers that have run stand behind what comes of the latter,
+    // the others' behind what comes of the former
     ghost reads: { Self → Self.Progress → ℕ → ℕ → Type 0 };
 
     // the number of leaves of the next run
@@ -166,7 +167,8 @@ pub trait Stream {
         requires { ready self.now }
         ensures last { result ≡ true → behind self.now progress.now ≡ [] }
         ensures later { result ≡ false → 0 < still self.now progress.now }
-        ensures undecided { result ≡ false → (n : ℕ) → read self.now progress.now n → decided self.now n → ⊥ };
+        ensures undecided { result ≡ false → (n : ℕ) → read self.now progress.now n
+            → decided self.now n → ⊥ };
 
     /// The segment behind the present one, cut into leaves. Its source estimates it at most `most` items, as far as it splits. Where it tells exact
     /// sizes, it has at most twice as many as were read, or 4,096.
@@ -184,8 +186,8 @@ pub trait Stream {
         ensures holds { IfOk result (holds self.now) }
         ensures left { IfOk result (λ next. left self.now next ≡ behind self.now progress) }
         ensures still { IfOk result (λ next. still self.now next < still self.now progress) }
-        ensures reads { (n : ℕ) → read self.now progress n
-            → IfOk result (λ next. (to : ℕ) × reads self.now next n to × (fine self.now → to ≤ most_read n)) };
+        ensures reads { (n : ℕ) → read self.now progress n → IfOk result (λ next. (to : ℕ)
+            × reads self.now next n to × (fine self.now → to ≤ most_read n)) };
 
     /// The number of items of the present segment, as far as it is known. It is no promise.
     fn segment_size(&self, _progress: &Self::Progress) -> Option<u64> {
@@ -264,7 +266,8 @@ pub trait Stream {
         ensures left { done self.now progress ≡ false
             → IfOk result (λ after. left self.now after ≡ left self.now progress) }
         ensures still { IfOk result (λ after. still self.now after ≡ still self.now progress) }
-        ensures reads { done self.now progress ≡ false → (from to : ℕ) → reads self.now progress from to
+        ensures reads { done self.now progress ≡ false
+            → (from to : ℕ) → reads self.now progress from to
             → IfOk result (λ after. reads self.now after from to) }
         ensures planned { done self.now progress ≡ false → planned self.now workers target progress
             → IfOk result (planned self.now workers target) }
