@@ -1,11 +1,11 @@
--- What barriers make of two lists, one behind the other.
+-- What barriers make of two lists, one behind the other, and what they need behind the first.
 use Rattle.std.proofs.Common.{◌≡◌, ◌+◌, ◌-◌, ◌<◌, ◌==◌, ℕ, zero, suc, min, not, Bool, true, false, cond, Some, List, [], ◌∷◌, ◌++◌, take, drop, take_while, length, count_by, ap, ◌∙◌, sym, arith, refl, append-nil}
 use Rattle.std.specs.List.{prefix_len}
 use Rattle.std.proofs.lemmas.List.{length-take}
 use Rattle.std.proofs.lemmas.List.Sums.{take_while-cons}
 use Rattle.std.proofs.lemmas.Bool.{eqb-true, eqb-false}
-use Rattle.barriers.specs.Needs.{IsToldBy}
-use Rattle.barriers.specs.NeedLaws.{KeepsEnough-take_while, take_while-not, before-last, count-cons}
+use Rattle.barriers.specs.Needs.{IsToldBy, every_item, less_needed}
+use Rattle.barriers.specs.NeedLaws.{KeepsEnough-take_while, take_while-not, before-last, count-cons, count-every_item}
 use Rattle.barriers.specs.Whiles.{drop_while, taken_while, left_while}
 
 take-both : {X : Type 0} (n : ℕ) (l r : List X) → take n (l ++ r) ≡ take n l ++ take (n - length l) r
@@ -26,6 +26,12 @@ limit-goes_on most left items kept more is lessened =
     let taken : length kept ≡ min most (length items) = ap length is ∙ length-take most items in
     let same : most - length items ≡ left = omega (arith, taken, lessened) in
     take-both most items more ∙ ap (λ k. take most items ++ take k more) same ∙ ap (λ t. t ++ take left more) (sym is)
+
+pub limit-lessened : {X : Type 0} (most left : ℕ) (items kept : List X) → kept ≡ take most items → left ≡ most - length kept
+    → Some left ≡ less_needed (Some most) (count_by every_item items)
+limit-lessened most left items kept is lessened =
+    let taken : length kept ≡ min most (length items) = ap length is ∙ length-take most items in
+    ap Some (omega (arith, taken, lessened, count-every_item items))
 
 pub skip-goes_on : {X : Type 0} (number left : ℕ) (items kept more : List X) → kept ≡ drop number items → left ≡ number - length items
     → drop number (items ++ more) ≡ kept ++ drop left more
@@ -120,3 +126,22 @@ module _ {X : Type 0} (p : X → Bool) where
       by false apart =
           let some : 0 < length kept = let e = eqb-false n 0 apart in omega (arith, e, counts) in
           dropped-front items more (omega (arith, left, some)) ∙ ap (λ l. l ++ more) (sym is)
+
+-- a closed while needs nothing, and an open one an item that fails the test, until one came
+pub needs-closed : (is_open : Bool) (came : ℕ) → is_open ≡ false → Some (cond is_open 1 0) ≡ less_needed (Some (cond is_open 1 0)) came
+needs-closed true came closed = absurd cc
+needs-closed false came closed = ap Some (omega arith)
+
+module _ {X : Type 0} (counted : X → Bool) (is_open is_cut : Bool) (items : List X) (opened : is_open ≡ true) (told : IsToldBy (Some (cond is_open 1 0)) counted items is_cut) where
+  one : Some (cond {A = ℕ} is_open 1 0) ≡ Some 1
+  one = ap (λ b. Some (cond b 1 0)) opened
+
+  pub needs-cut : is_cut ≡ true → Some (cond false 1 0) ≡ less_needed (Some (cond is_open 1 0)) (count_by counted items)
+  needs-cut cut =
+      let some = told.some cut one in
+      ap Some (omega (arith, some)) ∙ ap (λ n. less_needed n (count_by counted items)) (sym one)
+
+  pub needs-open : is_cut ≡ false → Some (cond is_open 1 0) ≡ less_needed (Some (cond is_open 1 0)) (count_by counted items)
+  needs-open uncut =
+      let none = told.none uncut one in
+      one ∙ ap Some (omega (arith, none)) ∙ ap (λ n. less_needed n (count_by counted items)) (sym one)

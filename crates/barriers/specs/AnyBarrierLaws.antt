@@ -1,5 +1,6 @@
 -- The laws of one of the barriers, which is chosen at run time: those of that barrier.
-use Rattle.std.specs.Prelude.{◌≡◌, ℕ, Bool, not, [], map, drop, Option, refl}
+use Rattle.std.specs.Prelude.{◌≡◌, ℕ, Bool, not, List, [], map, drop, Option, Result, IfOk, count_by, refl}
+use Rattle.std.proofs.Common.{subst, sym}
 use Rattle.std.specs.declared.cmp.Ordering.{Ordering}
 use Rattle.spliterator.specs.Values.{DecidesEquality}
 use Rattle.stages.specs.Distinct.{distinct, distinct_after}
@@ -9,7 +10,7 @@ use Rattle.barriers.specs.declared.any_barrier.AnyBarrier.TheVariants.{Distinct,
 use Rattle.barriers.specs.declared.any_barrier.AnyState.{AnyState}
 use Rattle.barriers.specs.declared.any_barrier.AnyState.TheVariants as states
 use Rattle.barriers.specs.declared.whiles.TakeWhile.{TakeWhile as OneTakeWhile}
-use Rattle.barriers.specs.Needs.{no_item, KeepsEnough}
+use Rattle.barriers.specs.Needs.{less_needed, no_item, KeepsEnough}
 use Rattle.barriers.specs.NeedLaws.{KeepsEnough-never, KeepsEnough-take, KeepsEnough-take_while}
 use Rattle.barriers.specs.Parts.{take-nothing, drop-nothing, taken-nothing, left-nothing}
 use Rattle.barriers.specs.BarrierFlags.{KeepsSound-distinct, KeepsSound-take, KeepsSound-drop, KeepsSound-take_while, KeepsSound-drop_while}
@@ -50,3 +51,11 @@ module _ {P S X : Type 0} (same : X → X → Bool) (holds : P → X → Bool) w
     KeepsEnough-any_behind while_needed law (TakeWhile b) (states.TakeWhile is_open) = law b is_open
     KeepsEnough-any_behind while_needed law (DropWhile b) (states.DropWhile is_dropping) = KeepsEnough-never no_item (left_while is_dropping (holds b.test))
     KeepsEnough-any_behind while_needed law _ _ = λ front more enough. refl
+
+-- what a carry says of the barrier and the state that are told apart, it says of these
+module _ {P S T Hasher X R E : Type 0} (while_needed : OneTakeWhile P → Bool → Option ℕ) (holds : P → X → Bool) (new : AnyState T S Hasher) (items : List X) (r : Result R E) where
+  abbrev Lessened : AnyBarrier P S → AnyState T S Hasher → Type 0
+  Lessened b state = IfOk r (λ _. any_needed_behind while_needed b new ≡ less_needed (any_needed_behind while_needed b state) (count_by (any_counted holds b) items))
+
+  pub lessened-any : (b is_b : AnyBarrier P S) (state is_state : AnyState T S Hasher) → b ≡ is_b → state ≡ is_state → Lessened is_b is_state → Lessened b state
+  lessened-any b is_b state is_state is of h = subst (λ a. Lessened a state) (sym is) (subst (λ s. Lessened is_b s) (sym of) h)

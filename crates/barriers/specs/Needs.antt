@@ -1,5 +1,5 @@
 -- How much of a list is enough.
-use Rattle.std.specs.Prelude.{◌≡◌, ◌<◌, ◌≤◌, ◌⊎◌, ℕ, Bool, true, false, List, [], ◌++◌, Option, Some, None, count_by, take, length}
+use Rattle.std.specs.Prelude.{◌≡◌, ◌<◌, ◌≤◌, ◌-◌, ◌⊎◌, ℕ, Bool, true, false, List, [], ◌++◌, Option, Some, None, count_by, take, length}
 use Rattle.barriers.specs.declared.demand.Need.{Need}
 use Rattle.barriers.specs.declared.demand.Need.TheVariants.{Never, Reach}
 
@@ -21,6 +21,11 @@ CountsNone (Some r) counted = Unit {0}
 abbrev pub Reaches : Option ℕ → ℕ → Type 0
 Reaches None n = ⊥
 Reaches (Some r) n = r ≤ n
+
+-- how many counting items are needed behind so many
+abbrev pub less_needed : Option ℕ → ℕ → Option ℕ
+less_needed None n = None
+less_needed (Some r) n = Some (r - n)
 
 -- the list has enough counting items
 abbrev pub IsEnough : {T : Type 0} → Option ℕ → (T → Bool) → List T → Type 0

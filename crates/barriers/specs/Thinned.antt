@@ -1,7 +1,7 @@
 -- Lists that make the same difference to a barrier.
-use Rattle.std.specs.Prelude.{◌≡◌, ℕ, Bool, List, [], ◌++◌, Option, Some, None, refl}
+use Rattle.std.specs.Prelude.{◌≡◌, ℕ, Bool, List, [], ◌++◌, Option, Some, None, count_by, refl}
 use Rattle.std.proofs.Common.{ap, ap₂, ◌∙◌, sym, subst, append_assoc}
-use Rattle.barriers.specs.Needs.{IsToldBy}
+use Rattle.barriers.specs.Needs.{IsToldBy, less_needed}
 
 -- What is kept of a list makes the difference that the list makes, whatever stands before it and behind it. Where a number of items is needed, all is kept.
 abbrev pub IsThinned : {C : Type 0} → Option ℕ → (List C → List C) → List C → List C → Type 0
@@ -39,3 +39,8 @@ module _ {C : Type 0} (value : List C → List C) where
     last = λ one n within. absurd cc;
   }
   thinned-told (Some n) counted whole kept is_cut same told = subst (λ l. IsToldBy (Some n) counted l is_cut) (sym same) told
+
+  -- nor does it matter to how many are still needed
+  pub thinned-less : (needed : Option ℕ) (counted : C → Bool) (whole kept : List C) → IsThinned needed value whole kept → less_needed needed (count_by counted kept) ≡ less_needed needed (count_by counted whole)
+  thinned-less None counted whole kept thinned = refl
+  thinned-less (Some n) counted whole kept same = ap (λ l. less_needed (Some n) (count_by counted l)) same

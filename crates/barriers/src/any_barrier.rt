@@ -69,9 +69,9 @@ impl<T: Value, P: Test<T>, S> Demand<T> for AnyBarrier<P, S> {
 /// With a state of another barrier, which none of its own calls makes, the barrier is over: nothing is left of what comes.
 impl<T: OrderedValue + Hash + Clone + Drop, P: Test<T>, S: BuildHasher + Copy> Barrier<T>
     for AnyBarrier<P, S> {
-    ghost use Rattle.std.specs.Prelude.{◌≡◌, ◌++◌, List, IfOk, OnOk, map};
+    ghost use Rattle.std.specs.Prelude.{◌≡◌, ◌++◌, List, IfOk, OnOk, count_by, map};
     ghost use Rattle.spliterator.specs.Clones.{ClonesAlike};
-    ghost use Rattle.barriers.specs.Needs.{IsToldBy};
+    ghost use Rattle.barriers.specs.Needs.{IsToldBy, less_needed};
     ghost use Rattle.barriers.specs.Thinned.{IsThinned};
     ghost use Rattle.barriers.specs.Parts.{KeepsEnough-taken_while};
     ghost use Rattle.barriers.specs.AnyBarriers.{any_ready, any_counted, any_value, any_operation, any_size_after, any_can_carry, any_needed_behind, any_value_behind};
@@ -227,24 +227,29 @@ impl<T: OrderedValue + Hash + Clone + Drop, P: Test<T>, S: BuildHasher + Copy> B
             (more : List T.Content) → IfOk result (λ kept.
             left state.old (map T.content items.items ++ more)
             ≡ map T.content kept.items ++ left state.new more) }
+        ensures lessened { let needed = any_needed_behind ⟦<TakeWhile<P> as Barrier<T>>⟧.needed_behind self.now in
+            let came = count_by (any_counted P.holds self.now) (map T.content items.items) in
+            IfOk result (λ _. needed state.new ≡ less_needed (needed state.old) came) }
     {
         match (self, state) {
             (AnyBarrier::Distinct(barrier), AnyState::Distinct(came)) => {
-                barrier.carry(came, items, is_cut)
+                return barrier.carry(came, items, is_cut);
             }
             (AnyBarrier::Limit(barrier), AnyState::Limit(left)) => {
-                barrier.carry(left, items, is_cut)
+                return barrier.carry(left, items, is_cut);
             }
-            (AnyBarrier::Skip(barrier), AnyState::Skip(left)) => barrier.carry(left, items, is_cut),
+            (AnyBarrier::Skip(barrier), AnyState::Skip(left)) => {
+                return barrier.carry(left, items, is_cut);
+            }
             (AnyBarrier::TakeWhile(barrier), AnyState::TakeWhile(is_open)) => {
-                barrier.carry(is_open, items, is_cut)
+                return barrier.carry(is_open, items, is_cut);
             }
             (AnyBarrier::DropWhile(barrier), AnyState::DropWhile(is_dropping)) => {
-                barrier.carry(is_dropping, items, is_cut)
+                return barrier.carry(is_dropping, items, is_cut);
             }
             _ => {
                 items.clear();
-                Ok(items)
+                return Ok(items);
             }
         }
     }

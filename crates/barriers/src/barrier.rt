@@ -1,8 +1,8 @@
 //! Operations that look at a whole list.
-ghost use Rattle.std.specs.Prelude.{◌≡◌, ◌≢◌, ◌++◌, ◌^◌, ℕ, true, false, ⊤, List, [], Option, Some, IfOk, OnOk, map};
+ghost use Rattle.std.specs.Prelude.{◌≡◌, ◌≢◌, ◌++◌, ◌^◌, ℕ, true, false, ⊤, List, [], Option, Some, None, IfOk, OnOk, count_by, map};
 ghost use Rattle.stages.specs.declared.flags.Operation.{Operation};
 ghost use Rattle.stages.specs.Flags.{KeepsSound};
-ghost use Rattle.barriers.specs.Needs.{need_of, CountsNone, IsBelow, IsToldBy, KeepsEnough};
+ghost use Rattle.barriers.specs.Needs.{need_of, less_needed, CountsNone, IsBelow, IsToldBy, KeepsEnough};
 ghost use Rattle.barriers.specs.Thinned.{IsThinned};
 
 use crate::{Demand, Need};
@@ -60,9 +60,11 @@ pub trait Barrier<T: OrderedValue>: Demand<T> {
         ensures fits { IsBelow (needed_behind self.now state.now) (2 ^ 63) }
         ensures never { CountsNone (needed_behind self.now state.now) (Self.counted self.now) };
 
-    /// Whether what is still to come is left as it is. No is no promise.
+    /// Whether what is still to come is left as it is, and no number of items is needed of it. No is no promise.
     fn lets_pass(&self, _state: &Self::State) -> bool
-        ensures { result ≡ true → (more : List T.Content) → value_behind self.now _state.now more ≡ more }
+        ensures passes { result ≡ true
+            → (more : List T.Content) → value_behind self.now _state.now more ≡ more }
+        ensures asks_nothing { result ≡ true → needed_behind self.now _state.now ≡ None }
     {
         false
     }
@@ -80,8 +82,8 @@ pub trait Barrier<T: OrderedValue>: Demand<T> {
         Ok(())
     }
 
-    /// What the barrier leaves of the next items. The state is then behind them. `is_cut` says whether the run that kept the items was cut,
-    /// since they were enough. Refused: the state is only to be dropped.
+    /// What the barrier leaves of the next items. The state is then behind them, and needs fewer by those that count. `is_cut` says whether
+    /// the run that kept the items was cut, since they were enough. Refused: the state is only to be dropped.
     fn carry(
         &self,
         state: &mut Self::State,
@@ -92,9 +94,13 @@ pub trait Barrier<T: OrderedValue>: Demand<T> {
         requires can { can_carry self.now }
         requires told { IsToldBy (needed_behind self.now state.old) (Self.counted self.now)
             (map T.content items.items) is_cut }
-        ensures { (more : List T.Content) → IfOk result (λ kept.
+        ensures goes_on { (more : List T.Content) → IfOk result (λ kept.
             value_behind self.now state.old (map T.content items.items ++ more)
-            ≡ map T.content kept.items ++ value_behind self.now state.new more) };
+            ≡ map T.content kept.items ++ value_behind self.now state.new more) }
+        ensures lessened { let contents = map T.content items.items in
+            let came = count_by (Self.counted self.now) contents in
+            let needed = less_needed (needed_behind self.now state.old) came in
+            IfOk result (λ _. needed_behind self.now state.new ≡ needed) };
 
     // where a front of the list is enough, what follows it makes no difference
     ghost enough_law: { (b : Self) → KeepsEnough (Self.needed b) (Self.counted b) (value b) };

@@ -1,6 +1,6 @@
-ghost use Rattle.std.specs.Prelude.{◌≡◌, ◌<◌, ◌++◌, ◌^◌, List, Some, take, IsOk, IfOk, map, min, option_map};
+ghost use Rattle.std.specs.Prelude.{◌≡◌, ◌<◌, ◌++◌, ◌^◌, List, Some, take, IsOk, IfOk, count_by, map, min, option_map};
 ghost use Rattle.stages.specs.declared.flags.Operation.TheVariants.{Limit as limit_row};
-ghost use Rattle.barriers.specs.Needs.{every_item};
+ghost use Rattle.barriers.specs.Needs.{every_item, less_needed};
 ghost use Rattle.barriers.specs.NeedLaws.{KeepsEnough-take};
 ghost use Rattle.barriers.specs.Parts.{take-nothing};
 ghost use Rattle.barriers.specs.BarrierFlags.{KeepsSound-take};
@@ -96,6 +96,8 @@ impl<T: OrderedValue + Drop> Barrier<T> for Limit {
         ensures goes_on { (more : List T.Content) → IfOk result (λ kept.
             take state.old.most (map T.content items.items ++ more)
             ≡ map T.content kept.items ++ take state.new.most more) }
+        ensures lessened { let came = count_by every_item (map T.content items.items) in
+            IfOk result (λ _. Some state.new.most ≡ less_needed (Some state.old.most) came) }
         ensures answered { IsOk result }
     {
         let kept = state.apply(items)?;

@@ -1,10 +1,10 @@
 //! The longest front whose items all meet a test, and what follows it.
-ghost use Rattle.std.specs.Prelude.{◌≡◌, ◌++◌, ◌≤◌, List, length, Some, None, cond, not, IsOk, IfOk, map, take_while};
+ghost use Rattle.std.specs.Prelude.{◌≡◌, ◌++◌, ◌≤◌, List, length, Some, None, cond, not, IsOk, IfOk, count_by, map, take_while};
 ghost use Rattle.std.specs.List.{prefix_len};
 ghost use Rattle.stages.specs.declared.flags.Operation.TheVariants.{TakeWhile as take_while_row, DropWhile as drop_while_row};
 ghost use Rattle.barriers.specs.Whiles.{drop_while, taken_while, left_while};
 ghost use Rattle.barriers.specs.Parts.{KeepsEnough-taken_while, taken-nothing, left-nothing};
-ghost use Rattle.barriers.specs.Needs.{no_item, IsToldBy};
+ghost use Rattle.barriers.specs.Needs.{less_needed, no_item, IsToldBy};
 ghost use Rattle.barriers.specs.NeedLaws.{KeepsEnough-never, KeepsEnough-take_while};
 ghost use Rattle.barriers.specs.BarrierFlags.{KeepsSound-take_while, KeepsSound-drop_while};
 
@@ -114,6 +114,9 @@ impl<T: OrderedValue + Drop, P: Test<T>> Barrier<T> for TakeWhile<P> {
         ensures goes_on { (more : List T.Content) → IfOk result (λ kept.
             taken_while state.old (P.holds self.now.test) (map T.content items.items ++ more)
             ≡ map T.content kept.items ++ taken_while state.new (P.holds self.now.test) more) }
+        ensures lessened { let came = count_by (λ x. not (P.holds self.now.test x)) (map T.content items.items) in
+            let needed = less_needed (Some (cond state.old 1 0)) came in
+            IfOk result (λ _. Some (cond state.new 1 0) ≡ needed) }
         ensures answered { IsOk result }
     {
         if !*state {

@@ -29,7 +29,7 @@ both-true true b is = (refl, is)
 both-true false b is = absurd (true≢false (sym is))
 
 -- all links have run
-all-run : (turn : Bool) (run links : ℕ) → (turn && (run == links)) ≡ true → run ≡ links
+pub all-run : (turn : Bool) (run links : ℕ) → (turn && (run == links)) ≡ true → run ≡ links
 all-run turn run links is = (nat_eq-decides run links).0 (both-true turn (run == links) is).1
 
 module _ {L C : Type 0} (images : L → C → List C) (parts : List (List C)) where

@@ -1,2 +1,4 @@
 pub mod Chains
 pub mod ChainLaws
+pub mod ChainReading
+pub mod ChainReadingLaws

@@ -1,5 +1,5 @@
 //! A chain of barriers behind a stream.
-ghost use Rattle.std.specs.Prelude.{◌≡◌, ◌&&◌, ◌==◌, ◌<◌, ◌≤◌, ℕ, [], List, None, Ok, true, All, IfOk, flat_map, length, map, slice_get, ⊤};
+ghost use Rattle.std.specs.Prelude.{◌≡◌, ◌&&◌, ◌||◌, ◌==◌, ◌<◌, ◌≤◌, ◌⊎◌, ℕ, [], not, false, List, None, Ok, true, All, IfOk, flat_map, length, map, slice_get, ⊤};
 ghost use Rattle.std.proofs.lemmas.List.{length-map};
 ghost use Rattle.leaf_board.specs.Statuses.{SameFrom, StaysSeat};
 ghost use Rattle.leaf_reading.specs.Fronts.{folding};
@@ -12,6 +12,8 @@ ghost use Rattle.stealing_pool.specs.Jobs.{EndsLeaf};
 ghost use Rattle.stealing_pool.specs.Spans.{work_of};
 ghost use Rattle.parallel_streams.specs.Progress.{barred_work, next_leaves};
 ghost use Rattle.chained_streams.specs.Chains.{AreFresh, HoldsChain, IsFirstRun, IsPlannedChain, behind_links, is_own_turn, left_of_chain, link_behind, link_value, link_work, links_waiting, lists_of, through_links};
+ghost use Rattle.chained_streams.specs.ChainReading.{EnoughLink, FirstLets, LetsPass, ReadsChain, SomeEnough, StandLinks, StandsLink};
+ghost use Rattle.chained_streams.specs.ChainReadingLaws.{links-read};
 ghost use Rattle.chained_streams.specs.ChainLaws.{IsSound-unknown, both-true, chain-leaves, chain-parts, chain-whole, count-lists};
 
 use barriers::{Barrier, Behind, Demand, Need};
@@ -75,8 +77,12 @@ const MOST_ROOM: u64 = 1 << 20;
 impl<U: Stream, A: Stage<In = U::Item, Out = U::Item>, B: Barrier<U::Item>> Chain<U, A, B> {
     // The states before any item.
     fn fresh_states(&self, alloc: Global) -> Result<Vec<B::State>, NoMemory>
-        ensures { let step = link_behind A.expand B.value_behind in
+        ensures fresh { let step = link_behind A.expand B.value_behind in
             IfOk result (λ states. AreFresh step (link_value A.expand B.value) self.now.links.items states.items) }
+        ensures stand { let value = link_value A.expand B.value in
+            let stands = StandsLink A.expand B.Demand.needed B.Demand.counted B.value B.needed_behind B.value_behind in
+            IfOk result (λ states. StandLinks stands value self.now.links.items states.items []
+            × (through_links value self.now.links.items [] ≡ [])) }
     {
         let mut states = Vec::with_capacity(alloc, self.links.len())?;
         for at in 0..self.links.len() {
@@ -88,8 +94,12 @@ impl<U: Stream, A: Stage<In = U::Item, Out = U::Item>, B: Barrier<U::Item>> Chai
     // Whether nothing that is still to come matters to some link.
     fn is_over(&self, states: &[B::State]) -> bool
         requires { All (λ link. B.Demand.ready link.barrier) self.now.links.items }
-        ensures { let step = link_behind A.expand B.value_behind in
+        ensures over { let step = link_behind A.expand B.value_behind in
             result ≡ true → (items : List _) → behind_links step self.now.links.items states.now items ≡ [] }
+        ensures undecided { let value = link_value A.expand B.value in
+            let stands = StandsLink A.expand B.Demand.needed B.Demand.counted B.value B.needed_behind B.value_behind in
+            result ≡ false → (items : List _) → StandLinks stands value self.now.links.items states.now items
+            → SomeEnough (EnoughLink A.expand B.Demand.needed B.Demand.counted) value self.now.links.items items → ⊥ }
     {
         let count = self.links.len().min(states.len());
         for at in 0..count {
@@ -105,6 +115,7 @@ impl<U: Stream, A: Stage<In = U::Item, Out = U::Item>, B: Barrier<U::Item>> Chai
         ensures start { let first = IsFirstRun (link_behind A.expand B.value_behind) (λ link. A.expand link.stage) in
             first self.now.links.items states.now result }
         ensures within { result ≤ length self.now.links.items }
+        ensures lets { FirstLets (LetsPass B.needed_behind B.value_behind) self.now.links.items states.now result }
     {
         if self.links.is_empty() {
             return 0;
@@ -229,6 +240,24 @@ impl<U: Stream, A: Stage<In = U::Item, Out = U::Item>, B: Barrier<U::Item>> Stre
 
     ghost waiting = { λ s p. links_waiting (U.waiting s.upstream p.before) (length s.links.items) p.run p.listed };
 
+    ghost front = { λ s n. through_links (link_value A.expand B.value) s.links.items (U.front s.upstream n) };
+
+    ghost decided = { λ s n. let enough = EnoughLink A.expand B.Demand.needed B.Demand.counted in
+        U.decided s.upstream n ⊎ SomeEnough enough (link_value A.expand B.value) s.links.items (U.front s.upstream n) };
+
+    ghost barred = { λ s. not (length s.links.items == 0) || U.barred s.upstream };
+
+    ghost fine = { λ s. U.fine s.upstream };
+
+    ghost read = { λ s p n. let stands = StandsLink A.expand B.Demand.needed B.Demand.counted B.value B.needed_behind B.value_behind in
+        U.read s.upstream p.before n
+        × StandLinks stands (link_value A.expand B.value) s.links.items p.states.items (U.front s.upstream n) };
+
+    ghost reads = { λ s p from to. let stands = StandsLink A.expand B.Demand.needed B.Demand.counted B.value B.needed_behind B.value_behind in
+        let reads = ReadsChain (U.reads s.upstream p.before from to) (U.read s.upstream p.before to) stands (LetsPass B.needed_behind B.value_behind) in
+        let links = reads (link_value A.expand B.value) U.Item.content s.links.items p.states.items p.run in
+        links (U.front s.upstream from) (U.front s.upstream to) p.listed };
+
     ghost leaves_next = { λ s p. next_leaves (U.leaves_next s.upstream p.before) p.listed };
 
     ghost work = { λ s p.
@@ -266,6 +295,13 @@ impl<U: Stream, A: Stage<In = U::Item, Out = U::Item>, B: Barrier<U::Item>> Stre
         let step = link_behind A.expand B.value_behind in
         let left = chain-parts step (λ link. A.expand link.stage) U.Item.content s.links.items p.states.items p.run p.listed (U.done s.upstream p.before) in
         left (U.left s.upstream p.before) (U.behind s.upstream p.before) (U.parts s.upstream p.before) held.1 done (U.parts_law s.upstream p.before held.0) };
+
+    ghost read_law = { λ s p from to held done reads.
+        let chain = links-read A.expand B.Demand.needed B.Demand.counted B.value B.needed_behind B.value_behind in
+        let links = chain (U.reads s.upstream p.before from to) (U.read s.upstream p.before to) U.Item.content s.links.items p.states.items p.run in
+        let now = links (U.done s.upstream p.before) p.listed (U.front s.upstream from) (U.front s.upstream to) (U.parts s.upstream p.before) in
+        let all = now held.1 done reads (U.read_law s.upstream p.before from to held.0) in
+        ((all.0, all.1), all.2) };
 
     ghost whole_law = { λ s workers target p held planned done.
         let step = link_behind A.expand B.value_behind in

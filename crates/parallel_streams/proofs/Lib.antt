@@ -2,6 +2,7 @@ pub mod Harmless
 pub mod Hits
 pub mod Gathering
 pub mod Firsts
+pub mod Fine
 pub mod Idle
 pub mod Listing
 pub mod SegmentLaws

@@ -1,6 +1,6 @@
 -- What a search makes of the segments of a stream.
 use Rattle.std.specs.Prelude.{◌≡◌, ◌++◌, ◌∷◌, [], ℕ, Bool, true, false, cond, length, List, Option, Some, None}
-use Rattle.std.proofs.Common.{sym, ap, ◌∙◌, subst, append-nil, append_assoc}
+use Rattle.std.proofs.Common.{sym, ap, ◌∙◌, subst, append-nil, append_assoc, ⊎_elim, true≢false}
 use Rattle.std.specs.Option.{is_some}
 use Rattle.barriers.specs.Needs.{every_item}
 use Rattle.barriers.specs.NeedLaws.{value-front}
@@ -12,7 +12,7 @@ use Rattle.stealing_pool.specs.Reports.{Reports}
 use Rattle.stealing_pool.specs.Spans.{full_count, joined}
 use Rattle.parallel_streams.specs.Meeting.{any-append, KeepsEnough-any}
 use Rattle.parallel_streams.specs.Reports.{IsRunOver}
-use Rattle.parallel_streams.specs.Searches.{IsHit, IsFound}
+use Rattle.parallel_streams.specs.Searches.{DecidesOrHits, IsHit, IsFound}
 use Rattle.parallel_streams.specs.Terminals.{any_meets}
 use Rattle.parallel_streams.proofs.Hits.{met-by-cut}
 use Rattle.parallel_streams.proofs.SegmentLaws.{read-segment}
@@ -45,6 +45,15 @@ module _ {T A C : Type 0} (is_value : T → Type 0) (content : A → C) (empty :
       let all = searched-on uncut [] (sym last) in
       ap (any_meets counted) (all.1 ∙ append-nil all.0) ∙ all.2
 
+  -- nothing counts of what the segments up to the present one give, where nothing did before
+  pub searched-front : is_some (cut_of entry) ≡ false → (before now : List T) → now ≡ before ++ joined lists → any_meets counted before ≡ false → any_meets counted now ≡ false
+  searched-front uncut before now is none =
+      ap (any_meets counted) is
+      ∙ any-append counted before (joined lists)
+      ∙ ap (λ b. cond b true (any_meets counted (joined lists))) none
+      ∙ sym told
+      ∙ uncut
+
   -- a segment with a hit
   pub searched-hit : is_some (cut_of entry) ≡ true → IsHit counted (IsContainerOf is_value content empty add) whole acc
   searched-hit cut =
@@ -61,6 +70,10 @@ module _ {T A C : Type 0} (is_value : T → Type 0) (content : A → C) (empty :
         some = sym (value-front (Some 1) counted (any_meets counted) (KeepsEnough-any counted) (joined lists) front kept.1) ∙ sym told ∙ cut;
         kept = kept.2;
       }
+
+-- no front decides where the stream goes on and nothing counts
+pub no-end : {T : Type 0} (decided : ℕ → Type 0) (counted : T → Bool) (front : ℕ → List T) (n : ℕ) → (decided n → ⊥) → any_meets counted (front n) ≡ false → DecidesOrHits decided counted front n → ⊥
+no-end decided counted front n undecided none end = ⊎_elim undecided (λ some. true≢false (sym some ∙ none)) end
 
 -- a hit tells that some item counts, and none that none does
 pub found-counts : {T A : Type 0} (counted : T → Bool) (made : List T → A → Type 0) (whole : List T) (found : Option A)

@@ -7,7 +7,7 @@ use Rattle.std.proofs.lemmas.List.Sums.{fold_push}
 use Rattle.parallel_streams.specs.Sources.{items_behind, weight_behind}
 
 module _ {S C : Type 0} (items : S → List C) where
-  pub items-push : (parts : List S) (part : S) → items_behind items (parts ++ part ∷ []) ≡ items part ++ items_behind items parts
+  items-push : (parts : List S) (part : S) → items_behind items (parts ++ part ∷ []) ≡ items part ++ items_behind items parts
   items-push parts part = fold_push (λ behind p. items p ++ behind) [] parts part
 
   -- a front whose rest is put behind it
@@ -16,6 +16,12 @@ module _ {S C : Type 0} (items : S → List C) where
   split-items front part rest parts now whole joins is so_far =
       ap (λ l. items part ++ items_behind items l) is ∙ ap (λ l. items part ++ l) (items-push parts rest) ∙ sym (append_assoc (items part) (items rest) (items_behind items parts))
       ∙ ap (λ l. l ++ items_behind items parts) (sym joins) ∙ so_far
+
+  -- the part that stands next is taken off, and split: its front is the next segment
+  pub joined-next : (parts rest now : List S) (next front : S) (segment : List C) → parts ≡ rest ++ next ∷ [] → segment ≡ items front → items front ++ items_behind items now ≡ items next ++ items_behind items rest
+      → segment ++ items_behind items now ≡ items_behind items parts
+  joined-next parts rest now next front segment was is split =
+      ap (λ l. l ++ items_behind items now) is ∙ split ∙ sym (items-push rest next) ∙ sym (ap (items_behind items) was)
 
 module _ {S : Type 0} (weight : S → ℕ) where
   pub weight-push : (parts : List S) (part : S) → weight_behind weight (parts ++ part ∷ []) ≡ 2 ^ weight part + weight_behind weight parts

@@ -11,4 +11,6 @@ pub mod Ends
 pub mod Reports
 pub mod Progress
 pub mod ProgressLaws
+pub mod Reading
+pub mod ReadingLaws
 pub mod Meeting

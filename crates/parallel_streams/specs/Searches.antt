@@ -1,5 +1,5 @@
 -- What a search for an item that counts finds.
-use Rattle.std.specs.Prelude.{◌≡◌, ◌++◌, Bool, true, false, List, Option, Some, None}
+use Rattle.std.specs.Prelude.{◌≡◌, ◌++◌, ◌⊎◌, ℕ, Bool, true, false, List, Option, Some, None}
 use Rattle.parallel_streams.specs.Terminals.{any_meets}
 
 -- A hit: of the list's items behind some, none of which counts, the container has a front, in which some item counts.
@@ -11,6 +11,10 @@ pub record IsHit {T A : Type 0} (counted : T → Bool) (made : List T → A → 
   pub none : any_meets counted before ≡ false
   pub some : any_meets counted front ≡ true
   pub kept : made front acc
+
+-- the first n items of the source decide, or some item counts of what comes of them
+abbrev pub DecidesOrHits : {T : Type 0} → (ℕ → Type 0) → (T → Bool) → (ℕ → List T) → ℕ → Type 0
+DecidesOrHits decided counted front n = decided n ⊎ (any_meets counted (front n) ≡ true)
 
 -- a container with a hit; or none, and then no item of the list counts
 abbrev pub IsFound : {T A : Type 0} → (T → Bool) → (List T → A → Type 0) → List T → Option A → Type 0

@@ -44,6 +44,10 @@ impl<U: Stream, B: Barrier<U::Item>> Barred<U, B> {
 }
 
 impl<U: Stream, B: Barrier<U::Item>> Stream for Barred<U, B> {
+    ghost use Rattle.std.specs.Prelude.{◌⊎◌, true};
+    ghost use Rattle.barriers.specs.Needs.{IsEnough};
+    ghost use Rattle.parallel_streams.specs.Reading.{ReadsBarred, StandsBehind};
+    ghost use Rattle.parallel_streams.specs.ReadingLaws.{read-barred};
     ghost use Rattle.parallel_streams.specs.Progress.{HoldsBarred, IsPlannedBarred, ToldSoFar, is_ready, left_of, waiting_of, next_leaves, parts_of, own_work, barred_work};
     ghost use Rattle.parallel_streams.specs.ProgressLaws.{barred-leaves, left-parts_of, joined-parts_of, cut-parts_of, count-parts_of, told-all};
 
@@ -72,6 +76,23 @@ impl<U: Stream, B: Barrier<U::Item>> Stream for Barred<U, B> {
     ghost done = { λ s p. is_ready p.passes (U.done s.upstream p.before) p.listed };
 
     ghost waiting = { λ s p. waiting_of (U.waiting s.upstream p.before) p.listed };
+
+    ghost front = { λ s n. B.value s.barrier (U.front s.upstream n) };
+
+    ghost decided = { λ s n. U.decided s.upstream n ⊎ IsEnough (B.Demand.needed s.barrier) (B.Demand.counted s.barrier) (U.front s.upstream n) };
+
+    ghost barred = { λ _. true };
+
+    ghost fine = { λ s. U.fine s.upstream };
+
+    ghost read = { λ s p n. let stands = StandsBehind (B.Demand.needed s.barrier) (B.Demand.counted s.barrier) (B.value s.barrier) in
+        U.read s.upstream p.before n
+        × stands (B.needed_behind s.barrier p.state) (B.value_behind s.barrier p.state) (U.front s.upstream n) };
+
+    ghost reads = { λ s p from to. let stands = StandsBehind (B.Demand.needed s.barrier) (B.Demand.counted s.barrier) (B.value s.barrier) in
+        let behind = stands (B.needed_behind s.barrier p.state) (B.value_behind s.barrier p.state) in
+        let reads = ReadsBarred (U.reads s.upstream p.before from to) (U.read s.upstream p.before to) behind (B.value s.barrier) in
+        reads (U.front s.upstream from) (U.front s.upstream to) U.Item.content (B.needed_behind s.barrier p.state) p.passes p.listed };
 
     ghost leaves_next = { λ s p. next_leaves (U.leaves_next s.upstream p.before) p.listed };
 
@@ -110,6 +131,13 @@ impl<U: Stream, B: Barrier<U::Item>> Stream for Barred<U, B> {
     ghost parts_law = { λ s p held done.
         let left = left-parts_of U.Item.content (B.value_behind s.barrier p.state) (U.left s.upstream p.before) (U.behind s.upstream p.before) in
         left (U.parts s.upstream p.before) p.passes (U.done s.upstream p.before) p.listed held.1 held.2 done (U.parts_law s.upstream p.before held.0) };
+
+    ghost read_law = { λ s p from to held done reads.
+        let read = read-barred (B.Demand.needed s.barrier) (B.Demand.counted s.barrier) (B.value s.barrier) (U.reads s.upstream p.before from to) in
+        let now = read (U.read s.upstream p.before to) U.Item.content (B.needed_behind s.barrier p.state) (B.value_behind s.barrier p.state) p.passes in
+        let all = now (U.done s.upstream p.before) (U.front s.upstream from) (U.front s.upstream to) (U.parts s.upstream p.before) p.listed held.1 held.2 done reads in
+        let is = all (U.read_law s.upstream p.before from to held.0) in
+        ((is.0, is.1), is.2) };
 
     ghost whole_law = { λ s workers target p held planned done.
         let joined = joined-parts_of U.Item.content (B.Demand.needed s.barrier) (B.needed_behind s.barrier p.state) in

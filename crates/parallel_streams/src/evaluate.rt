@@ -107,13 +107,16 @@ impl<X: Stream, D: Demand<X::Item>, C: Collector<Item = X::Item>> LeafJob
     }
 }
 
-// Promises of the lists of the last run's leaves that they are the segment's items, end to end; and where the segment is the whole, that they are
-// the stream's, how they are cut, and that the entries so far are all.
+// Promises of the lists of the last run's leaves that they are the segment's items, end to end, which are read then; and where the segment is the
+// whole, that they are the stream's, how they are cut, and that the entries so far are all.
 fn promise_whole<X: Stream>(_stream: &X, _progress: &X::Progress)
     requires holds { X.holds _stream.now _progress.now }
     requires done { X.done _stream.now _progress.now ≡ true }
     ensures left { X.left _stream.now _progress.now
         ≡ joined (X.parts _stream.now _progress.now) ++ X.behind _stream.now _progress.now }
+    ensures read { let front = X.front _stream.now in
+        (from to : ℕ) → X.reads _stream.now _progress.now from to → X.read _stream.now _progress.now to
+        × (front to ≡ front from ++ joined (X.parts _stream.now _progress.now)) }
     ensures whole { (workers target : ℕ) → X.planned _stream.now workers target _progress.now
         → joined (X.parts _stream.now _progress.now) ≡ X.value _stream.now }
     ensures cut { (workers target : ℕ) → X.planned _stream.now workers target _progress.now
@@ -149,6 +152,8 @@ where
     ensures holds { IfOk result (λ r. X.holds stream.now r.0) }
     ensures left { IfOk result (λ r. X.left stream.now r.0 ≡ X.left stream.now progress) }
     ensures still { IfOk result (λ r. X.still stream.now r.0 ≡ X.still stream.now progress) }
+    ensures reads { (from to : ℕ) → X.reads stream.now progress from to
+        → IfOk result (λ r. X.reads stream.now r.0 from to) }
     ensures planned { let planned = X.planned stream.now run.now.workers run.now.target in
         planned progress → IfOk result (λ r. planned r.0) }
     ensures entries { let planned = X.planned stream.now run.now.workers run.now.target in
@@ -195,6 +200,9 @@ where
     ensures left { IfOk result (λ r. X.left stream.now progress
         ≡ joined (X.parts stream.now r.0) ++ X.behind stream.now r.0) }
     ensures still { IfOk result (λ r. X.still stream.now r.0 ≡ X.still stream.now progress) }
+    ensures read { let front = X.front stream.now in
+        (from to : ℕ) → X.reads stream.now progress from to → IfOk result (λ r. X.read stream.now r.0 to
+        × (front to ≡ front from ++ joined (X.parts stream.now r.0))) }
     ensures whole { X.planned stream.now run.now.workers run.now.target progress
         → IfOk result (λ r. joined (X.parts stream.now r.0) ≡ X.value stream.now) }
     ensures cut { let cut_into = X.cut_into stream.now run.now.workers run.now.target in
@@ -290,6 +298,7 @@ where
     ensures holds { X.holds stream.now progress.new }
     ensures behind { X.behind stream.now progress.new ≡ X.behind stream.now progress.old }
     ensures still { X.still stream.now progress.new ≡ X.still stream.now progress.old }
+    ensures read { (n : ℕ) → X.read stream.now progress.old n → X.read stream.now progress.new n }
 {
     if !collector.keeps_lists() {
         return run_last(rt, alloc, stream, run, progress, &Whole, collector);

@@ -1,14 +1,16 @@
 //! A stream's segments, one after another.
-ghost use Rattle.std.specs.Prelude.{◌≡◌, ◌++◌, List, Some, IfOk, OnOk, option_map};
+ghost use Rattle.std.specs.Prelude.{◌≡◌, ◌≢◌, ◌++◌, ℕ, List, None, Some, true, IfOk, OnOk, option_map};
 ghost use Rattle.collectors.specs.Laws.{IsContainerOf};
 ghost use Rattle.collectors.specs.Reductions.{first};
 ghost use Rattle.spliterator.specs.Clones.{ClonesAlike};
+ghost use Rattle.parallel_streams.specs.Reading.{ReadsLittle};
 ghost use Rattle.parallel_streams.specs.Runs.{AnswersUnder, IsLawfulRun};
-ghost use Rattle.parallel_streams.specs.Searches.{IsFound};
+ghost use Rattle.parallel_streams.specs.Searches.{DecidesOrHits, IsFound};
 ghost use Rattle.parallel_streams.specs.Terminals.{any_meets};
 
 use crate::evaluate::{run_barriers, run_last, run_whole};
 use crate::settings::allow;
+use crate::source::FIRST;
 use crate::{Run, Stream, StreamError};
 use barriers::{Demand, Total};
 use collectors::{Collector, Counting, First, combine_containers, finish_container};
@@ -16,9 +18,6 @@ use spliterator::NoMemory;
 use std::alloc::Global;
 use std::thread::Threads;
 use stealing_pool::Gate;
-
-// The most items of the first segment, where no stage makes several of one.
-const FIRST: u64 = 1 << 12;
 
 // How many times as many items the next segment may have as the one before it. A source halves, so what stands next has about as many as all before it.
 const TIMES_LONGER: u64 = 2;
@@ -38,7 +37,10 @@ struct Extent {
 
 impl Extent {
     // That of a stream's first segment: it has no bound where no operation looks at more than one item.
-    fn first<X: Stream>(stream: &X) -> Extent {
+    fn first<X: Stream>(stream: &X) -> Extent
+        ensures undecided { result.most ≡ None → (n : ℕ) → X.decided stream.now n → ⊥ }
+        ensures bounded { X.barred stream.now ≡ true → result.most ≢ None }
+    {
         let growth = stream.growth().max(1);
         let most = if stream.has_barrier() {
             Some((FIRST / growth).max(1))
@@ -114,6 +116,8 @@ where
     requires holds { X.holds stream.now progress }
     ensures holds { IfOk result (λ r. X.holds stream.now r.0) }
     ensures still { IfOk result (λ r. X.still stream.now r.0 ≡ X.still stream.now progress) }
+    ensures read { (from to : ℕ) → X.reads stream.now progress from to
+        → IfOk result (λ r. X.read stream.now r.0 to) }
     ensures made { let it = collector.now in
         let made = IsContainerOf X.Item.is_value (C.content it) (C.empty it) (C.add it) in
         IfOk result (λ r. (items : List X.Item.Content)
@@ -124,13 +128,20 @@ where
     Ok((progress, acc))
 }
 
-// The container of a stream's items, one segment after another. Segments grow, and end where nothing matters that is still to come.
+// The container of a stream's items, one segment after another. Segments grow, and end where nothing matters that is still to come: of a source that
+// splits finely, little more is read than decides.
 fn collect_segments<
     R: Threads + Sync,
     X: Stream + Sync,
     C: Collector<Item = X::Item> + Sync,
     H: Gate + Sync,
->(rt: &R, alloc: Global, stream: &X, run: &Run<'_, H>, collector: &C) -> Result<C::Acc, NoMemory>
+>(
+    rt: &R,
+    alloc: Global,
+    stream: &X,
+    run: &Run<'_, H>,
+    collector: &C,
+) -> Result<(X::Progress, C::Acc), NoMemory>
 where
     X::Item: Send + Sync,
     X::Progress: Send + Sync,
@@ -142,7 +153,9 @@ where
     requires settings { IsLawfulRun run.now.workers run.now.target }
     ensures made { let it = collector.now in
         let made = IsContainerOf X.Item.is_value (C.content it) (C.empty it) (C.add it) in
-        IfOk result (made (X.value stream.now)) }
+        IfOk result (λ r. made (X.value stream.now) r.1) }
+    ensures read { IfOk result (λ r. (read : ℕ) × X.read stream.now r.0 read
+        × (X.fine stream.now → ReadsLittle (X.decided stream.now) read)) }
 {
     let mut extent = Extent::first(stream);
     let own = run_of(run, &extent);
@@ -158,7 +171,7 @@ where
         progress = after;
         combine_containers(collector, &mut whole, acc)?;
     }
-    Ok(whole)
+    Ok((progress, whole))
 }
 
 /// The container of a stream's items, into which more may go before it is finished.
@@ -182,7 +195,8 @@ where
         IfOk result (made (X.value stream.now)) }
 {
     allow(run.workers, run.target)?;
-    Ok(collect_segments(rt, alloc, stream, run, collector)?)
+    let (_, acc) = collect_segments(rt, alloc, stream, run, collector)?;
+    Ok(acc)
 }
 
 /// Takes a stream's items into a container, behind those that are in it. Unlawful settings leave the container as it was; after want of memory it is
@@ -227,7 +241,8 @@ where
 }
 
 // The container of the first segment that has a hit: an item that counts, where one is enough for the demand. Of that segment's items it has all, or a
-// front with a hit. The segments behind it are not read.
+// front with a hit. The segments behind it are not read: of a source that splits finely, and where
+// some operation looks at more than one item, little more is read than decides, or has a hit.
 fn search<
     R: Threads + Sync,
     X: Stream + Sync,
@@ -241,7 +256,7 @@ fn search<
     run: &Run<'_, H>,
     demand: &D,
     collector: &C,
-) -> Result<Option<C::Acc>, NoMemory>
+) -> Result<(X::Progress, Option<C::Acc>), NoMemory>
 where
     X::Item: Send + Sync,
     X::Progress: Send + Sync,
@@ -253,9 +268,12 @@ where
     requires collector { C.ready collector.now }
     requires one { D.needed demand.now ≡ Some 1 }
     requires settings { IsLawfulRun run.now.workers run.now.target }
-    ensures { let it = collector.now in
+    ensures found { let it = collector.now in
         let made = IsContainerOf X.Item.is_value (C.content it) (C.empty it) (C.add it) in
-        IfOk result (IsFound (D.counted demand.now) made (X.value stream.now)) }
+        IfOk result (λ r. IsFound (D.counted demand.now) made (X.value stream.now) r.1) }
+    ensures read { let ends = DecidesOrHits (X.decided stream.now) (D.counted demand.now) (X.front stream.now) in
+        IfOk result (λ r. (read : ℕ) × X.read stream.now r.0 read
+        × (X.fine stream.now → X.barred stream.now ≡ true → ReadsLittle ends read)) }
 {
     let mut extent = Extent::first(stream);
     let mut own = run_of(run, &extent);
@@ -264,10 +282,10 @@ where
         let (gathered, _) = run_barriers(rt, alloc, stream, &own, progress)?;
         let (acc, entry) = run_last(rt, alloc, stream, &own, &gathered, demand, collector)?;
         if entry.cut().is_some() {
-            return Ok(Some(acc));
+            return Ok((gathered, Some(acc)));
         }
         if stream.is_last(&gathered) {
-            return Ok(None);
+            return Ok((gathered, None));
         }
         let listed = stream.gathered(&gathered);
         let most = extent.next_size(listed);
@@ -294,7 +312,8 @@ where
     ensures { IfOk result (λ found. option_map X.Item.content found ≡ first (X.value stream.now)) }
 {
     let first = First::<X::Item>::new();
-    match search(rt, alloc, stream, run, &Total::new(1), &first)? {
+    let (_, found) = search(rt, alloc, stream, run, &Total::new(1), &first)?;
+    match found {
         Some(acc) => finish_container(&first, acc),
         None => Ok(None),
     }
@@ -319,6 +338,6 @@ where
     requires settings { IsLawfulRun run.now.workers run.now.target }
     ensures { IfOk result (λ met. met ≡ any_meets (D.counted demand.now) (X.value stream.now)) }
 {
-    let found = search(rt, alloc, stream, run, demand, &Counting::new())?;
+    let (_, found) = search(rt, alloc, stream, run, demand, &Counting::new())?;
     Ok(found.is_some())
 }

@@ -1,7 +1,9 @@
 //! A stream over a source.
-ghost use Rattle.std.specs.Prelude.{◌≡◌, ◌≤◌, ◌+◌, ◌++◌, ◌^◌, true, map, length, flat_map, IfOk, [], refl, ⊤};
+ghost use Rattle.std.specs.Prelude.{◌≡◌, ◌≢◌, ◌≤◌, ◌+◌, ◌*◌, ◌++◌, ◌^◌, true, false, map, max, length, flat_map, take, IfOk, Option, None, Some, IsTrue, [], ℕ, ◌<◌, refl, ⊤};
+ghost use Rattle.spliterator.specs.Characteristics.{tells_sized};
 ghost use Rattle.split_tree.specs.Plan.{leaves_of, tree_of};
 ghost use Rattle.parallel_streams.specs.Leaves.{ArePlanned};
+ghost use Rattle.parallel_streams.specs.Reading.{Each, SplitsFinely, first_segment};
 ghost use Rattle.parallel_streams.specs.Runs.{IsLawfulRun};
 ghost use Rattle.parallel_streams.specs.Sources.{items_behind, weight_behind};
 
@@ -34,11 +36,35 @@ pub fn of<S: Spliterator>(split: S) -> Source<S>
     Source { split }
 }
 
-/// How far a source has come: the present segment, cut into leaves, and the parts of the source behind it, of which the last stands next.
+/// The most items of the first segment. Those behind it grow by what was read.
+pub const FIRST: u64 = 1 << 12;
+
+/// How far a source has come: the present segment, cut into leaves, and the parts of the source behind it, of which the last stands next. And how
+/// many items the segments up to the present one have, where that is known.
 #[derive(Drop)]
 pub struct SourceProgress<S> {
     plan: Plan<S>,
     rest: Vec<S>,
+    read: Option<u64>,
+}
+
+// How many items were read with a segment, where that is known.
+fn read_with<S: Spliterator>(read: Option<u64>, segment: &S) -> Option<u64>
+    ensures { let size = S.estimate segment.now in
+        (n : ℕ) → IsTrue (tells_sized (S.told segment.now)) → read ≡ Some n → n + size < 2 ^ 64
+        → result ≡ Some (n + size) }
+{
+    Some(read?.saturating_add(segment.exact_size()?))
+}
+
+// The most items of a segment, where so many were read: at most twice as many, or as many as the first may have.
+fn most_behind(read: Option<u64>, most: u64) -> u64
+    ensures { (n : ℕ) → read ≡ Some n → result ≤ max (2 * n) first_segment }
+{
+    match read {
+        Some(number) => most.min(number.saturating_mul(2).max(FIRST)),
+        None => most,
+    }
 }
 
 // Splits a source until its front is estimated at most `most` items, or doesn't split. What stands behind that front is put on the parts.
@@ -47,6 +73,10 @@ fn split_front<S: Spliterator>(source: S, most: u64, rest: &mut Vec<S>) -> Resul
         IfOk result (λ front. S.items front ++ behind rest.new.items ≡ S.items source ++ behind rest.old.items) }
     ensures weight { let behind = weight_behind S.weight in
         IfOk result (λ front. 2 ^ S.weight front + behind rest.new.items ≤ 2 ^ S.weight source + behind rest.old.items) }
+    ensures fine { let fine = SplitsFinely S.estimate S.told S.split_gives in
+        fine source → Each fine rest.old.items → IfOk result (λ front. fine front × Each fine rest.new.items) }
+    ensures short { let fine = SplitsFinely S.estimate S.told S.split_gives in
+        fine source → IfOk result (λ front. S.estimate front ≤ max most first_segment) }
 {
     let mut front = source;
     while front.estimate_size() > most {
@@ -58,6 +88,22 @@ fn split_front<S: Spliterator>(source: S, most: u64, rest: &mut Vec<S>) -> Resul
         front = part;
     }
     Ok(front)
+}
+
+// The first segment: all of the source, where no number bounds it.
+fn first_of<S: Spliterator>(source: S, most: Option<u64>, rest: &mut Vec<S>) -> Result<S, NoMemory>
+    ensures items { let behind = items_behind S.items in
+        IfOk result (λ front. S.items front ++ behind rest.new.items ≡ S.items source ++ behind rest.old.items) }
+    ensures whole { most ≡ None → IfOk result (λ front. front ≡ source) }
+    ensures fine { let fine = SplitsFinely S.estimate S.told S.split_gives in
+        fine source → Each fine rest.old.items → IfOk result (λ front. fine front × Each fine rest.new.items) }
+    ensures short { let fine = SplitsFinely S.estimate S.told S.split_gives in
+        fine source → most ≢ None → IfOk result (λ front. S.estimate front ≤ first_segment) }
+{
+    let Some(most) = most else {
+        return Ok(source);
+    };
+    split_front(source, most.min(FIRST), rest)
 }
 
 // A segment cut into leaves.
@@ -87,6 +133,8 @@ where
     ghost use Rattle.parallel_streams.specs.LeafCutLaws.{cut-leaves};
     ghost use Rattle.parallel_streams.specs.Sources.{source_size, source_flags, idle_work, IsSound-source};
     ghost use Rattle.parallel_streams.specs.LeafLaws.{joined-leaves, leaves-behind, count-leaves};
+    ghost use Rattle.parallel_streams.specs.Reading.{HasRead, HasReadFrom};
+    ghost use Rattle.parallel_streams.specs.ReadingLaws.{leaves-read};
 
     type Item = S::Item;
 
@@ -112,6 +160,21 @@ where
 
     ghost waiting = { λ _ _. 0 };
 
+    ghost front = { λ s n. take n (S.items s.split) };
+
+    ghost decided = { λ _ _. ⊥ };
+
+    ghost barred = { λ _. false };
+
+    ghost fine = { λ s. SplitsFinely S.estimate S.told S.split_gives s.split };
+
+    ghost read = { λ s p. let fine = SplitsFinely S.estimate S.told S.split_gives in
+        HasRead fine s.split (S.items s.split) (items_behind S.items p.rest.items) p.rest.items p.read };
+
+    ghost reads = { λ s p. let fine = SplitsFinely S.estimate S.told S.split_gives in
+        let segment = flat_map S.items (leaves_of p.plan) in
+        HasReadFrom fine s.split (S.items s.split) segment (items_behind S.items p.rest.items) p.rest.items p.read };
+
     ghost leaves_next = { λ _ p. length (leaves_of p.plan) };
 
     ghost work = { λ _ p. idle_work (length (leaves_of p.plan)) };
@@ -135,6 +198,10 @@ where
 
     ghost parts_law = { λ s p held done. leaves-behind S.items (leaves_of p.plan) (items_behind S.items p.rest.items) };
 
+    ghost read_law = { λ s p from to held done reads.
+        let fine = SplitsFinely S.estimate S.told S.split_gives in
+        leaves-read fine s.split S.items (leaves_of p.plan) (items_behind S.items p.rest.items) p.rest.items p.read from to reads };
+
     ghost whole_law = { λ s workers target p held planned done. joined-leaves S.items (S.items s.split) (leaves_of p.plan) planned.1 };
 
     ghost cut_law = { λ s workers target p held planned done. cut-leaves S.items S.estimate S.split_gives s.split workers target (tree_of p.plan) (leaves_of p.plan) planned.0 };
@@ -149,6 +216,10 @@ where
         StreamFlags::of(self.split.characteristics())
     }
 
+    fn has_barrier(&self) -> bool {
+        false
+    }
+
     fn start(
         &self,
         alloc: Global,
@@ -157,12 +228,10 @@ where
         most: Option<u64>,
     ) -> Result<SourceProgress<S>, NoMemory> {
         let mut rest = Vec::new(alloc);
-        let first = match most {
-            Some(most) => split_front(self.split, most, &mut rest)?,
-            None => self.split,
-        };
+        let first = first_of(self.split, most, &mut rest)?;
+        let read = read_with(Some(0), &first);
         let plan = plan_segment(alloc, first, workers, target)?;
-        Ok(SourceProgress { plan, rest })
+        Ok(SourceProgress { plan, rest, read })
     }
 
     fn is_last(&self, progress: &SourceProgress<S>) -> bool {
@@ -181,9 +250,10 @@ where
         let Some(next) = rest.pop() else {
             unreachable!()
         };
-        let first = split_front(next, most, &mut rest)?;
+        let first = split_front(next, most_behind(progress.read, most), &mut rest)?;
+        let read = read_with(progress.read, &first);
         let plan = plan_segment(alloc, first, workers, target)?;
-        Ok(SourceProgress { plan, rest })
+        Ok(SourceProgress { plan, rest, read })
     }
 
     fn segment_size(&self, progress: &SourceProgress<S>) -> Option<u64> {

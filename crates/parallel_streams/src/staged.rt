@@ -2,6 +2,7 @@
 ghost use Rattle.std.specs.Prelude.{flat_map, map, refl};
 ghost use Rattle.parallel_streams.specs.Leaves.{AreThrough};
 ghost use Rattle.parallel_streams.specs.LeafLaws.{joined-through, left-through, count-through};
+ghost use Rattle.parallel_streams.specs.ReadingLaws.{front-through};
 ghost use Rattle.stages.specs.Flags.{after};
 
 use crate::Stream;
@@ -52,6 +53,18 @@ where
 
     ghost waiting = { λ s. U.waiting s.upstream };
 
+    ghost front = { λ s n. flat_map (A.expand s.stage) (U.front s.upstream n) };
+
+    ghost decided = { λ s. U.decided s.upstream };
+
+    ghost barred = { λ s. U.barred s.upstream };
+
+    ghost fine = { λ s. U.fine s.upstream };
+
+    ghost read = { λ s. U.read s.upstream };
+
+    ghost reads = { λ s. U.reads s.upstream };
+
     ghost leaves_next = { λ s. U.leaves_next s.upstream };
 
     ghost work = { λ s. U.work s.upstream };
@@ -73,6 +86,9 @@ where
     ghost reported_law = { λ s. U.reported_law s.upstream };
 
     ghost parts_law = { λ s p held done. left-through (A.expand s.stage) (U.parts s.upstream p) (U.left s.upstream p) (U.behind s.upstream p) (U.parts_law s.upstream p held done) };
+
+    ghost read_law = { λ s p from to held done reads. let read = U.read_law s.upstream p from to held done reads in
+        (read.0, front-through (A.expand s.stage) (U.parts s.upstream p) (U.front s.upstream from) (U.front s.upstream to) read.1) };
 
     ghost whole_law = { λ s workers target p held planned done. joined-through (A.expand s.stage) (U.parts s.upstream p) (U.value s.upstream) (U.whole_law s.upstream workers target p held planned done) };
 

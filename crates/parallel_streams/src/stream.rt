@@ -1,5 +1,5 @@
 //! What a lazy stream is.
-ghost use Rattle.std.specs.Prelude.{◌≡◌, ◌<◌, ◌≤◌, ◌^◌, ◌++◌, ◌∷◌, [], ℕ, Bool, true, false, List, Option, not, pos, fold, option_map, None, IsSome, IfSome, IfNone, IsOk, IfOk, OnOk, flat_map, map, length, slice_index_or, ⊤};
+ghost use Rattle.std.specs.Prelude.{◌≡◌, ◌≢◌, ◌<◌, ◌≤◌, ◌^◌, ◌++◌, ◌∷◌, [], ℕ, Bool, true, false, List, Option, not, pos, fold, option_map, None, IsSome, IfSome, IfNone, IsOk, IfOk, OnOk, flat_map, map, length, slice_index_or, ⊤};
 ghost use Rattle.barriers.specs.Needs.{need_of, IsBelow};
 ghost use Rattle.leaf_board.specs.Statuses.{SameFrom, StaysSeat};
 ghost use Rattle.split_tree.specs.SplitTree.{leaf_numbers, numbers_from};
@@ -19,6 +19,7 @@ ghost use Rattle.collectors.specs.StrictMaps.{IsFirstRepeat, IsStrictMap};
 ghost use Rattle.parallel_streams.specs.Cuts.{cut_at};
 ghost use Rattle.parallel_streams.specs.Ends.{ends_of};
 ghost use Rattle.parallel_streams.specs.Progress.{IsCut};
+ghost use Rattle.parallel_streams.specs.Reading.{first_segment, most_read};
 ghost use Rattle.parallel_streams.specs.MapErrors.{MapAnswersUnder, IfDuplicate};
 ghost use Rattle.parallel_streams.specs.Reports.{IsReportedRun};
 ghost use Rattle.parallel_streams.specs.Runs.{IsLawfulRun, AnswersUnder};
@@ -87,6 +88,24 @@ pub trait Stream {
 
     ghost waiting: { Self → Self.Progress → ℕ };
 
+    // what the stream gives of the first so many items of its source, and whether these decide: some barrier needs no more than comes of them
+    ghost front: { Self → ℕ → List Self.Item.Content };
+
+    ghost decided: { Self → ℕ → Type 0 };
+
+    // whether some operation looks at more than one item
+    ghost barred: { Self → Bool };
+
+    // the source splits finely
+    ghost fine: { Self → Type 0 };
+
+    // so many items of the source are in the segments up to the present one, and the barriers' states stand behind what comes of them
+    ghost read: { Self → Self.Progress → ℕ → Type 0 };
+
+    // so many are in the segments before the present one, and with it; the states of the barriers that have run stand behind what comes of the latter,
+    // the others' behind what comes of the former
+    ghost reads: { Self → Self.Progress → ℕ → ℕ → Type 0 };
+
     // the number of leaves of the next run
     ghost leaves_next: { Self → Self.Progress → ℕ };
 
@@ -115,17 +134,18 @@ pub trait Stream {
     fn flags(&self) -> StreamFlags
         ensures { result ≡ told self.now };
 
-    /// Whether some operation looks at more than one item, so that the stream had better run by segments.
-    fn has_barrier(&self) -> bool {
-        false
-    }
+    /// Whether some operation looks at more than one item, so that the stream had better run by segments. Else nothing decides but all items.
+    fn has_barrier(&self) -> bool
+        ensures is { result ≡ barred self.now }
+        ensures undecided { result ≡ false → (n : ℕ) → decided self.now n → ⊥ };
 
     /// About how many items come of one of the source's. It is no promise: a segment is as much shorter.
     fn growth(&self) -> u64 {
         1
     }
 
-    /// Nothing has run. The source is cut into leaves: all of it, or a first segment that it estimates at most `most` items, as far as it splits.
+    /// Nothing has run. The source is cut into leaves: all of it, or a first segment that it estimates at most `most` items, and 4,096, as far as it
+    /// splits.
     fn start(
         &self,
         alloc: Global,
@@ -137,15 +157,21 @@ pub trait Stream {
         ensures holds { IfOk result (holds self.now) }
         ensures left { IfOk result (λ progress. left self.now progress ≡ value self.now) }
         ensures planned { most ≡ None → IfOk result (planned self.now workers target) }
-        ensures entries { IfOk result (λ progress. told_so_far self.now workers target progress []) };
+        ensures entries { IfOk result (λ progress. told_so_far self.now workers target progress []) }
+        ensures nothing { IfOk result (λ _. front self.now 0 ≡ []) }
+        ensures reads { IfOk result (λ progress. (to : ℕ) × reads self.now progress 0 to
+            × (fine self.now → most ≢ None → to ≤ first_segment)) };
 
     /// Whether no item comes behind the present segment.
     fn is_last(&self, progress: &Self::Progress) -> bool
         requires { ready self.now }
         ensures last { result ≡ true → behind self.now progress.now ≡ [] }
-        ensures later { result ≡ false → 0 < still self.now progress.now };
+        ensures later { result ≡ false → 0 < still self.now progress.now }
+        ensures undecided { result ≡ false → (n : ℕ) → read self.now progress.now n
+            → decided self.now n → ⊥ };
 
-    /// The segment behind the present one, cut into leaves. Its source estimates it at most `most` items, as far as it splits.
+    /// The segment behind the present one, cut into leaves. Its source estimates it at most `most` items, as far as it splits. Where it tells exact
+    /// sizes, it has at most twice as many as were read, or 4,096.
     fn go_on(
         &self,
         alloc: Global,
@@ -159,7 +185,9 @@ pub trait Stream {
         requires later { 0 < still self.now progress }
         ensures holds { IfOk result (holds self.now) }
         ensures left { IfOk result (λ next. left self.now next ≡ behind self.now progress) }
-        ensures still { IfOk result (λ next. still self.now next < still self.now progress) };
+        ensures still { IfOk result (λ next. still self.now next < still self.now progress) }
+        ensures reads { (n : ℕ) → read self.now progress n → IfOk result (λ next. (to : ℕ)
+            × reads self.now next n to × (fine self.now → to ≤ most_read n)) };
 
     /// The number of items of the present segment, as far as it is known. It is no promise.
     fn segment_size(&self, _progress: &Self::Progress) -> Option<u64> {
@@ -238,6 +266,9 @@ pub trait Stream {
         ensures left { done self.now progress ≡ false
             → IfOk result (λ after. left self.now after ≡ left self.now progress) }
         ensures still { IfOk result (λ after. still self.now after ≡ still self.now progress) }
+        ensures reads { done self.now progress ≡ false
+            → (from to : ℕ) → reads self.now progress from to
+            → IfOk result (λ after. reads self.now after from to) }
         ensures planned { done self.now progress ≡ false → planned self.now workers target progress
             → IfOk result (planned self.now workers target) }
         ensures entries { done self.now progress ≡ false → planned self.now workers target progress
@@ -253,6 +284,7 @@ pub trait Stream {
         ensures holds { holds self.now progress.old → holds self.now progress.new }
         ensures behind { behind self.now progress.new ≡ behind self.now progress.old }
         ensures still { still self.now progress.new ≡ still self.now progress.old }
+        ensures read { (n : ℕ) → read self.now progress.old n → read self.now progress.new n }
     {
         None
     }
@@ -320,6 +352,10 @@ pub trait Stream {
     // the lists of the last run's leaves are the segment's, cut
     ghost parts_law: { (s : Self) (p : Self.Progress) → holds s p → done s p ≡ true
         → left s p ≡ joined (parts s p) ++ behind s p };
+
+    // they are what the segment gives more, and all states stand behind it
+    ghost read_law: { (s : Self) (p : Self.Progress) (from to : ℕ) → holds s p → done s p ≡ true → reads s p from to
+        → read s p to × (front s to ≡ front s from ++ joined (parts s p)) };
 
     // where the segment is the whole, they are the stream's
     ghost whole_law: { (s : Self) (workers target : ℕ) (p : Self.Progress)

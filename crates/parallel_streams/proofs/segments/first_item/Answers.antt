@@ -7,6 +7,6 @@ pub returns-in-Some : goal.returns-in-Some
 returns-in-Some g c =
     let content = g.X.Item.Value.content in
     let whole = g.X.Stream.value c.args.stream.now in
-    let hit = found-first _ whole c.in_ok-acc.field-0 c.in-Some.acc c.in_ok-acc.ensures c.in-Some.is in
+    let hit = found-first _ whole c.in_ok-found.found c.in-Some.acc c.in_ok-found.ensures.found c.in-Some.is in
     let P : Option g.row.X-Item-Content.Denot → Type 0 = λ o. IfOk c.finish_container.result (λ found. option_map content found ≡ o) in
     subst P hit.2 (c.finish_container.ensures hit.0 hit.1)

@@ -1,7 +1,7 @@
-use Rattle.std.proofs.Common.{◌≡◌, ◌-◌, ◌++◌, map, take, length, ap, ◌∙◌, sym, arith}
+use Rattle.std.proofs.Common.{◌≡◌, ◌-◌, ◌++◌, Bool, Some, cond, count_by, not, map, take, length, ap, ◌∙◌, sym, arith}
 use Rattle.std.proofs.lemmas.List.{length-map, take-map}
 use Rattle.barriers.specs.Whiles.{taken_while}
-use Rattle.barriers.proofs.GoesOn.{taken-closed, taken-cut, taken-open}
+use Rattle.barriers.proofs.GoesOn.{needs-closed, needs-cut, needs-open, taken-closed, taken-cut, taken-open}
 use Rattle.barriers.proofs.whiles.TakeWhileBarrier.carry.Goals.{then-not-state, else-not-state+then-is_cut, else-not-state+else-is_cut}
 use Rattle.barriers.proofs.whiles.TakeWhileBarrier.carry.Goals as goal
 
@@ -28,4 +28,16 @@ returns-clause-goes_on g c = λ more.
       | else-not-state+else-is_cut w ↦
           taken-open p c.args.state.now c.args.is_cut items kept more w.if-not-state.false w.if-is_cut.false c.requires.told (ap (λ v. map content v.items) w.items-is)
           ∙ ap (λ b. kept ++ taken_while b p more) (sym w.state-is)
+    ]
+
+pub returns-clause-lessened : goal.returns-clause-lessened
+returns-clause-lessened g c =
+    let counted : g.row.T-Content.Denot → Bool = λ x. not (g.P.Test.holds c.args.self.now.test x) in
+    let items = map g.T.Value.content c.args.items.items in
+    elim c.if-not-state.branch [
+      | then-not-state w ↦ ap (λ b. Some (cond b 1 0)) w.state-is ∙ needs-closed c.args.state.now (count_by counted items) w.if-not-state.true
+      | else-not-state+then-is_cut w ↦
+          ap (λ b. Some (cond b 1 0)) w.state-is ∙ needs-cut counted c.args.state.now c.args.is_cut items w.if-not-state.false c.requires.told w.if-is_cut.true
+      | else-not-state+else-is_cut w ↦
+          ap (λ b. Some (cond b 1 0)) w.state-is ∙ needs-open counted c.args.state.now c.args.is_cut items w.if-not-state.false c.requires.told w.if-is_cut.false
     ]
