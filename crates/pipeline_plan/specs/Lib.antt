@@ -1,0 +1,8 @@
+pub mod Meanings
+pub mod Better
+pub mod Copies
+pub mod Neighbours
+pub mod Outlooks
+pub mod Plans
+pub mod Numbers
+pub mod Sums
