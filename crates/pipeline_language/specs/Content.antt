@@ -20,7 +20,7 @@ use Rattle.pipeline_language.specs.declared.pipeline.TextMerge.{TextMerge}
 use Rattle.pipeline_language.specs.declared.pipeline.TextMerge.TheVariants as text_merges
 use Rattle.pipeline_language.specs.declared.grammar.Merge.TheVariants as merges
 use Rattle.pipeline_language.specs.Grammar as grammar
-use Rattle.pipeline_language.specs.LineContent.{as_read, text_content, joint_content}
+use Rattle.pipeline_language.specs.LineContent.{as_read, count_content, text_content, joint_content}
 use Rattle.pipeline_language.specs.Typed.{NumberStage, TextStage, NumberBase, NumberInner, NumberSummary, TextBase, TextInner, TextSummary, TextValue, NumberTerminal, TextTerminal}
 use Rattle.pipeline_language.specs.declared.pipeline.Mapped.{Mapped}
 use Rattle.pipeline_language.specs.declared.pipeline.Mapped.TheVariants as values
@@ -84,10 +84,10 @@ abbrev pub text_summary : TextSummary → Summary
 text_summary summary = grammar.summary text_function (text_mapped number_inner text_inner) text_test text_base text_inner summary
 
 abbrev pub number_stage : NumberStage → Stage
-number_stage stage = grammar.stage number_function number_test Repeat stage
+number_stage stage = grammar.stage number_function number_test Repeat count_content stage
 
 abbrev pub text_stage : TextStage → Stage
-text_stage stage = grammar.stage (λ _. Itself) text_test as_read stage
+text_stage stage = grammar.stage (λ _. Itself) text_test as_read count_content stage
 
 abbrev pub number_terminal : NumberTerminal → Terminal
 number_terminal terminal = grammar.terminal number_function number_test number_summary (number_mapped as_read) OfNumbers terminal

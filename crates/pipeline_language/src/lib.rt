@@ -2,6 +2,7 @@
 #![tactic(auto)]
 
 mod grammar;
+mod item_count;
 mod kinds;
 mod line;
 mod meaning;
@@ -13,6 +14,7 @@ pub use grammar::{
     Barrier, Base, Condition, Expansion, Function, Inner, Joint, Line, Merge, NumberOnly,
     NumberTotal, OfKind, Stage, Summary, Terminal,
 };
+pub use item_count::ItemCount;
 pub use kinds::{MOST_STAGES, NumberLine, TextLine};
 pub use line::{Source, read_number_line, read_source, read_text_line, read_version};
 pub use meaning::one_reading;
