@@ -1,4 +1,5 @@
 pub mod Meanings
+pub mod Agreement
 pub mod Better
 pub mod Copies
 pub mod Neighbours

@@ -12,16 +12,15 @@ use Rattle.stages.specs.declared.flags.Operation.{Operation}
 use Rattle.stages.specs.declared.flags.StreamFlags.{StreamFlags}
 use Rattle.stages.specs.declared.flags.Operation.TheVariants as operations
 use Rattle.barriers.specs.BarrierFlags.{KeepsSound-distinct, KeepsSound-drop, KeepsSound-drop_while, KeepsSound-take, KeepsSound-take_while}
-use Rattle.pipeline_plan.specs.Meanings.{Meaning, stage_list}
+use Rattle.pipeline_plan.specs.Meanings.{Meaning, StageOf, stage_list}
 use Rattle.pipeline_plan.specs.declared.outlook.Outlook.{Outlook}
-use Rattle.pipeline_plan.specs.declared.grammar.Barrier.TheVariants.{Distinct, Limit, Skip, TakeWhile, DropWhile}
-use Rattle.pipeline_plan.specs.declared.grammar.Stage.{Stage}
-use Rattle.pipeline_plan.specs.declared.grammar.Stage.TheVariants.{Map, Filter, FlatMap, Barrier}
+use Rattle.pipeline_language.specs.declared.grammar.Barrier.TheVariants.{Distinct, Limit, Skip, TakeWhile, DropWhile}
+use Rattle.pipeline_language.specs.declared.grammar.Stage.TheVariants.{Map, Filter, FlatMap, Barrier}
 
 abbrev pub IsOutlook : {X : Type 0} → (X → X → Ordering) → Outlook → List X → Type 0
 IsOutlook order outlook l = IsSound order outlook.flags outlook.size l
 
-abbrev pub operation_of : {F P E : Type 0} → Stage F P E → Operation
+abbrev pub operation_of : {F P E : Type 0} → StageOf F P E → Operation
 operation_of (Map f) = operations.Map
 operation_of (Filter p) = operations.Filter
 operation_of (FlatMap e) = operations.FlatMap
@@ -31,7 +30,7 @@ operation_of (Barrier (Skip n)) = operations.Skip
 operation_of (Barrier (TakeWhile p)) = operations.TakeWhile
 operation_of (Barrier (DropWhile p)) = operations.DropWhile
 
-abbrev pub size_behind : {F P E : Type 0} → Stage F P E → Option ℕ → Option ℕ
+abbrev pub size_behind : {F P E : Type 0} → StageOf F P E → Option ℕ → Option ℕ
 size_behind (Map f) size = size
 size_behind (Barrier (Limit n)) size = option_map (min n.number) size
 size_behind (Barrier (Skip n)) size = option_map (λ i. i - n.number) size
@@ -47,7 +46,7 @@ keeps-images before later f = λ flags size items sound. record {
 }
 
 -- what is known of the items before a stage tells what is known behind it
-pub keeps-outlook : {F P E X : Type 0} (m : Meaning F P E X) (order : X → X → Ordering) (s : Stage F P E) → KeepsSound order order (operation_of s) (size_behind s) (stage_list m s)
+pub keeps-outlook : {F P E X : Type 0} (m : Meaning F P E X) (order : X → X → Ordering) (s : StageOf F P E) → KeepsSound order order (operation_of s) (size_behind s) (stage_list m s)
 keeps-outlook m order (Map f) = keeps-images order order (m.image f)
 keeps-outlook m order (Filter p) = λ flags size items sound. record {
   distinct = λ h. AllPairs-filter (λ c d. c ≢ d) (m.holds p) items (sound.distinct h);

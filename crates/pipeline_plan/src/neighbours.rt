@@ -5,7 +5,8 @@ ghost use Rattle.pipeline_plan.specs.Meanings.{stage_list};
 ghost use Rattle.pipeline_plan.specs.Better.{Betters, IsBetter, instead_list};
 ghost use Rattle.pipeline_plan.specs.Neighbours.{IsWindowOver, Repeats, is_distinct, is_window_behind_map, passes_copies};
 
-use crate::{Barrier, Kind, Stage, StageOf};
+use crate::{Kind, StageOf};
+use pipeline_language::{Barrier, Stage};
 
 /// What stands in the place of two neighbours.
 pub enum Instead<G> {

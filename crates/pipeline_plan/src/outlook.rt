@@ -4,7 +4,8 @@ ghost use Rattle.std.specs.Prelude.{◌≡◌, IfSome, List, length, map};
 ghost use Rattle.pipeline_plan.specs.Meanings.{stage_list, stages_list};
 ghost use Rattle.pipeline_plan.specs.Outlooks.{IsOutlook, operation_of, size_behind};
 
-use crate::{Barrier, Kind, Stage, StageOf};
+use crate::{Kind, StageOf};
+use pipeline_language::{Barrier, Stage};
 use stages::{Operation, StreamFlags};
 
 /// What is known of items: their flags, and their number where it is known.

@@ -6,7 +6,8 @@ ghost use Rattle.pipeline_plan.specs.Meanings.{stage_list, stages_list};
 ghost use Rattle.pipeline_plan.specs.Outlooks.{IsOutlook};
 
 use crate::neighbours::{better_neighbours, is_distinct, makes_none, put};
-use crate::{Barrier, ItemCount, Kind, Outlook, Stage, StageOf};
+use crate::{Kind, Outlook, StageOf};
+use pipeline_language::{Barrier, ItemCount, Stage};
 
 /// Where the items of a plan come from.
 pub trait PlanSource<K: Kind>: Copy {
