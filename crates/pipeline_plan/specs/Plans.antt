@@ -1,13 +1,13 @@
 -- Stages within stages.
-use Rattle.std.specs.Prelude.{◌≡◌, ◌≢◌, ◌≤◌, ◌<◌, ◌+◌, ℕ, zero, suc, true, List, [], ◌∷◌, ◌++◌, drop, length, remove, take, refl}
+use Rattle.std.specs.Prelude.{◌≡◌, ◌≢◌, ◌<◌, ◌+◌, ℕ, zero, suc, true, List, [], ◌∷◌, ◌++◌, drop, length, remove, take, refl}
 use Rattle.std.specs.List.{AllPairs, slice_index_or}
 use Rattle.std.proofs.Common.{ap, append_assoc, append-nil, sym, subst, ◌∙◌, arith, true≢false}
 use Rattle.std.proofs.lemmas.List.{drop-drop, take-append-drop, take_more}
 use Rattle.barriers.specs.Rewrites.{distinct-stays}
 use Rattle.pipeline_plan.specs.Neighbours.{is_distinct, weighs}
-use Rattle.pipeline_language.specs.declared.grammar.Barrier.TheVariants.{Distinct, Limit, Skip}
-use Rattle.pipeline_language.specs.declared.grammar.Stage.TheVariants.{FlatMap, Barrier}
-use Rattle.pipeline_plan.specs.Better.{Betters, work, weight}
+use Rattle.pipeline_language.specs.declared.grammar.Barrier.TheVariants.{Distinct}
+use Rattle.pipeline_language.specs.declared.grammar.Stage.TheVariants.{Barrier}
+use Rattle.pipeline_plan.specs.Better.{Betters, work}
 use Rattle.pipeline_plan.specs.Meanings.{Meaning, StageOf, stage_list, stages_list}
 
 module _ {F P E X : Type 0} (m : Meaning F P E X) where

@@ -44,7 +44,7 @@ static LISTS: [Row<'_>; 7] = [
     ),
 ];
 
-static NOT_KNOWN: [Row<'_>; 1] = [(b"range 0 10\nskip 1\nfilter less 4\ncount\n", "3\n")];
+static NOT_KNOWN: [Row<'_>; 1] = [(b"range 0 10\nskip 1\nfilter divisible 4\ncount\n", "2\n")];
 
 #[test]
 fn run_no_leaf(rt: HostRuntime) -> Result<(), Fail> {

@@ -14,7 +14,7 @@ returns-in-Range g c =
     let start : to_z w64 (of_z w64 first) ≡ first = to_z-of_z w64 first first_fits in
     let end : to_z w64 (of_z w64 behind) ≡ behind = to_z-of_z w64 behind behind_fits in
     let made = rw c.unwrap-range.ensures at c.range.ensures.ok in
-    rw c.in-Range.is (source-told c.args.body _ (integers_between first behind) c.narrowed_value.result (made ∙ ap₂ integers_between start end) c.narrowed_value.ensures)
+    rw c.in-Range.is (source-told c.args.body _ (integers_between first behind) c.range_value.result (made ∙ ap₂ integers_between start end) c.range_value.ensures)
 
 pub returns-in-Closed : goal.returns-in-Closed
 returns-in-Closed g c =
@@ -25,4 +25,4 @@ returns-in-Closed g c =
     let start : to_z w64 (of_z w64 first) ≡ first = to_z-of_z w64 first first_fits in
     let end : to_z w64 (of_z w64 last) ≡ last = to_z-of_z w64 last last_fits in
     let made = rw c.unwrap-range-in-Closed.ensures at c.closed.ensures.ok in
-    rw c.in-Closed.is (source-told c.args.body _ (integers_between first (last +ℤ pos 1)) c.narrowed_value-in-Closed.result (made ∙ ap₂ (λ a b. integers_between a (b +ℤ pos 1)) start end) c.narrowed_value-in-Closed.ensures)
+    rw c.in-Closed.is (source-told c.args.body _ (integers_between first (last +ℤ pos 1)) c.range_value-in-Closed.result (made ∙ ap₂ (λ a b. integers_between a (b +ℤ pos 1)) start end) c.range_value-in-Closed.ensures)
