@@ -8,6 +8,8 @@ use Rattle.pipeline_language.specs.declared.pipeline.TextEnd.{TextEnd}
 use Rattle.pipeline_language.specs.declared.pipeline.TextEnd.TheVariants as ends
 use Rattle.pipeline_language.specs.declared.pipeline.NumberSource.{NumberSource}
 use Rattle.pipeline_language.specs.declared.pipeline.NumberSource.TheVariants as sources
+use Rattle.pipeline_language.specs.declared.ranges.OpenRange.{OpenRange}
+use Rattle.pipeline_language.specs.declared.ranges.ClosedRange.{ClosedRange}
 use Rattle.pipeline_language.specs.declared.pipeline.NumberFunction.{NumberFunction}
 use Rattle.pipeline_language.specs.declared.pipeline.NumberFunction.TheVariants as number_functions
 use Rattle.pipeline_language.specs.declared.pipeline.TextFunction.{TextFunction}
@@ -26,9 +28,15 @@ use Rattle.pipeline_language.specs.declared.pipeline.Mapped.{Mapped}
 use Rattle.pipeline_language.specs.declared.pipeline.Mapped.TheVariants as values
 use Rattle.pipeline_language.specs.Syntax.{Add, Divisible, Empty, Equals, Function, Greater, Itself, Length, Less, Longer, Map, Merge, Mod, Mul, Negate, OfNumbers, OfTexts, Repeat, Starts, Condition, Base, Inner, Summary, Stage, Terminal, Origin, Range, Closed, Numbers, Lines, Program}
 
+abbrev pub open_origin : OpenRange → Origin
+open_origin range = Range range.start range.end
+
+abbrev pub closed_origin : ClosedRange → Origin
+closed_origin range = Closed range.start range.last
+
 abbrev pub number_origin : NumberSource → Origin
-number_origin (sources.Range a b) = Range a b
-number_origin (sources.Closed a b) = Closed a b
+number_origin (sources.Range range) = open_origin range
+number_origin (sources.Closed range) = closed_origin range
 number_origin (sources.Numbers numbers) = Numbers numbers.items
 
 abbrev pub number_function : NumberFunction → Function

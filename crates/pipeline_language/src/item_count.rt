@@ -5,7 +5,7 @@ ghost use Rattle.std.specs.Prelude.{◌≡◌, ◌<◌, ◌+◌, ◌*◌, ◌^�
 /// A number of items: below 2^63.
 #[derive(Clone, Copy, PartialEq)]
 pub struct ItemCount {
-    number: u64,
+    pub number: u64,
     ghost fits: { number < 2 ^ 63 },
 }
 
@@ -21,14 +21,6 @@ impl ItemCount {
         } else {
             None
         }
-    }
-
-    /// So many items, below 2^63.
-    pub fn new(number: u64) -> ItemCount
-        requires { number < 2 ^ 63 }
-        ensures { result.number ≡ number }
-    {
-        ItemCount { number }
     }
 
     /// The number.

@@ -7,6 +7,7 @@ mod kinds;
 mod line;
 mod meaning;
 mod pipeline;
+mod ranges;
 mod syntax;
 mod version;
 
@@ -23,4 +24,5 @@ pub use pipeline::{
     NumberSummary, NumberTerminal, NumberTest, Pipeline, TextBase, TextBody, TextEnd, TextFunction,
     TextInner, TextMerge, TextStage, TextSummary, TextTerminal, TextTest, TextValue,
 };
+pub use ranges::{ClosedRange, OpenRange};
 pub use version::Version;

@@ -153,7 +153,9 @@ fn read_expansion(words: &mut Words<'_>) -> Result<Expansion, FileError>
 fn read_count(words: &mut Words<'_>) -> Result<ItemCount, FileError>
     ensures { GetsAs count_content (any_natural words.old) result words.new }
 {
-    Ok(ItemCount::new(words.natural(i64::MAX)?))
+    Ok(ItemCount {
+        number: words.natural(i64::MAX)?,
+    })
 }
 
 /// All the words of a line after the source.
