@@ -1,5 +1,7 @@
 //! What the rules make of plans over 0 to 99: how many stages are left, and what is known before anything runs.
 
+ghost use Rattle.std.specs.Prelude.{◌<◌, ◌^◌};
+
 use pipeline_language::{Barrier, ItemCount, NumberFunction, NumberStage, NumberTest};
 use pipeline_plan::{NumberRange, Numbers, Plan, known_sum, optimised, outlook_of};
 use sources::RangeSplit;
@@ -12,19 +14,16 @@ const THIRDS: NumberStage = NumberStage::Map(NumberFunction::Mod(3));
 
 const DISTINCT: NumberStage = NumberStage::Barrier(Barrier::Distinct);
 
-fn count_of<R: Abort>(rt: &R, number: u64) -> ItemCount {
-    let Some(count) = ItemCount::of(number) else {
-        panic!(rt; "too many")
-    };
-    count
+fn limit(number: u64) -> NumberStage
+    requires { number < 2 ^ 63 }
+{
+    NumberStage::Barrier(Barrier::Limit(ItemCount { number }))
 }
 
-fn limit<R: Abort>(rt: &R, most: u64) -> NumberStage {
-    NumberStage::Barrier(Barrier::Limit(count_of(rt, most)))
-}
-
-fn skip<R: Abort>(rt: &R, number: u64) -> NumberStage {
-    NumberStage::Barrier(Barrier::Skip(count_of(rt, number)))
+fn skip(number: u64) -> NumberStage
+    requires { number < 2 ^ 63 }
+{
+    NumberStage::Barrier(Barrier::Skip(ItemCount { number }))
 }
 
 /// How many stages are left, how many numbers there are, and their sum.
@@ -42,10 +41,10 @@ fn left<R: Abort>(rt: &R, stages: Vec<NumberStage>) -> (usize, Option<u64>, Opti
 #[test]
 fn a_range_absorbs(rt: HostRuntime) -> Result<(), Fail> {
     let negate = NumberStage::Map(NumberFunction::Negate);
-    let stages = vec![in rt.alloc(); negate, skip(&rt, 1), limit(&rt, 3)]?;
+    let stages = vec![in rt.alloc(); negate, skip(1), limit(3)]?;
     assert!(rt; left(&rt, stages) == (0, Some(3), Some(-6)));
     let less = NumberStage::Filter(NumberTest::Less(4));
-    let stages = vec![in rt.alloc(); less, THIRDS, skip(&rt, 1)]?;
+    let stages = vec![in rt.alloc(); less, THIRDS, skip(1)]?;
     assert!(rt; left(&rt, stages) == (1, Some(3), None));
     Ok(())
 }
@@ -59,7 +58,7 @@ fn nothing_is_read_before_no_copies(rt: HostRuntime) -> Result<(), Fail> {
 
 #[test]
 fn a_distinct_of_numbers_that_differ_is_dropped(rt: HostRuntime) -> Result<(), Fail> {
-    let stages = vec![in rt.alloc(); SEVENTHS, DISTINCT, limit(&rt, 3), DISTINCT]?;
+    let stages = vec![in rt.alloc(); SEVENTHS, DISTINCT, limit(3), DISTINCT]?;
     assert!(rt; left(&rt, stages) == (2, None, None));
     let stages = vec![in rt.alloc(); THIRDS, DISTINCT]?;
     assert_eq!(rt; left(&rt, stages).0, 2);
@@ -68,8 +67,7 @@ fn a_distinct_of_numbers_that_differ_is_dropped(rt: HostRuntime) -> Result<(), F
 
 #[test]
 fn copies_sink_behind_what_looks_at_items(rt: HostRuntime) -> Result<(), Fail> {
-    let stages =
-        vec![in rt.alloc(); NumberStage::FlatMap(4), SEVENTHS, limit(&rt, 12), skip(&rt, 4)]?;
+    let stages = vec![in rt.alloc(); NumberStage::FlatMap(4), SEVENTHS, limit(12), skip(4)]?;
     let Ok(range) = RangeSplit::range(0, 100) else {
         panic!(rt; "too long")
     };
@@ -91,8 +89,7 @@ fn copies_before_a_distinct_are_dropped(rt: HostRuntime) -> Result<(), Fail> {
 
 #[test]
 fn windows_of_some_copies_stay(rt: HostRuntime) -> Result<(), Fail> {
-    let stages =
-        vec![in rt.alloc(); NumberStage::FlatMap(4), limit(&rt, 10), limit(&rt, 9), skip(&rt, 3)]?;
+    let stages = vec![in rt.alloc(); NumberStage::FlatMap(4), limit(10), limit(9), skip(3)]?;
     assert_eq!(rt; left(&rt, stages).0, 3);
     Ok(())
 }

@@ -64,7 +64,7 @@ fn absorbing<K: Kind, S: PlanSource<K>>(source: &S, stages: &[StageOf<K>]) -> Op
         return None;
     }
     if makes_none::<K>(&stages[0]) {
-        let none = ItemCount::of(0)?;
+        let none = ItemCount { number: 0 };
         return source.absorbed(&Stage::Barrier(Barrier::Limit(none)));
     }
     source.absorbed(&stages[0])

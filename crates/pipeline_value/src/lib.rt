@@ -14,6 +14,7 @@ mod nested;
 mod number_end;
 mod number_groups;
 mod numbers;
+mod ranges;
 mod sizes;
 mod text_end;
 mod text_groups;

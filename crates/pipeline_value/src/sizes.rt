@@ -3,11 +3,10 @@
 ghost use Rattle.std.specs.Prelude.{◌≡◌, IsTrue, length};
 ghost use Rattle.spliterator.specs.Characteristics.{tells};
 ghost use Rattle.spliterator.specs.declared.characteristics.TheConstants.{SIZED};
-ghost use Rattle.pipeline_value.specs.Ranges.{NumberSourceFits};
 ghost use Rattle.pipeline_value.specs.Typed.{source_numbers};
 
+use crate::ranges::{closed_numbers, open_numbers};
 use pipeline_language::NumberSource;
-use sources::RangeSplit;
 use spliterator::Spliterator;
 
 /// How many numbers a source has. A range has up to 2^62.
@@ -18,12 +17,11 @@ use spliterator::Spliterator;
 /// numbers 5 1 5    // 3
 /// ```
 pub fn source_size(source: &NumberSource) -> u64
-    requires { NumberSourceFits source.now }
     ensures { result ≡ length (source_numbers source.now) }
 {
     match source {
-        NumberSource::Range(start, end) => left_of(&RangeSplit::range(*start, *end).unwrap()),
-        NumberSource::Closed(start, last) => left_of(&RangeSplit::closed(*start, *last).unwrap()),
+        NumberSource::Range(range) => left_of(&open_numbers(*range)),
+        NumberSource::Closed(range) => left_of(&closed_numbers(*range)),
         NumberSource::Numbers(numbers) => numbers.len() as u64,
     }
 }

@@ -2,13 +2,13 @@
 
 ghost use Rattle.parallel_streams.specs.Runs.{IsLawfulRun};
 ghost use Rattle.pipeline_language.specs.Content.{program_of};
-ghost use Rattle.pipeline_value.specs.Ranges.{NumberSourceFits, PipelineFits};
 ghost use Rattle.pipeline_value.specs.Typed.{number_body_told, source_numbers};
 ghost use Rattle.pipeline_value.specs.Value.{Tells, program_told};
 
 use crate::engine::Engine;
 use crate::known::{known_number_count, known_number_sum};
 use crate::numbers::number_value;
+use crate::ranges::{closed_numbers, open_numbers};
 use crate::texts::text_value;
 use crate::told::ValueError;
 use parallel_streams::{Run, of};
@@ -32,7 +32,6 @@ pub fn pipeline_value<R: Threads + Sync, H: Gate + Sync>(
     run: &Run<'_, H>,
 ) -> Result<Rope, ValueError>
     requires settings { IsLawfulRun run.now.workers run.now.target }
-    requires fits { PipelineFits pipeline }
     ensures { Tells (program_told (program_of pipeline.entry)) result }
 {
     let engine = &Engine {
@@ -57,18 +56,11 @@ fn source_value<R: Threads + Sync, H: Gate + Sync>(
     source: NumberSource,
     body: NumberBody,
 ) -> Result<Rope, ValueError>
-    requires source { NumberSourceFits source }
     ensures { Tells (number_body_told body (source_numbers source)) result }
 {
     match source {
-        NumberSource::Range(start, end) => {
-            let range = RangeSplit::range(start, end).unwrap();
-            range_value(engine, range, body)
-        }
-        NumberSource::Closed(start, last) => {
-            let range = RangeSplit::closed(start, last).unwrap();
-            range_value(engine, range, body)
-        }
+        NumberSource::Range(range) => range_value(engine, open_numbers(range), body),
+        NumberSource::Closed(range) => range_value(engine, closed_numbers(range), body),
         NumberSource::Numbers(numbers) => list_value(engine, numbers.as_slice(), body),
     }
 }
