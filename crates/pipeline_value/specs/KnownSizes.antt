@@ -13,7 +13,7 @@ use Rattle.pipeline_language.specs.declared.grammar.Terminal.{Terminal}
 use Rattle.pipeline_language.specs.declared.grammar.Terminal.TheVariants.{Count}
 
 -- The stages that leave so many items, whatever the items are: a map, a limit and a skip.
-abbrev pub size_stays_known : {F P E : Type 0} → Stage F P E → Bool
+abbrev pub size_stays_known : {F P E N : Type 0} → Stage F P E N → Bool
 size_stays_known (Map f) = true
 size_stays_known (Barrier (Limit n)) = true
 size_stays_known (Barrier (Skip n)) = true

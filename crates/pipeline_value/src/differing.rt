@@ -1,12 +1,11 @@
 //! Distinct, taken off stages where what comes to it differs anyway.
 
-ghost use Rattle.std.specs.Prelude.{◌≡◌, All, List, ℤ};
+ghost use Rattle.std.specs.Prelude.{◌≡◌, List, ℤ};
 ghost use Rattle.std.specs.Bool.{OnTrue};
 ghost use Rattle.pipeline_meaning.specs.Functions.{number_image};
 ghost use Rattle.pipeline_meaning.specs.Stages.{number_stage, number_stages};
 ghost use Rattle.pipeline_value.specs.Differing.{DifferAsTold, is_distinct};
 ghost use Rattle.pipeline_value.specs.OneToOne.{GivesI64, IsOneToOne};
-ghost use Rattle.pipeline_value.specs.Ranges.{NumberStageFits};
 
 use pipeline_language::{Barrier, NumberFunction, NumberStage};
 
@@ -17,9 +16,7 @@ use pipeline_language::{Barrier, NumberFunction, NumberStage};
 /// numbers 3 1 3, distinct, map negate, distinct, max          // numbers 3 1 3, distinct, map negate, max
 /// ```
 pub(crate) fn drop_distincts(stages: &mut Vec<NumberStage>, mut differ: bool)
-    requires { All NumberStageFits stages.old.items }
-    ensures value { (l : List ℤ) → DifferAsTold differ l → number_stages stages.new.items l ≡ number_stages stages.old.items l }
-    ensures fits { All NumberStageFits stages.new.items }
+    ensures { (l : List ℤ) → DifferAsTold differ l → number_stages stages.new.items l ≡ number_stages stages.old.items l }
 {
     let mut at: usize = 0;
     while at < stages.len() {

@@ -8,14 +8,13 @@ ghost use Rattle.spliterator.specs.declared.characteristics.TheConstants.{SIZED}
 ghost use Rattle.stages.specs.Wrapping.{wrapped};
 ghost use Rattle.pipeline_meaning.specs.Stages.{number_stage, number_stages, text_stage, text_stages};
 ghost use Rattle.pipeline_value.specs.KnownSizes.{count_is_known, counts, number_count_is_known, size_stays_known, text_count_is_known};
-ghost use Rattle.pipeline_value.specs.Ranges.{NumberSourceFits, PipelineFits};
 ghost use Rattle.pipeline_value.specs.Typed.{number_body_told, pipeline_told, source_numbers, text_end_told, text_told};
 
+use crate::ranges::{closed_numbers, open_numbers};
 use pipeline_language::{
     Barrier, NumberBody, NumberSource, NumberStage, NumberTerminal, Pipeline, TextEnd, TextStage,
     TextTerminal,
 };
-use sources::RangeSplit;
 use spliterator::Spliterator;
 
 /// The count that a pipeline answers, as an `i64` that wraps, where it is known from the source's size: behind maps, limits and skips.
@@ -25,7 +24,6 @@ use spliterator::Spliterator;
 /// range 0 10, filter less 4, count                  // None
 /// ```
 pub(crate) fn known_count(pipeline: &Pipeline<'_>) -> Option<i64>
-    requires fits { PipelineFits pipeline.now }
     ensures value { IfSome result (λ n. pipeline_told pipeline.now ≡ Ok (signed_decimal n)) }
     ensures known { is_some result ≡ count_is_known pipeline.now }
 {
@@ -100,8 +98,8 @@ fn number_size_after(size: u64, stage: &NumberStage) -> Option<u64>
 {
     match *stage {
         NumberStage::Map(_) => Some(size),
-        NumberStage::Barrier(Barrier::Limit(most)) => Some(most.min(size)),
-        NumberStage::Barrier(Barrier::Skip(number)) => Some(size.saturating_sub(number)),
+        NumberStage::Barrier(Barrier::Limit(most)) => Some(most.get().min(size)),
+        NumberStage::Barrier(Barrier::Skip(number)) => Some(size.saturating_sub(number.get())),
         NumberStage::Filter(_)
         | NumberStage::FlatMap(_)
         | NumberStage::Barrier(Barrier::Distinct)
@@ -129,8 +127,8 @@ fn text_size_after(size: u64, stage: &TextStage<'_>) -> Option<u64>
 {
     match *stage {
         TextStage::Map(()) => Some(size),
-        TextStage::Barrier(Barrier::Limit(most)) => Some(most.min(size)),
-        TextStage::Barrier(Barrier::Skip(number)) => Some(size.saturating_sub(number)),
+        TextStage::Barrier(Barrier::Limit(most)) => Some(most.get().min(size)),
+        TextStage::Barrier(Barrier::Skip(number)) => Some(size.saturating_sub(number.get())),
         TextStage::Filter(_)
         | TextStage::FlatMap(_)
         | TextStage::Barrier(Barrier::Distinct)
@@ -147,12 +145,11 @@ fn text_size_after(size: u64, stage: &TextStage<'_>) -> Option<u64>
 /// numbers 5 1 5    // 3
 /// ```
 pub fn source_size(source: &NumberSource) -> u64
-    requires { NumberSourceFits source.now }
     ensures { result ≡ length (source_numbers source.now) }
 {
     match source {
-        NumberSource::Range(start, end) => left_of(&RangeSplit::range(*start, *end).unwrap()),
-        NumberSource::Closed(start, last) => left_of(&RangeSplit::closed(*start, *last).unwrap()),
+        NumberSource::Range(range) => left_of(&open_numbers(*range)),
+        NumberSource::Closed(range) => left_of(&closed_numbers(*range)),
         NumberSource::Numbers(numbers) => numbers.len() as u64,
     }
 }

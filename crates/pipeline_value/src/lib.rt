@@ -19,6 +19,7 @@ mod number_end;
 mod number_groups;
 mod numbers;
 mod powers;
+mod ranges;
 mod repeated;
 mod repeats;
 mod stepped;

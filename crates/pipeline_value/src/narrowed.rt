@@ -1,9 +1,8 @@
 //! Ranges, narrowed before anything runs: by limits and skips, by filters that compare, and by repeats of no copies.
 
-ghost use Rattle.std.specs.Prelude.{◌≡◌, ℤ, All, IfSome, List, [], false, true};
+ghost use Rattle.std.specs.Prelude.{◌≡◌, ℤ, IfSome, List, [], false, true};
 ghost use Rattle.pipeline_meaning.specs.Stages.{is_map_stage, number_stage, number_stages};
 ghost use Rattle.pipeline_value.specs.Narrowing.{is_window};
-ghost use Rattle.pipeline_value.specs.Ranges.{NumberStageFits};
 
 use pipeline_language::{Barrier, NumberStage, NumberTest};
 use sources::{RangeSplit, Windowed};
@@ -17,9 +16,7 @@ use spliterator::Spliterator;
 /// range 0 100, filter greater 7, limit 3, sum      // range 8 11, sum
 /// ```
 pub(crate) fn narrowed(mut range: RangeSplit, stages: &mut Vec<NumberStage>) -> RangeSplit
-    requires { All NumberStageFits stages.old.items }
-    ensures value { number_stages stages.new.items (⟦<RangeSplit as Spliterator>⟧.items result) ≡ number_stages stages.old.items (⟦<RangeSplit as Spliterator>⟧.items range) }
-    ensures fits { All NumberStageFits stages.new.items }
+    ensures { number_stages stages.new.items (⟦<RangeSplit as Spliterator>⟧.items result) ≡ number_stages stages.old.items (⟦<RangeSplit as Spliterator>⟧.items range) }
 {
     let mut maps: usize = 0;
     for _round in 0..stages.len() {
@@ -78,8 +75,8 @@ fn part_of(range: RangeSplit, stage: &NumberStage, is_first: bool) -> Option<Ran
     ensures window { IfSome result (λ _. is_first ≡ false → is_window stage.now ≡ true) }
 {
     match *stage {
-        NumberStage::Barrier(Barrier::Limit(most)) => Some(range.first(most)),
-        NumberStage::Barrier(Barrier::Skip(number)) => Some(range.after_first(number)),
+        NumberStage::Barrier(Barrier::Limit(most)) => Some(range.first(most.get())),
+        NumberStage::Barrier(Barrier::Skip(number)) => Some(range.after_first(number.get())),
         _ if is_first => compared_part(range, stage),
         _ => None,
     }

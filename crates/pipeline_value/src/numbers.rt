@@ -1,8 +1,7 @@
 //! The value of stages over numbers and a terminal.
 
-ghost use Rattle.std.specs.Prelude.{◌≡◌, All};
+ghost use Rattle.std.specs.Prelude.{◌≡◌};
 ghost use Rattle.pipeline_meaning.specs.Stages.{number_stages};
-ghost use Rattle.pipeline_value.specs.Ranges.{NumberStageFits};
 ghost use Rattle.pipeline_value.specs.Typed.{number_told};
 ghost use Rattle.pipeline_value.specs.Value.{Tells};
 
@@ -33,7 +32,6 @@ where
     X::Part: Send,
     H: Gate + Sync,
     requires stream { X.ready stream }
-    requires fits { All NumberStageFits stages.now }
     ensures { Tells (number_told terminal.now (number_stages stages.now (X.value stream))) result }
 {
     let linked = linked(engine.alloc, engine.hashes, stages)?;
@@ -51,7 +49,6 @@ pub(crate) fn list_value<R: Threads + Sync, H: Gate + Sync>(
     stages: &[NumberStage],
     terminal: &NumberTerminal,
 ) -> Result<Rope, ValueError>
-    requires fits { All NumberStageFits stages.now }
     ensures { Tells (number_told terminal.now (number_stages stages.now items.now)) result }
 {
     let (copies, repeats) = repeated(SliceSplit::new(items), stages);

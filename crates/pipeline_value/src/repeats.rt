@@ -1,16 +1,15 @@
 //! Repeats, taken off stages where a `distinct` drops their copies anyway, and moved before what cuts.
 
-ghost use Rattle.std.specs.Prelude.{◌≡◌, ◌≤◌, ◌<◌, ◌*◌, ◌^◌, ℤ, All, IfSome, List, drop, flat_map, length, take, true};
+ghost use Rattle.std.specs.Prelude.{◌≡◌, ◌≤◌, ◌<◌, ◌*◌, ℤ, IfSome, List, drop, flat_map, length, take, true};
 ghost use Rattle.std.proofs.Math.ListN.{replicate};
-ghost use Rattle.pipeline_value.specs.Ranges.{NumberStageFits};
 ghost use Rattle.pipeline_value.specs.Repeats.{DropCopies, makes_copies, passes_copies};
 ghost use Rattle.pipeline_meaning.specs.Stages.{number_stage, number_stages};
 
 use crate::differing::is_distinct;
 use crate::repeated::Repeated;
-use pipeline_language::{Barrier, NumberStage};
+use pipeline_language::{Barrier, ItemCount, NumberStage};
 use sources::Windowed;
-use spliterator::{MAX_ESTIMATE, Spliterator};
+use spliterator::Spliterator;
 
 /// Takes each repeat, of one copy or more, off the stages where a `distinct` comes behind it before any limit or skip.
 ///
@@ -18,9 +17,7 @@ use spliterator::{MAX_ESTIMATE, Spliterator};
 /// range 0 100, flatmap repeat 4, map mod 7, distinct, max    // range 0 100, map mod 7, distinct, max
 /// ```
 pub(crate) fn drop_repeats(stages: &mut Vec<NumberStage>)
-    requires { All NumberStageFits stages.old.items }
-    ensures value { (l : List ℤ) → number_stages stages.new.items l ≡ number_stages stages.old.items l }
-    ensures fits { All NumberStageFits stages.new.items }
+    ensures { (l : List ℤ) → number_stages stages.new.items l ≡ number_stages stages.old.items l }
 {
     let mut at: usize = 0;
     while at < stages.len() {
@@ -77,9 +74,7 @@ fn passes_copies(stage: &NumberStage) -> bool
 /// range 0 100, map mod 7, limit 50, flatmap repeat 4, skip 3    // range 0 100, flatmap repeat 4, map mod 7, limit 200, skip 3
 /// ```
 pub(crate) fn repeats_first(stages: &mut Vec<NumberStage>)
-    requires { All NumberStageFits stages.old.items }
-    ensures value { (l : List ℤ) → number_stages stages.new.items l ≡ number_stages stages.old.items l }
-    ensures fits { All NumberStageFits stages.new.items }
+    ensures { (l : List ℤ) → number_stages stages.new.items l ≡ number_stages stages.old.items l }
 {
     for at in 0..stages.len() {
         let (_, rest) = stages.as_slice().split_at(at);
@@ -106,10 +101,8 @@ fn is_cut_later(stages: &[NumberStage]) -> bool {
 
 /// Moves a stage forward as long as it is a repeat and its neighbour can stand behind it.
 fn move_forward(stages: &mut Vec<NumberStage>, at: usize)
-    requires fits { All NumberStageFits stages.old.items }
     requires within { at < length stages.old.items }
     ensures value { (l : List ℤ) → number_stages stages.new.items l ≡ number_stages stages.old.items l }
-    ensures fits { All NumberStageFits stages.new.items }
     ensures size { length stages.new.items ≡ length stages.old.items }
 {
     let mut place = at;
@@ -126,9 +119,7 @@ fn move_forward(stages: &mut Vec<NumberStage>, at: usize)
 
 /// The stage that does behind a repeat what another does before it.
 fn behind_repeat(stage: &NumberStage, repeat: &NumberStage) -> Option<NumberStage>
-    requires { NumberStageFits stage.now }
-    ensures same { IfSome result (λ behind. (l : List ℤ) → number_stage behind (number_stage repeat.now l) ≡ number_stage repeat.now (number_stage stage.now l)) }
-    ensures fits { IfSome result NumberStageFits }
+    ensures { IfSome result (λ behind. (l : List ℤ) → number_stage behind (number_stage repeat.now l) ≡ number_stage repeat.now (number_stage stage.now l)) }
 {
     match *repeat {
         NumberStage::FlatMap(number) => behind_copies(stage, number),
@@ -138,9 +129,7 @@ fn behind_repeat(stage: &NumberStage, repeat: &NumberStage) -> Option<NumberStag
 
 /// The stage that does behind so many copies what another does before them.
 fn behind_copies(stage: &NumberStage, number: u64) -> Option<NumberStage>
-    requires { NumberStageFits stage.now }
-    ensures same { IfSome result (λ behind. (l : List ℤ) → number_stage behind (flat_map (replicate number) l) ≡ flat_map (replicate number) (number_stage stage.now l)) }
-    ensures fits { IfSome result NumberStageFits }
+    ensures { IfSome result (λ behind. (l : List ℤ) → number_stage behind (flat_map (replicate number) l) ≡ flat_map (replicate number) (number_stage stage.now l)) }
 {
     if passes_copies(stage) {
         return Some(*stage);
@@ -157,16 +146,11 @@ fn behind_copies(stage: &NumberStage, number: u64) -> Option<NumberStage>
 }
 
 /// So many copies of so many items, where they are in the range of a limit.
-fn copies_of(items: u64, number: u64) -> Option<u64>
-    ensures copies { IfSome result (λ copies. copies ≡ number * items) }
-    ensures fits { IfSome result (λ copies. copies < 2 ^ 63) }
+fn copies_of(items: ItemCount, number: u64) -> Option<ItemCount>
+    ensures { IfSome result (λ copies. copies.number ≡ number * items.number) }
 {
-    let copies = items.checked_mul(number)?;
-    if copies <= MAX_ESTIMATE {
-        Some(copies)
-    } else {
-        None
-    }
+    let copies = items.get().checked_mul(number)?;
+    ItemCount::of(copies)
 }
 
 /// A source's numbers with the copies that the repeats at the front of stages make of them, and how many stages these are: none where
@@ -188,9 +172,7 @@ where
 pub(crate) fn with_copies<S>(source: S, stages: &mut Vec<NumberStage>) -> Repeated<S>
 where
     S: Windowed + Spliterator<Item = i64>,
-    requires { All NumberStageFits stages.old.items }
-    ensures value { number_stages stages.new.items (⟦<Repeated<S> as Spliterator>⟧.items result) ≡ number_stages stages.old.items (S.items source) }
-    ensures fits { All NumberStageFits stages.new.items }
+    ensures { number_stages stages.new.items (⟦<Repeated<S> as Spliterator>⟧.items result) ≡ number_stages stages.old.items (S.items source) }
 {
     let (copies, taken) = repeated(source, stages.as_slice());
     take_off(stages, taken);

@@ -1,8 +1,7 @@
 //! Ranges behind sums, products and negatives, as numbers by one step.
 
-ghost use Rattle.std.specs.Prelude.{◌≡◌, All, IfSome};
+ghost use Rattle.std.specs.Prelude.{◌≡◌, IfSome};
 ghost use Rattle.pipeline_meaning.specs.Stages.{number_stage, number_stages};
-ghost use Rattle.pipeline_value.specs.Ranges.{NumberStageFits};
 
 use pipeline_language::{NumberFunction, NumberStage};
 use sources::{Progression, RangeSplit};
@@ -14,9 +13,7 @@ use spliterator::Spliterator;
 /// range 0 100, map mul 3, map add 1, filter divisible 2, sum    // 1, 4, .. 298, filter divisible 2, sum
 /// ```
 pub(crate) fn stepped(range: RangeSplit, stages: &mut Vec<NumberStage>) -> Progression
-    requires { All NumberStageFits stages.old.items }
-    ensures value { number_stages stages.new.items (⟦<Progression as Spliterator>⟧.items result) ≡ number_stages stages.old.items (⟦<RangeSplit as Spliterator>⟧.items range) }
-    ensures fits { All NumberStageFits stages.new.items }
+    ensures { number_stages stages.new.items (⟦<Progression as Spliterator>⟧.items result) ≡ number_stages stages.old.items (⟦<RangeSplit as Spliterator>⟧.items range) }
 {
     let mut numbers = Progression::of(range);
     for _round in 0..stages.len() {

@@ -1,9 +1,8 @@
 //! The value of stages over texts and what follows them.
 
-ghost use Rattle.std.specs.Prelude.{◌≡◌, All, flat_map, map};
+ghost use Rattle.std.specs.Prelude.{◌≡◌, flat_map, map};
 ghost use Rattle.pipeline_meaning.specs.Functions.{text_length};
 ghost use Rattle.pipeline_meaning.specs.Stages.{text_stages};
-ghost use Rattle.pipeline_value.specs.Ranges.{NumberBodyFits, TextEndFits, TextStageFits};
 ghost use Rattle.pipeline_value.specs.Typed.{number_body_told, text_end_told};
 ghost use Rattle.pipeline_value.specs.Value.{Tells};
 
@@ -29,8 +28,6 @@ pub(crate) fn text_value<'a, R: Threads + Sync, H: Gate + Sync>(
     stages: &[TextStage<'a>],
     end: &TextEnd<'a>,
 ) -> Result<Rope, ValueError>
-    requires fits { All TextStageFits stages.now }
-    requires end { TextEndFits end.now }
     ensures { Tells (text_end_told end.now (text_stages stages.now (map (λ t. t.now) items.now))) result }
 {
     let linked = linked(engine.alloc, engine.hashes, stages)?;
@@ -48,7 +45,6 @@ fn end_value<'s, 'a, R: Threads + Sync, H: Gate + Sync>(
     end: &TextEnd<'a>,
 ) -> Result<Rope, ValueError>
     requires texts { ⟦<Texts<'s, 'a> as Stream>⟧.ready texts }
-    requires end { TextEndFits end.now }
     ensures { Tells (text_end_told end.now (⟦<Texts<'s, 'a> as Stream>⟧.value texts.entry)) result }
 {
     match end {
@@ -71,7 +67,6 @@ where
     X::Part: Send,
     H: Gate + Sync,
     requires texts { X.ready texts }
-    requires fits { NumberBodyFits body.now }
     ensures { Tells (number_body_told body.now (map text_length (X.value texts))) result }
 {
     let stages = body.stages.as_slice();

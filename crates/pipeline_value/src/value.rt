@@ -2,7 +2,6 @@
 
 ghost use Rattle.parallel_streams.specs.Runs.{IsLawfulRun};
 ghost use Rattle.pipeline_language.specs.Content.{program_of};
-ghost use Rattle.pipeline_value.specs.Ranges.{NumberBodyFits, NumberSourceFits, PipelineFits};
 ghost use Rattle.pipeline_value.specs.Typed.{number_body_told, source_numbers};
 ghost use Rattle.pipeline_value.specs.Value.{Tells, program_told};
 
@@ -12,6 +11,7 @@ use crate::known_folds::known_fold;
 use crate::known_size::known_count;
 use crate::narrowed::{emptied, narrowed};
 use crate::numbers::{list_value, number_value};
+use crate::ranges::{closed_numbers, open_numbers};
 use crate::repeats::{drop_repeats, repeats_first, with_copies};
 use crate::stepped::stepped;
 use crate::texts::text_value;
@@ -36,7 +36,6 @@ pub fn pipeline_value<R: Threads + Sync, H: Gate + Sync>(
     run: &Run<'_, H>,
 ) -> Result<Rope, ValueError>
     requires settings { IsLawfulRun run.now.workers run.now.target }
-    requires fits { PipelineFits pipeline }
     ensures { Tells (program_told (program_of pipeline.entry)) result }
 {
     if let Some(count) = known_count(&pipeline) {
@@ -66,19 +65,11 @@ fn source_value<R: Threads + Sync, H: Gate + Sync>(
     source: NumberSource,
     body: NumberBody,
 ) -> Result<Rope, ValueError>
-    requires source { NumberSourceFits source }
-    requires body { NumberBodyFits body }
     ensures { Tells (number_body_told body (source_numbers source)) result }
 {
     match source {
-        NumberSource::Range(start, end) => {
-            let range = RangeSplit::range(start, end).unwrap();
-            narrowed_value(engine, range, body)
-        }
-        NumberSource::Closed(start, last) => {
-            let range = RangeSplit::closed(start, last).unwrap();
-            narrowed_value(engine, range, body)
-        }
+        NumberSource::Range(range) => narrowed_value(engine, open_numbers(range), body),
+        NumberSource::Closed(range) => narrowed_value(engine, closed_numbers(range), body),
         NumberSource::Numbers(numbers) => listed_value(engine, numbers, body),
     }
 }
@@ -90,7 +81,6 @@ fn listed_value<R: Threads + Sync, H: Gate + Sync>(
     numbers: Vec<i64>,
     mut body: NumberBody,
 ) -> Result<Rope, ValueError>
-    requires body { NumberBodyFits body }
     ensures { Tells (number_body_told body numbers.items) result }
 {
     // the call promises that the numbers are of an i64
@@ -111,7 +101,6 @@ fn narrowed_value<R: Threads + Sync, H: Gate + Sync>(
     range: RangeSplit,
     mut body: NumberBody,
 ) -> Result<Rope, ValueError>
-    requires body { NumberBodyFits body }
     ensures { Tells (number_body_told body (⟦<RangeSplit as Spliterator>⟧.items range)) result }
 {
     let range = emptied(range, body.stages.as_slice());

@@ -8,5 +8,5 @@ pub loop-stage-preserved : goal.loop-stage-preserved
 loop-stage-preserved c = (
   omega arith,
   sized-more number_stage size_stays_known c.args.stages.now c.loop-stage.stage-index _ c.args.size c.loop-stage.left c.in_ok-left.left c.loop-stage-test.true c.loop-stage.invariant.1
-      c.in_ok-left.ensures.known c.in_ok-left.ensures.value,
+      (rw c.stage-item.is at c.in_ok-left.ensures.known) (rw c.stage-item.is at c.in_ok-left.ensures.value),
 )

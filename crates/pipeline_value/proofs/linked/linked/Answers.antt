@@ -25,11 +25,6 @@ loop-at-preserved-then-branch g c =
       c.loop-at.invariant.1,
     )
 
-pub language_barrier-barrier-requires-clause-fits : goal.language_barrier-barrier-requires-clause-fits
-language_barrier-barrier-requires-clause-fits g c =
-    let stage = c.index-stages-at-in-loop-at in
-    c.in-Some.ensures.fits (subst g.G.LanguageStage.Fits (sym stage.is) (c.requires.fits c.loop-at.at stage.result c.loop-at-test.true))
-
 pub loop-at-preserved : goal.loop-at-preserved
 loop-at-preserved g c =
     let makes = g.G.LanguageStage.makes in

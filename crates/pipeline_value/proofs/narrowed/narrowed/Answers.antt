@@ -3,8 +3,7 @@ use Rattle.std.specs.List.{slice_index_or}
 use Rattle.std.specs.Prelude.{remove}
 use Rattle.sources.specs.Integers.{integers}
 use Rattle.pipeline_meaning.specs.Stages.{is_map_stage, number_stage, number_stages}
-use Rattle.pipeline_value.specs.Narrowing.{is_window, is_none, maps-more, maps-kept, done-before, fits-kept}
-use Rattle.pipeline_value.specs.Ranges.{NumberStageFits}
+use Rattle.pipeline_value.specs.Narrowing.{is_window, is_none, maps-more, maps-kept, done-before}
 use Rattle.pipeline_value.proofs.narrowed.narrowed.Goals.{then-is_map, else-is_map+in-Some}
 use Rattle.pipeline_value.proofs.narrowed.narrowed.Goals as goal
 
@@ -20,7 +19,6 @@ loop-round-preserved c =
           rw (w.maps-is, w.stages-is, w.range-is) (
             maps-more stages maps d within c.loop-round.invariant.0 passes,
             c.loop-round.invariant.1,
-            c.loop-round.invariant.2,
           )
       | else-is_map+in-Some w ↦
           let e = w.index-else-is_map.result.now in
@@ -33,6 +31,5 @@ loop-round-preserved c =
             ap (number_stages (remove stages maps)) (made.part ∙ ap (λ s. number_stage s items) at)
                 ∙ done-before stages maps (nat_eq maps 0) e items within c.loop-round.invariant.0 (is_none maps) (λ later. ap is_window (sym at) ∙ made.window later)
                 ∙ c.loop-round.invariant.1,
-            fits-kept NumberStageFits stages maps c.loop-round.invariant.2,
           )
     ]

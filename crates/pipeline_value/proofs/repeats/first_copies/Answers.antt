@@ -20,5 +20,5 @@ loop-taken-preserved c =
       some = c.in-Some.ensures.some;
       copies = λ items.
           sym (stage-more number_stage stages taken _ (number_stages (take taken stages) items) items within refl)
-          ∙ ap (number_stage (slice_index_or stages taken _)) (c.loop-taken.invariant.copies items) ∙ c.in-Some.ensures.copies items;
+          ∙ ap (number_stage (slice_index_or stages taken _)) (c.loop-taken.invariant.copies items) ∙ (rw c.index-stages-taken.is at (c.in-Some.ensures.copies items));
     }

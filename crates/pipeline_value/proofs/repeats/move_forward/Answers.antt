@@ -1,8 +1,6 @@
-use Rattle.std.proofs.Common.{◌≤◌, ◌-◌, arith, sym, subst, ◌∙◌}
+use Rattle.std.proofs.Common.{◌≤◌, ◌-◌, arith, ◌∙◌}
 use Rattle.std.specs.List.{slice_set}
 use Rattle.std.proofs.lemmas.List.{length-set}
-use Rattle.std.proofs.lemmas.List.Elements.{All-set}
-use Rattle.pipeline_value.specs.Ranges.{NumberStageFits}
 use Rattle.pipeline_value.specs.Repeats.{forward}
 use Rattle.pipeline_value.proofs.repeats.move_forward.Goals as goal
 
@@ -14,11 +12,9 @@ loop-place-preserved c =
     let before = c.index-in-loop-place.result.now in
     let kept = c.loop-place.invariant in
     let some : 1 ≤ place = omega (arith, c.loop-place-test.true) in
-    let fits : NumberStageFits repeat = subst NumberStageFits (sym c.index.ensures) (kept.fits place repeat kept.within) in
     let size = length-set (slice_set stages place c.in-Some.behind) (place - 1) repeat ∙ length-set stages place c.in-Some.behind in
     record {
-      value = λ items. forward stages place repeat before c.in-Some.behind items some kept.within c.index.ensures c.index-in-loop-place.ensures c.in-Some.ensures.same ∙ kept.value items;
-      fits = All-set NumberStageFits (slice_set stages place c.in-Some.behind) (place - 1) repeat fits (All-set NumberStageFits stages place c.in-Some.behind c.in-Some.ensures.fits kept.fits);
+      value = λ items. forward stages place repeat before c.in-Some.behind items some kept.within c.index.ensures c.index-in-loop-place.ensures c.in-Some.ensures ∙ kept.value items;
       size = size ∙ kept.size;
       within = let within = kept.within in omega (arith, size, within);
     }

@@ -10,4 +10,4 @@ returns g c =
     let items = c.args.numbers.items in
     let values : All IsI64 items = subst (All IsI64) (map-id items) c.is_value.ensures.value in
     let Q : List ℤ → Type 0 = λ l. Tells (number_told c.args.body.terminal l) c.list_value.result in
-    subst Q (c.repeats_first.ensures.value items ∙ c.drop_distincts.ensures.value items (values, tt) ∙ c.drop_repeats.ensures.value items) (rw (c.as_slice.ensures.value, c.as_slice-stages.ensures.value) at c.list_value.ensures)
+    subst Q (c.repeats_first.ensures items ∙ c.drop_distincts.ensures items (values, tt) ∙ c.drop_repeats.ensures items) (rw (c.as_slice.ensures.value, c.as_slice-stages.ensures.value) at c.list_value.ensures)

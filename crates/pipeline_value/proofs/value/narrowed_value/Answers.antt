@@ -19,7 +19,7 @@ returns-in-Some g c =
     let items = integers whole.next whole.left in
     let first : FitsSigned w64 whole.next = search rules in
     let Q : List ℤ → Type 0 = λ l. Tells (number_told body.terminal l) c.in-Some.told in
-    subst Q (c.stepped-numbers.ensures.value ∙ c.narrowed-range.ensures.value ∙ c.drop_distincts.ensures.value items (range-told whole.next whole.left first whole.within_type) ∙ c.drop_repeats.ensures.value items ∙ same-stages _ _ _ _ c.as_slice.ensures.value c.emptied-range.ensures)
+    subst Q (c.stepped-numbers.ensures ∙ c.narrowed-range.ensures ∙ c.drop_distincts.ensures items (range-told whole.next whole.left first whole.within_type) ∙ c.drop_repeats.ensures items ∙ same-stages _ _ _ _ c.as_slice.ensures.value c.emptied-range.ensures)
     c.in-Some.ensures
 
 pub returns : goal.returns
@@ -31,6 +31,6 @@ returns g c =
     let first : FitsSigned w64 whole.next = search rules in
     let stepped = progression numbers.next numbers.step numbers.left in
     let Q : List ℤ → Type 0 = λ l. Tells (number_told body.terminal l) c.number_value.result in
-    subst Q (c.with_copies-copies.ensures.value ∙ c.repeats_first.ensures.value stepped ∙ c.stepped-numbers.ensures.value ∙ c.narrowed-range.ensures.value
-    ∙ c.drop_distincts.ensures.value items (range-told whole.next whole.left first whole.within_type) ∙ c.drop_repeats.ensures.value items ∙ same-stages _ _ _ _ c.as_slice.ensures.value c.emptied-range.ensures)
+    subst Q (c.with_copies-copies.ensures ∙ c.repeats_first.ensures stepped ∙ c.stepped-numbers.ensures ∙ c.narrowed-range.ensures
+    ∙ c.drop_distincts.ensures items (range-told whole.next whole.left first whole.within_type) ∙ c.drop_repeats.ensures items ∙ same-stages _ _ _ _ c.as_slice.ensures.value c.emptied-range.ensures)
     (rw (c.as_slice-stages.ensures.value, c.of.ensures) at c.number_value.ensures)
