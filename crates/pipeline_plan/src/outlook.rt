@@ -47,7 +47,8 @@ fn size_behind<F, P, E>(stage: &Stage<F, P, E>, size: Option<u64>) -> Option<u64
 impl Outlook {
     /// What is known behind a stage.
     pub fn behind<K: Kind>(self, stage: &StageOf<K>) -> Outlook
-        ensures { (l : List K.Item.Content) → IsOutlook K.Item.order self l → IsOutlook K.Item.order result (stage_list K.means stage.now l) }
+        ensures { (l : List K.Item.Content) → IsOutlook K.Item.order self l
+            → IsOutlook K.Item.order result (stage_list K.means stage.now l) }
     {
         Outlook {
             flags: self.flags.after(operation_of(stage)),
@@ -57,14 +58,16 @@ impl Outlook {
 
     /// The number of the items, where it is known.
     pub fn known_size<K: Kind>(self) -> Option<u64>
-        ensures { IfSome result (λ n. (l : List K.Item.Content) → IsOutlook K.Item.order self l → n ≡ length l) }
+        ensures { let sound = IsOutlook K.Item.order self in
+            IfSome result (λ n. (l : List K.Item.Content) → sound l → n ≡ length l) }
     {
         self.size
     }
 
     /// What is known of one image of each item.
     pub fn of_images<K: Kind, L: Kind>(self) -> Outlook
-        ensures { (f : K.Item.Content → L.Item.Content) (l : List K.Item.Content) → IsOutlook K.Item.order self l → IsOutlook L.Item.order result (map f l) }
+        ensures { (f : K.Item.Content → L.Item.Content) (l : List K.Item.Content)
+            → IsOutlook K.Item.order self l → IsOutlook L.Item.order result (map f l) }
     {
         Outlook {
             flags: self.flags.after(Operation::Map),
@@ -74,7 +77,8 @@ impl Outlook {
 
     /// What is known behind stages.
     pub fn through<K: Kind>(self, stages: &[StageOf<K>]) -> Outlook
-        ensures { (l : List K.Item.Content) → IsOutlook K.Item.order self l → IsOutlook K.Item.order result (stages_list K.means stages.now l) }
+        ensures { (l : List K.Item.Content) → IsOutlook K.Item.order self l
+            → IsOutlook K.Item.order result (stages_list K.means stages.now l) }
     {
         let mut outlook = self;
         for stage in stages {

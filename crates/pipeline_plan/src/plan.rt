@@ -42,7 +42,8 @@ fn outlook_behind<K: Kind, S: PlanSource<K>>(
 /// A `distinct` to which only items that differ come.
 fn unneeded_distinct<K: Kind, S: PlanSource<K>>(source: &S, stages: &[StageOf<K>]) -> Option<usize>
     ensures within { IfSome result (λ at. at < length stages.now) }
-    ensures same { IfSome result (λ at. stages_list K.means (remove stages.now at) (S.items source.now) ≡ stages_list K.means stages.now (S.items source.now)) }
+    ensures same { let made = stages_list K.means in
+        IfSome result (λ at. made (remove stages.now at) (S.items source.now) ≡ made stages.now (S.items source.now)) }
 {
     for at in 0..stages.len() {
         if is_distinct(&stages[at]) {
@@ -58,7 +59,8 @@ fn unneeded_distinct<K: Kind, S: PlanSource<K>>(source: &S, stages: &[StageOf<K>
 /// The source that does what the first stage does, where there is one.
 fn absorbing<K: Kind, S: PlanSource<K>>(source: &S, stages: &[StageOf<K>]) -> Option<S>
     ensures within { IfSome result (λ _. 0 < length stages.now) }
-    ensures same { IfSome result (λ new. stages_list K.means (remove stages.now 0) (S.items new) ≡ stages_list K.means stages.now (S.items source.now)) }
+    ensures same { let made = stages_list K.means in
+        IfSome result (λ new. made (remove stages.now 0) (S.items new) ≡ made stages.now (S.items source.now)) }
 {
     if stages.is_empty() {
         return None;
@@ -72,7 +74,8 @@ fn absorbing<K: Kind, S: PlanSource<K>>(source: &S, stages: &[StageOf<K>]) -> Op
 
 /// Applies the first rule that fits. Says whether one did.
 fn simpler<K: Kind, S: PlanSource<K>>(plan: &mut Plan<S, K>) -> bool
-    ensures same { stages_list K.means plan.new.stages.items (S.items plan.new.source) ≡ stages_list K.means plan.old.stages.items (S.items plan.old.source) }
+    ensures same { stages_list K.means plan.new.stages.items (S.items plan.new.source)
+        ≡ stages_list K.means plan.old.stages.items (S.items plan.old.source) }
     ensures less { result ≡ true → work plan.new.stages.items < work plan.old.stages.items }
 {
     let stages = plan.stages.as_slice();
@@ -94,14 +97,16 @@ fn simpler<K: Kind, S: PlanSource<K>>(plan: &mut Plan<S, K>) -> bool
 
 /// Applies rules to a plan until none fits.
 pub fn optimised<K: Kind, S: PlanSource<K>>(plan: &mut Plan<S, K>)
-    ensures { stages_list K.means plan.new.stages.items (S.items plan.new.source) ≡ stages_list K.means plan.old.stages.items (S.items plan.old.source) }
+    ensures { stages_list K.means plan.new.stages.items (S.items plan.new.source)
+        ≡ stages_list K.means plan.old.stages.items (S.items plan.old.source) }
 {
     while simpler(plan) {}
 }
 
 /// What is known of a plan's items.
 pub fn outlook_of<K: Kind, S: PlanSource<K>>(plan: &Plan<S, K>) -> Outlook
-    ensures { IsOutlook K.Item.order result (stages_list K.means plan.now.stages.items (S.items plan.now.source)) }
+    ensures { let made = stages_list K.means plan.now.stages.items (S.items plan.now.source) in
+        IsOutlook K.Item.order result made }
 {
     outlook_behind::<K, S>(&plan.source, plan.stages.as_slice())
 }

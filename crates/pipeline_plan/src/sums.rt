@@ -68,7 +68,8 @@ fn sum_of(numbers: Progression) -> i64
 /// range 0 10000000, map mul 3    // 149999985000000
 /// ```
 pub fn known_sum(plan: &Plan<NumberRange, Numbers>) -> Option<i64>
-    ensures { IfSome result (λ sum. sum ≡ fold wrapped_sum (pos 0) (stages_list number_meaning plan.now.stages.items (range_items plan.now.source))) }
+    ensures { let made = stages_list number_meaning plan.now.stages.items in
+        IfSome result (λ sum. sum ≡ fold wrapped_sum (pos 0) (made (range_items plan.now.source))) }
 {
     if !plan.stages.is_empty() {
         return None;
