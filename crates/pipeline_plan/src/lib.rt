@@ -16,4 +16,3 @@ pub use outlook::Outlook;
 pub use plan::{Plan, PlanSource, optimised, outlook_of};
 pub use sums::known_sum;
 pub use windows::Window;
-

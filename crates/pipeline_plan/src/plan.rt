@@ -30,10 +30,7 @@ pub struct Plan<S, K: Kind> {
 }
 
 /// What is known of the items behind stages.
-fn outlook_behind<K: Kind, S: PlanSource<K>>(
-    source: &S,
-    stages: &[StageOf<K>],
-) -> Outlook
+fn outlook_behind<K: Kind, S: PlanSource<K>>(source: &S, stages: &[StageOf<K>]) -> Outlook
     ensures { IsOutlook K.Item.order result (stages_list K.means stages.now (S.items source.now)) }
 {
     source.outlook().through::<K>(stages)
