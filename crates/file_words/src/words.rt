@@ -1,6 +1,6 @@
 //! Words.
 
-ghost use Rattle.std.specs.Prelude.{◌≡◌, ◌≤◌, Bool, Result, Ok, IfOk, length, true};
+ghost use Rattle.std.specs.Prelude.{◌≡◌, ◌<◌, ◌^◌, ◌≤◌, ◌≤ℤ◌, Bool, Result, Ok, IfOk, length, true};
 ghost use Rattle.file_words.specs.WordReading.{Left, Gets, behind, GetsAs, next_word, next_number, next_natural, all_numbers, numbers_from, ended, is_done};
 ghost use Rattle.file_words.specs.Words.{words_left, words_of};
 
@@ -50,7 +50,8 @@ impl<'a> Words<'a> {
     /// The next number, and the lowest one where no number from `low` to `high` stands there.
     #[tactic(auto, unfolding(crate::specs::WordReading::next_number))]
     pub fn number(&mut self, low: i64, high: i64) -> Result<i64, FileError>
-        ensures { Gets (next_number low high self.old) result self.new }
+        ensures read { Gets (next_number low high self.old) result self.new }
+        ensures least { IfOk result (λ n. low ≤ℤ n) }
     {
         let word = self.any()?;
         match parse_number(word) {
@@ -65,7 +66,8 @@ impl<'a> Words<'a> {
     /// The next number, which isn't negative.
     #[tactic(auto, unfolding(crate::specs::WordReading::next_natural))]
     pub fn natural(&mut self, high: i64) -> Result<u64, FileError>
-        ensures { Gets (next_natural high self.old) result self.new }
+        ensures read { Gets (next_natural high self.old) result self.new }
+        ensures most { IfOk result (λ n. n < 2 ^ 63) }
     {
         Ok(self.number(0, high)?.unsigned_abs())
     }

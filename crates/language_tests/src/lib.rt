@@ -1,7 +1,9 @@
-//! The tests of `pipeline_reader` and `pipeline_meaning`.
+//! The tests of `pipeline_reader`, `pipeline_meaning` and `pipeline_plan`.
 #![tactic(auto)]
 
 #[cfg(test)]
 mod of_pipeline_meaning;
+#[cfg(test)]
+mod of_pipeline_plan;
 #[cfg(test)]
 mod of_pipeline_reader;

@@ -8,6 +8,8 @@ use Rattle.pipeline_language.specs.declared.pipeline.TextEnd.{TextEnd}
 use Rattle.pipeline_language.specs.declared.pipeline.TextEnd.TheVariants as ends
 use Rattle.pipeline_language.specs.declared.pipeline.NumberSource.{NumberSource}
 use Rattle.pipeline_language.specs.declared.pipeline.NumberSource.TheVariants as sources
+use Rattle.pipeline_language.specs.declared.ranges.OpenRange.{OpenRange}
+use Rattle.pipeline_language.specs.declared.ranges.ClosedRange.{ClosedRange}
 use Rattle.pipeline_language.specs.declared.pipeline.NumberFunction.{NumberFunction}
 use Rattle.pipeline_language.specs.declared.pipeline.NumberFunction.TheVariants as number_functions
 use Rattle.pipeline_language.specs.declared.pipeline.TextFunction.{TextFunction}
@@ -20,15 +22,21 @@ use Rattle.pipeline_language.specs.declared.pipeline.TextMerge.{TextMerge}
 use Rattle.pipeline_language.specs.declared.pipeline.TextMerge.TheVariants as text_merges
 use Rattle.pipeline_language.specs.declared.grammar.Merge.TheVariants as merges
 use Rattle.pipeline_language.specs.Grammar as grammar
-use Rattle.pipeline_language.specs.LineContent.{as_read, text_content, joint_content}
+use Rattle.pipeline_language.specs.LineContent.{as_read, count_content, text_content, joint_content}
 use Rattle.pipeline_language.specs.Typed.{NumberStage, TextStage, NumberBase, NumberInner, NumberSummary, TextBase, TextInner, TextSummary, TextValue, NumberTerminal, TextTerminal}
 use Rattle.pipeline_language.specs.declared.pipeline.Mapped.{Mapped}
 use Rattle.pipeline_language.specs.declared.pipeline.Mapped.TheVariants as values
 use Rattle.pipeline_language.specs.Syntax.{Add, Divisible, Empty, Equals, Function, Greater, Itself, Length, Less, Longer, Map, Merge, Mod, Mul, Negate, OfNumbers, OfTexts, Repeat, Starts, Condition, Base, Inner, Summary, Stage, Terminal, Origin, Range, Closed, Numbers, Lines, Program}
 
+abbrev pub open_origin : OpenRange → Origin
+open_origin range = Range range.start range.end
+
+abbrev pub closed_origin : ClosedRange → Origin
+closed_origin range = Closed range.start range.last
+
 abbrev pub number_origin : NumberSource → Origin
-number_origin (sources.Range a b) = Range a b
-number_origin (sources.Closed a b) = Closed a b
+number_origin (sources.Range range) = open_origin range
+number_origin (sources.Closed range) = closed_origin range
 number_origin (sources.Numbers numbers) = Numbers numbers.items
 
 abbrev pub number_function : NumberFunction → Function
@@ -84,10 +92,10 @@ abbrev pub text_summary : TextSummary → Summary
 text_summary summary = grammar.summary text_function (text_mapped number_inner text_inner) text_test text_base text_inner summary
 
 abbrev pub number_stage : NumberStage → Stage
-number_stage stage = grammar.stage number_function number_test Repeat stage
+number_stage stage = grammar.stage number_function number_test Repeat count_content stage
 
 abbrev pub text_stage : TextStage → Stage
-text_stage stage = grammar.stage (λ _. Itself) text_test as_read stage
+text_stage stage = grammar.stage (λ _. Itself) text_test as_read count_content stage
 
 abbrev pub number_terminal : NumberTerminal → Terminal
 number_terminal terminal = grammar.terminal number_function number_test number_summary (number_mapped as_read) OfNumbers terminal

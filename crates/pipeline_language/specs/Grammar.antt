@@ -44,19 +44,19 @@ abbrev pub joint : {T U : Type 0} → (T → U) → Joint T → Joint U
 joint text (Plain between) = Plain (text between)
 joint text (Within between front back) = Within (text between) (text front) (text back)
 
-module _ {P Q : Type 0} (test : P → Q) where
-  abbrev pub barrier : barriers.Barrier P → barriers.Barrier Q
+module _ {P Q N M : Type 0} (test : P → Q) (count : N → M) where
+  abbrev pub barrier : barriers.Barrier P N → barriers.Barrier Q M
   barrier Distinct = Distinct
-  barrier (Limit n) = Limit n
-  barrier (Skip n) = Skip n
+  barrier (Limit n) = Limit (count n)
+  barrier (Skip n) = Skip (count n)
   barrier (TakeWhile p) = TakeWhile (test p)
   barrier (DropWhile p) = DropWhile (test p)
 
-abbrev pub stage : {F G P Q E D : Type 0} → (F → G) → (P → Q) → (E → D) → Stage F P E → Stage G Q D
-stage function test expansion (Map f) = Map (function f)
-stage function test expansion (Filter p) = Filter (test p)
-stage function test expansion (FlatMap e) = FlatMap (expansion e)
-stage function test expansion (Barrier b) = Barrier (barrier test b)
+abbrev pub stage : {F G P Q E D N M : Type 0} → (F → G) → (P → Q) → (E → D) → (N → M) → Stage F P E N → Stage G Q D M
+stage function test expansion count (Map f) = Map (function f)
+stage function test expansion count (Filter p) = Filter (test p)
+stage function test expansion count (FlatMap e) = FlatMap (expansion e)
+stage function test expansion count (Barrier b) = Barrier (barrier test count b)
 
 abbrev pub base : {O N : Type 0} → (O → N) → Base O → Base N
 base own bases.Count = bases.Count

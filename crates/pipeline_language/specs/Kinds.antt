@@ -4,11 +4,13 @@ use Rattle.pipeline_language.specs.declared.kinds.TextLine.{TextLine}
 use Rattle.pipeline_language.specs.declared.kinds.TextLine.TheVariants as text_lines
 use Rattle.pipeline_language.specs.declared.line.Source.{Source}
 use Rattle.pipeline_language.specs.declared.line.Source.TheVariants as sources
+use Rattle.pipeline_language.specs.declared.line.NamedSource.{NamedSource}
+use Rattle.pipeline_language.specs.declared.line.NamedSource.TheVariants as named
 use Rattle.pipeline_language.specs.Content.{number_origin, number_stage, number_terminal, text_stage, text_terminal}
 use Rattle.pipeline_language.specs.declared.grammar.Line.TheVariants as body_lines
 use Rattle.pipeline_language.specs.Grammar as grammar
 use Rattle.pipeline_language.specs.Typed.{NumberStage, NumberTerminal}
-use Rattle.pipeline_language.specs.Syntax.{Function, Length, Map, Merge, Origin, Lines, TextKind, BodyLine, function_takes, merge_takes, value_kind}
+use Rattle.pipeline_language.specs.Syntax.{Function, Length, Map, Merge, Origin, Range, Closed, Numbers, Lines, TextKind, BodyLine, function_takes, merge_takes, value_kind}
 
 -- What is answered is the thing, where it takes the items, and else nothing.
 abbrev pub Takes : {X Y : Type 0} → (X → Y) → (Y → Bool) → Y → Option X → Type 0
@@ -33,3 +35,9 @@ value_takes pair = function_takes TextKind pair.0 && merge_takes (value_kind Tex
 abbrev pub source_content : Source → Origin
 source_content (sources.Numbers source) = number_origin source
 source_content (sources.Lines count) = Lines count
+
+abbrev pub named_content : NamedSource → Origin
+named_content (named.Range a b) = Range a b
+named_content (named.Closed a b) = Closed a b
+named_content (named.Numbers numbers) = Numbers numbers.items
+named_content (named.Lines count) = Lines count

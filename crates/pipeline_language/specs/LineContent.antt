@@ -1,6 +1,7 @@
 -- What a line says, by its content.
 use Rattle.std.specs.Prelude.{ℕ, List}
 use Rattle.pipeline_language.specs.declared.grammar.Barrier as barriers
+use Rattle.pipeline_language.specs.declared.item_count.ItemCount.{ItemCount}
 use Rattle.pipeline_language.specs.Grammar as grammar
 use Rattle.pipeline_language.specs.Typed.{Text}
 use Rattle.pipeline_language.specs.Syntax.{Condition, Base, Inner, Summary, Barring, Stage, Joint, Terminal, BodyLine}
@@ -8,6 +9,10 @@ use Rattle.pipeline_language.specs.Syntax.{Condition, Base, Inner, Summary, Barr
 -- what has no text in it stands as it is
 abbrev pub as_read : {X : Type 0} → X → X
 as_read x = x
+
+-- a number of items stands by the number
+abbrev pub count_content : ItemCount → ℕ
+count_content count = count.number
 
 abbrev pub text_content : Text → List ℕ
 text_content text = text.now
@@ -33,14 +38,14 @@ LentSummary = grammar.Summary grammar.Function (grammar.Function × LentInner) (
 abbrev pub summary_content : LentSummary → Summary
 summary_content summary = grammar.summary as_read (λ m. (m.0, inner_content m.1)) condition_content base_content inner_content summary
 
-abbrev pub barrier_content : barriers.Barrier (grammar.Condition Text) → Barring
-barrier_content barrier = grammar.barrier condition_content barrier
+abbrev pub barrier_content : barriers.Barrier (grammar.Condition Text) ItemCount → Barring
+barrier_content barrier = grammar.barrier condition_content count_content barrier
 
 abbrev pub LentStage : Type 0
-LentStage = grammar.Stage grammar.Function (grammar.Condition Text) grammar.Expansion
+LentStage = grammar.Stage grammar.Function (grammar.Condition Text) grammar.Expansion ItemCount
 
 abbrev pub stage_content : LentStage → Stage
-stage_content stage = grammar.stage as_read condition_content as_read stage
+stage_content stage = grammar.stage as_read condition_content as_read count_content stage
 
 abbrev pub joint_content : grammar.Joint Text → Joint
 joint_content joint = grammar.joint text_content joint

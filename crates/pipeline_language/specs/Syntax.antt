@@ -33,10 +33,10 @@ abbrev pub Summary : Type 0
 Summary = grammar.Summary Function (Function × Inner) Condition Base Inner
 
 abbrev pub Barring : Type 0
-Barring = barrier_types.Barrier Condition
+Barring = barrier_types.Barrier Condition ℕ
 
 abbrev pub Stage : Type 0
-Stage = grammar.Stage Function Condition Expansion
+Stage = grammar.Stage Function Condition Expansion ℕ
 
 abbrev pub Joint : Type 0
 Joint = grammar.Joint (List ℕ)

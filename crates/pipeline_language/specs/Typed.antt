@@ -2,6 +2,7 @@
 use Rattle.std.specs.Prelude.{ℕ, List}
 use Rattle.std.specs.Borrow.{Bor}
 use Rattle.pipeline_language.specs.Grammar.{Base, Expansion, Inner, Joint, Merge, NumberOnly, NumberTotal, Stage, Summary, Terminal}
+use Rattle.pipeline_language.specs.declared.item_count.ItemCount.{ItemCount}
 use Rattle.pipeline_language.specs.declared.pipeline.Mapped.{Mapped}
 use Rattle.pipeline_language.specs.declared.pipeline.NumberFunction.{NumberFunction}
 use Rattle.pipeline_language.specs.declared.pipeline.NumberTest.{NumberTest}
@@ -14,10 +15,10 @@ abbrev pub Text : Type 0
 Text = Bor (List ℕ)
 
 abbrev pub NumberStage : Type 0
-NumberStage = Stage NumberFunction NumberTest ℕ
+NumberStage = Stage NumberFunction NumberTest ℕ ItemCount
 
 abbrev pub TextStage : Type 0
-TextStage = Stage (Unit {0}) TextTest Expansion
+TextStage = Stage (Unit {0}) TextTest Expansion ItemCount
 
 abbrev pub NumberBase : Type 0
 NumberBase = Base NumberOnly

@@ -1,4 +1,7 @@
-//! What stands in a line, once for all kinds of items: F is a function, P a test, and T a text, as it is lent from a file or by its bytes.
+//! What stands in a line, once for all kinds of items: F is a function, P a test, N a number of items, and T a text, as it is lent from a file or by
+//! its bytes.
+
+use crate::item_count::ItemCount;
 
 /// What stands for numbers or for texts alone.
 #[derive(Clone, Copy, PartialEq)]
@@ -51,21 +54,21 @@ pub enum Expansion {
 
 /// A stage that looks at more than one item.
 #[derive(Clone, Copy, PartialEq)]
-pub enum Barrier<P> {
+pub enum Barrier<P, N = ItemCount> {
     Distinct,
-    Limit(u64),
-    Skip(u64),
+    Limit(N),
+    Skip(N),
     TakeWhile(P),
     DropWhile(P),
 }
 
 /// A stage. E is what it may put in an item's place.
 #[derive(Clone, Copy, PartialEq)]
-pub enum Stage<F, P, E> {
+pub enum Stage<F, P, E, N = ItemCount> {
     Map(F),
     Filter(P),
     FlatMap(E),
-    Barrier(Barrier<P>),
+    Barrier(Barrier<P, N>),
 }
 
 /// What is made of items at once. O is what is made of one kind alone: a `NumberOnly`, or the text that joins texts.

@@ -4,7 +4,7 @@ ghost use Rattle.std.specs.Prelude.{◌≡◌, Option};
 ghost use Rattle.pipeline_language.specs.Content.{number_base, number_function, number_inner, number_mapped, number_stage, number_summary, number_terminal, number_test, text_base, text_function, text_inner, text_merge, text_summary, text_terminal, text_test, text_value};
 ghost use Rattle.pipeline_language.specs.Grammar.{barrier};
 ghost use Rattle.pipeline_language.specs.Kinds.{Takes, number_line_content, text_line_content, value_takes};
-ghost use Rattle.pipeline_language.specs.LineContent.{barrier_content, base_content, body_line_content, condition_content, inner_content, stage_content, summary_content, terminal_content};
+ghost use Rattle.pipeline_language.specs.LineContent.{barrier_content, base_content, body_line_content, condition_content, count_content, inner_content, stage_content, summary_content, terminal_content};
 ghost use Rattle.pipeline_language.specs.declared.grammar.Line.TheVariants as body_lines;
 ghost use Rattle.pipeline_language.specs.Syntax.{NumberKind, TextKind, barrier_takes, base_takes, body_takes, condition_takes, function_takes, inner_takes, merge_takes, stage_takes, summary_takes, terminal_takes};
 
@@ -69,7 +69,7 @@ fn number_stage(stage: AnyStage<'_>) -> Option<NumberStage>
 
 /// A barrier over numbers.
 fn number_barrier(stage: Barrier<AnyCondition<'_>>) -> Option<Barrier<NumberTest>>
-    ensures { Takes (barrier number_test) (barrier_takes NumberKind) (barrier_content stage.entry) result }
+    ensures { Takes (barrier number_test count_content) (barrier_takes NumberKind) (barrier_content stage.entry) result }
 {
     match stage {
         Barrier::Distinct => Some(Barrier::Distinct),
@@ -98,7 +98,7 @@ fn text_stage(stage: AnyStage<'_>) -> Option<TextLine<'_>>
 
 /// A barrier over texts.
 fn text_barrier(stage: Barrier<AnyCondition<'_>>) -> Option<Barrier<TextTest<'_>>>
-    ensures { Takes (barrier text_test) (barrier_takes TextKind) (barrier_content stage.entry) result }
+    ensures { Takes (barrier text_test count_content) (barrier_takes TextKind) (barrier_content stage.entry) result }
 {
     match stage {
         Barrier::Distinct => Some(Barrier::Distinct),

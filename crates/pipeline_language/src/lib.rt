@@ -2,10 +2,12 @@
 #![tactic(auto)]
 
 mod grammar;
+mod item_count;
 mod kinds;
 mod line;
 mod meaning;
 mod pipeline;
+mod ranges;
 mod syntax;
 mod version;
 
@@ -13,6 +15,7 @@ pub use grammar::{
     Barrier, Base, Condition, Expansion, Function, Inner, Joint, Line, Merge, NumberOnly,
     NumberTotal, OfKind, Stage, Summary, Terminal,
 };
+pub use item_count::ItemCount;
 pub use kinds::{MOST_STAGES, NumberLine, TextLine};
 pub use line::{Source, read_number_line, read_source, read_text_line, read_version};
 pub use meaning::one_reading;
@@ -21,4 +24,5 @@ pub use pipeline::{
     NumberSummary, NumberTerminal, NumberTest, Pipeline, TextBase, TextBody, TextEnd, TextFunction,
     TextInner, TextMerge, TextStage, TextSummary, TextTerminal, TextTest, TextValue,
 };
+pub use ranges::{ClosedRange, OpenRange};
 pub use version::Version;

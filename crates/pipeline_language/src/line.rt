@@ -3,12 +3,14 @@
 ghost use Rattle.std.specs.Prelude.{◌≡◌};
 ghost use Rattle.file_words.specs.Pieces.{piece_bytes};
 ghost use Rattle.pipeline_language.specs.FileReading.{LineReads, ReadsNumberLine, ReadsSource, ReadsTextLine, version_of};
-ghost use Rattle.pipeline_language.specs.Kinds.{source_content};
+ghost use Rattle.pipeline_language.specs.Kinds.{Takes, named_content, source_content};
+ghost use Rattle.pipeline_language.specs.Syntax.{is_short};
 ghost use Rattle.pipeline_language.specs.SyntaxReading.{origin_words};
 
 use crate::grammar::Line;
 use crate::kinds::{MOST_STAGES, NumberLine, TextLine, number_line, text_line};
 use crate::pipeline::NumberSource;
+use crate::ranges::{ClosedRange, OpenRange};
 use crate::syntax::read_line;
 use crate::version::Version;
 use file_words::{FileError, LineError, Piece, Words};
@@ -33,6 +35,15 @@ pub fn read_version(line: Piece<'_>) -> Result<Version, FileError>
     }
 }
 
+/// Where items come from, as a line says: a range may be too long.
+#[derive(Drop)]
+enum NamedSource {
+    Range(i64, i64),
+    Closed(i64, i64),
+    Numbers(Vec<i64>),
+    Lines(u64),
+}
+
 /// A source line, of a range that isn't too long.
 #[tactic(auto, unfolding(crate::specs::Reading::line_of, crate::specs::Reading::whole))]
 pub fn read_source(alloc: Global, line: Piece<'_>) -> Result<Source, LineError>
@@ -41,30 +52,44 @@ pub fn read_source(alloc: Global, line: Piece<'_>) -> Result<Source, LineError>
     let mut words = Words::new(line.text()?);
     let source = read_source_words(alloc, &mut words)?;
     words.end()?;
-    match source {
-        Source::Numbers(source) if !source.is_within_limit() => {
-            Err(LineError::Fault(FileError::RangeTooLong))
-        }
-        source => Ok(source),
+    match within_limit(source) {
+        Some(source) => Ok(source),
+        None => Err(LineError::Fault(FileError::RangeTooLong)),
     }
+}
+
+/// The source, where its range isn't too long.
+fn within_limit(source: NamedSource) -> Option<Source>
+    ensures { Takes source_content is_short (named_content source) result }
+{
+    Some(match source {
+        NamedSource::Range(start, end) => {
+            Source::Numbers(NumberSource::Range(OpenRange::of(start, end)?))
+        }
+        NamedSource::Closed(start, last) => {
+            Source::Numbers(NumberSource::Closed(ClosedRange::of(start, last)?))
+        }
+        NamedSource::Numbers(numbers) => Source::Numbers(NumberSource::Numbers(numbers)),
+        NamedSource::Lines(count) => Source::Lines(count),
+    })
 }
 
 /// The words of a source.
 #[tactic(auto, unfolding(crate::specs::SyntaxReading::origin_words))]
-fn read_source_words(alloc: Global, words: &mut Words<'_>) -> Result<Source, LineError>
-    ensures { LineReads (λ source. (source_content source, words.new)) result (origin_words words.old) }
+fn read_source_words(alloc: Global, words: &mut Words<'_>) -> Result<NamedSource, LineError>
+    ensures { LineReads (λ source. (named_content source, words.new)) result (origin_words words.old) }
 {
     match words.any()? {
-        "range" => Ok(Source::Numbers(NumberSource::Range(
+        "range" => Ok(NamedSource::Range(
             words.number(i64::MIN, i64::MAX)?,
             words.number(i64::MIN, i64::MAX)?,
-        ))),
-        "closed" => Ok(Source::Numbers(NumberSource::Closed(
+        )),
+        "closed" => Ok(NamedSource::Closed(
             words.number(i64::MIN, i64::MAX)?,
             words.number(i64::MIN, i64::MAX)?,
-        ))),
-        "numbers" => Ok(Source::Numbers(NumberSource::Numbers(words.numbers(alloc)?))),
-        "lines" => Ok(Source::Lines(words.natural(1_000_000)?)),
+        )),
+        "numbers" => Ok(NamedSource::Numbers(words.numbers(alloc)?)),
+        "lines" => Ok(NamedSource::Lines(words.natural(1_000_000)?)),
         _ => Err(LineError::Fault(FileError::UnknownWord)),
     }
 }

@@ -1,12 +1,10 @@
 //! A pipeline, as a file names it. Pipelines of numbers and of texts are different types, so that each stage, terminal and
 //! collector takes the items that come to it; the stage `map length` alone leads from texts to numbers.
 
-ghost use Rattle.std.specs.Prelude.{◌≡◌, ◌<◌, ◌-ℤ◌};
-ghost use Rattle.pipeline_language.specs.Steps.{steps_up};
-
 use crate::grammar::{
     Base, Expansion, Inner, Joint, Merge, NumberOnly, NumberTotal, Stage, Summary, Terminal,
 };
+use crate::ranges::{ClosedRange, OpenRange};
 
 /// A whole pipeline. Texts borrow from the file's bytes.
 #[derive(Drop)]
@@ -41,9 +39,9 @@ pub enum TextEnd<'a> {
 #[derive(Drop)]
 pub enum NumberSource {
     /// `range A B`: A, A + 1, .., B - 1.
-    Range(i64, i64),
+    Range(OpenRange),
     /// `closed A B`: the same with B.
-    Closed(i64, i64),
+    Closed(ClosedRange),
     /// `numbers N ..`: the numbers as they stand.
     Numbers(Vec<i64>),
 }
@@ -154,31 +152,3 @@ pub type TextTerminal<'a> = Terminal<
     TextValue,
     Joint<&'a str>,
 >;
-
-impl NumberSource {
-    ghost use Rattle.pipeline_language.specs.Content.{number_origin};
-    ghost use Rattle.pipeline_language.specs.Syntax.{is_short};
-
-    /// Whether the range has no more items than a source may have.
-    pub(crate) fn is_within_limit(&self) -> bool
-        ensures { result ≡ is_short (number_origin self.now) }
-    {
-        match self {
-            NumberSource::Range(start, end) => steps_up(*start, *end) <= MOST_ITEMS,
-            NumberSource::Closed(start, end) => {
-                *start > *end || steps_up(*start, *end) < MOST_ITEMS
-            }
-            NumberSource::Numbers(_) => true,
-        }
-    }
-}
-
-/// How many steps of 1 lead from `start` to `end`, none where `end` lies below.
-fn steps_up(start: i64, end: i64) -> u64
-    ensures { result ≡ steps_up (end -ℤ start) }
-{
-    if start < end { end.abs_diff(start) } else { 0 }
-}
-
-/// The most items of a range.
-const MOST_ITEMS: u64 = 1 << 62;

@@ -1,16 +1,17 @@
 //! What a line says, name by name, before the kind of the items is asked for.
 
 ghost use Rattle.std.specs.Prelude.{Result};
-ghost use Rattle.pipeline_language.specs.LineContent.{as_read, base_content, body_line_content, condition_content, inner_content, joint_content, summary_content, terminal_content};
+ghost use Rattle.pipeline_language.specs.LineContent.{as_read, base_content, body_line_content, condition_content, count_content, inner_content, joint_content, summary_content, terminal_content};
 ghost use Rattle.file_words.specs.WordReading.{GetsAs};
 ghost use Rattle.pipeline_language.specs.Reading.{ReadAs, whole};
-ghost use Rattle.pipeline_language.specs.SyntaxReading.{base_names, base_of, body_of, collecting_names, condition_of, expansion_of, function_of, inner_of, joint_of, merge_of, new_terminal_names, summary_of, terminal_names};
+ghost use Rattle.pipeline_language.specs.SyntaxReading.{any_natural, base_names, base_of, body_of, collecting_names, condition_of, expansion_of, function_of, inner_of, joint_of, merge_of, new_terminal_names, summary_of, terminal_names};
 ghost use Rattle.file_words.specs.Words.{words_of};
 
 use crate::grammar::{
     Barrier, Base, Condition, Expansion, Function, Inner, Joint, Line, Merge, NumberOnly,
     NumberTotal, OfKind, Stage, Summary, Terminal,
 };
+use crate::item_count::ItemCount;
 use crate::version::Version;
 use file_words::{FileError, Words};
 
@@ -148,6 +149,15 @@ fn read_expansion(words: &mut Words<'_>) -> Result<Expansion, FileError>
     }
 }
 
+/// A number of items.
+fn read_count(words: &mut Words<'_>) -> Result<ItemCount, FileError>
+    ensures { GetsAs count_content (any_natural words.old) result words.new }
+{
+    Ok(ItemCount {
+        number: words.natural(i64::MAX)?,
+    })
+}
+
 /// All the words of a line after the source.
 #[tactic(auto, unfolding(crate::specs::Reading::whole))]
 pub(crate) fn read_line<'a>(version: Version, line: &'a str) -> Result<BodyLine<'a>, FileError>
@@ -170,8 +180,8 @@ fn read_body<'a>(version: Version, words: &mut Words<'a>) -> Result<BodyLine<'a>
         "filter" => Stage::Filter(read_condition(words)?),
         "flatmap" => Stage::FlatMap(read_expansion(words)?),
         "distinct" => Stage::Barrier(Barrier::Distinct),
-        "limit" => Stage::Barrier(Barrier::Limit(words.natural(i64::MAX)?)),
-        "skip" => Stage::Barrier(Barrier::Skip(words.natural(i64::MAX)?)),
+        "limit" => Stage::Barrier(Barrier::Limit(read_count(words)?)),
+        "skip" => Stage::Barrier(Barrier::Skip(read_count(words)?)),
         "takewhile" => Stage::Barrier(Barrier::TakeWhile(read_condition(words)?)),
         "dropwhile" => Stage::Barrier(Barrier::DropWhile(read_condition(words)?)),
         _ => return Ok(Line::Terminal(read_terminal(version, name, words)?)),

@@ -55,10 +55,6 @@ abbrev pub Follows : NumberStage → NumberSteps → NumberSteps → Type 0
 Follows stage old new =
     ((l : List ℤ) → flat_map (number_images new) l ≡ number_stage stage (flat_map (number_images old) l)) × (only_maps new ≡ (only_maps old && is_map_stage stage))
 
--- so many copies of what steps make of each number are what the whole makes of it
-abbrev pub WithCopies : ℕ → NumberSteps → NumberSteps → Type 0
-WithCopies k steps whole = (l : List ℤ) → flat_map (replicate k) (flat_map (number_images steps) l) ≡ flat_map (number_images whole) l
-
 abbrev map_image : NumberStep → ℤ → ℤ
 map_image (Map f) x = mapping_image f x
 map_image (Filter p) x = x

@@ -10,16 +10,17 @@ use Rattle.pipeline_language.specs.declared.grammar.Barrier.TheVariants.{Distinc
 use Rattle.pipeline_language.specs.declared.grammar.Expansion.TheVariants.{Repeat, Words}
 use Rattle.pipeline_language.specs.declared.grammar.Stage.{Stage}
 use Rattle.pipeline_language.specs.declared.grammar.Stage.TheVariants.{Map, Filter, FlatMap, Barrier}
+use Rattle.pipeline_language.specs.declared.item_count.ItemCount.{ItemCount}
 use Rattle.pipeline_language.specs.Typed.{NumberStage, TextStage}
 use Rattle.pipeline_meaning.specs.Functions.{number_image, number_holds, text_holds}
 use Rattle.pipeline_meaning.specs.Walks.{one_after_other}
 
 -- The stages are those of java.util.stream.Stream: map, filter, flatMap, distinct, limit, skip, takeWhile, dropWhile.
 -- A barrier goes by when items are the same, and by what its test holds of.
-abbrev pub barrier_list : {P X : Type 0} → (X → X → Bool) → (P → X → Bool) → barriers.Barrier P → List X → List X
+abbrev pub barrier_list : {P X : Type 0} → (X → X → Bool) → (P → X → Bool) → barriers.Barrier P ItemCount → List X → List X
 barrier_list same holds Distinct items = distinct same items
-barrier_list same holds (Limit n) items = take n items
-barrier_list same holds (Skip n) items = drop n items
+barrier_list same holds (Limit n) items = take n.number items
+barrier_list same holds (Skip n) items = drop n.number items
 barrier_list same holds (TakeWhile p) items = take_while (holds p) items
 barrier_list same holds (DropWhile p) items = drop_while (holds p) items
 
@@ -44,11 +45,11 @@ abbrev pub text_stages : List TextStage → List (List ℕ) → List (List ℕ)
 text_stages stages items = one_after_other text_stage stages items
 
 -- a map gives one item for each
-abbrev pub is_map_stage : {F P E : Type 0} → Stage F P E → Bool
+abbrev pub is_map_stage : {F P E N : Type 0} → Stage F P E N → Bool
 is_map_stage (Map f) = true
 is_map_stage stage = false
 
 -- A barrier looks at more than one item.
-abbrev pub is_barrier_stage : {F P E : Type 0} → Stage F P E → Bool
+abbrev pub is_barrier_stage : {F P E N : Type 0} → Stage F P E N → Bool
 is_barrier_stage (Barrier b) = true
 is_barrier_stage stage = false

@@ -1,8 +1,8 @@
 //! The stages over numbers that look at one item at a time, as one stage that runs each over a whole block.
-ghost use Rattle.std.specs.Prelude.{◌≡◌, ◌≤◌, ℕ, ℤ, IsTrue, IfOk, OnOk, List, true, MatchBool, Option, flat_map};
+ghost use Rattle.std.specs.Prelude.{◌≡◌, ℕ, ℤ, IsTrue, IfOk, OnOk, List, true, MatchBool, Option, flat_map};
 ghost use Rattle.std.specs.List.{list_all};
 ghost use Rattle.std.specs.Ordering.{int_cmp};
-ghost use Rattle.pipeline_meaning.specs.NumberSteps.{number_images, number_step_images, steps_images, is_map_step, is_none, only_maps, Follows, WithCopies, KeepsSound-number_steps};
+ghost use Rattle.pipeline_meaning.specs.NumberSteps.{number_images, number_step_images, steps_images, is_map_step, is_none, only_maps, Follows, KeepsSound-number_steps};
 ghost use Rattle.pipeline_meaning.specs.Rows.{row_of, size_of};
 ghost use Rattle.pipeline_meaning.specs.Stages.{is_barrier_stage};
 
@@ -93,25 +93,6 @@ impl NumberSteps {
             NumberStage::Barrier(_) => return Ok(false),
         }
         Ok(true)
-    }
-
-    /// Takes the last repeat off, and says how many copies it makes of each number: 1 where there is none, or where it makes none.
-    ///
-    /// ```text
-    /// map mod 7, flatmap repeat 3    // map mod 7, and 3
-    /// ```
-    pub fn take_repeat(&mut self) -> u64
-        ensures some { 1 ≤ result }
-        ensures copies { WithCopies result self.new self.old }
-    {
-        match self.repeats.last() {
-            Some(number) if *number >= 1 => {
-                let copies = *number;
-                self.repeats.pop();
-                copies
-            }
-            _ => 1,
-        }
     }
 
     fn has_no_repeats(&self) -> bool

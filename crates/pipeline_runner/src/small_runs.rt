@@ -2,7 +2,6 @@
 
 ghost use Rattle.std.specs.Prelude.{◌≡◌, ◌≢◌, ◌⊎◌, ◌<◌, ◌≤◌, ◌^◌, IfSome};
 ghost use Rattle.split_tree.specs.SplitTree.{split_target};
-ghost use Rattle.pipeline_value.specs.Ranges.{PipelineFits};
 ghost use Rattle.pipeline_runner.specs.Leaves.{source_count};
 
 use crate::runner::Settings;
@@ -18,7 +17,6 @@ const FEW_STEPS: u64 = 1 << 18;
 pub(crate) fn settings_for(pipeline: &Pipeline, wanted: &Settings) -> Settings
     requires workers { (1 ≤ wanted.now.workers) × (wanted.now.workers ≤ 64) }
     requires target { wanted.now.target ≤ 2 ^ 62 }
-    requires fits { PipelineFits pipeline.now }
     ensures workers { (result.workers ≡ 1) ⊎ (result.workers ≡ wanted.now.workers) }
     ensures target { result.target ≤ 2 ^ 62 }
     ensures chosen { wanted.now.target ≢ 0 → result ≡ wanted.now }
@@ -37,7 +35,6 @@ pub(crate) fn settings_for(pipeline: &Pipeline, wanted: &Settings) -> Settings
 
 /// The number of the source's items, where a run over them is small. None is where a stage makes several items of one.
 fn small_source(pipeline: &Pipeline) -> Option<u64>
-    requires fits { PipelineFits pipeline.now }
     ensures count { IfSome result (λ items. items ≡ source_count pipeline.now) }
     ensures few { IfSome result (λ items. items ≤ 2 ^ 18) }
 {

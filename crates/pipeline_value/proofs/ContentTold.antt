@@ -31,7 +31,7 @@ text_body-told (stage ∷ stages) end l =
     ∙ text_body-told stages end (meaning.text_stage stage l)
 
 pub told_by_content : (pipeline : Pipeline) → program_told (program_of pipeline) ≡ pipeline_told pipeline
-told_by_content (pipelines.Numbers (Range a b) body) = body-number body.stages.items body.terminal (integers_between a b)
-told_by_content (pipelines.Numbers (Closed a b) body) = body-number body.stages.items body.terminal (integers_between a (b +ℤ pos 1))
+told_by_content (pipelines.Numbers (Range range) body) = body-number body.stages.items body.terminal (integers_between range.start range.end)
+told_by_content (pipelines.Numbers (Closed range) body) = body-number body.stages.items body.terminal (integers_between range.start (range.last +ℤ pos 1))
 told_by_content (pipelines.Numbers (Numbers numbers) body) = body-number body.stages.items body.terminal numbers.items
 told_by_content (pipelines.Texts texts body) = text_body-told body.stages.items body.end (map (λ text. text.now) texts.items)

@@ -16,9 +16,12 @@ use Rattle.parallel_streams.specs.Terminals.{all_meet, any_meets}
 use Rattle.pipeline_language.specs.Grammar as grammar
 use Rattle.pipeline_language.specs.declared.grammar.Barrier as barriers
 use Rattle.pipeline_language.specs.declared.grammar.Barrier.TheVariants.{Distinct, Limit, Skip, TakeWhile, DropWhile}
+use Rattle.pipeline_language.specs.declared.item_count.ItemCount.{ItemCount}
+use Rattle.pipeline_language.specs.LineContent.{count_content}
+use Rattle.pipeline_language.specs.Syntax.{Condition}
 use Rattle.pipeline_meaning.specs.Stages.{barrier_list}
 use Rattle.value_text.specs.Texts.{entry_text, groups_text, itself, list_text, merged_text, optional_text, partition_text, parts_text, strict_text, with_commas}
-use Rattle.pipeline_value.specs.Items.{Item, Number, Text, item_text, same_item}
+use Rattle.pipeline_value.specs.Items.{Item, Number, Text, barrier_items, holds, item_text, same_item}
 use Rattle.pipeline_value.specs.Value.{first_repeat, repeat_or, strict_told}
 
 -- What stands for an item, with when two are one and how one is written.
@@ -104,13 +107,13 @@ module _ {X : Type 0} (k : Kind X) where
   pub distinct-both : (l : List X) → distinct same_item (map k.item l) ≡ map k.item (distinct k.same l)
   distinct-both l = distinct_after-both [] l
 
-  pub barrier-both : {P Q : Type 0} (test : P → Q) (asks : Q → Item → Bool) (passes : P → X → Bool) → ((p : P) (x : X) → asks (test p) (k.item x) ≡ passes p x)
-      → (b : barriers.Barrier P) (l : List X) → barrier_list same_item asks (grammar.barrier test b) (map k.item l) ≡ map k.item (barrier_list k.same passes b l)
-  barrier-both test asks passes tests Distinct l = distinct-both l
-  barrier-both test asks passes tests (Limit n) l = take-map k.item n l
-  barrier-both test asks passes tests (Skip n) l = drop-map k.item n l
-  barrier-both test asks passes tests (TakeWhile p) l = take_while-both k.item (asks (test p)) (passes p) (tests p) l
-  barrier-both test asks passes tests (DropWhile p) l = drop_while-both k.item (asks (test p)) (passes p) (tests p) l
+  pub barrier-both : {P : Type 0} (test : P → Condition) (passes : P → X → Bool) → ((p : P) (x : X) → holds (test p) (k.item x) ≡ passes p x)
+      → (b : barriers.Barrier P ItemCount) (l : List X) → barrier_items (grammar.barrier test count_content b) (map k.item l) ≡ map k.item (barrier_list k.same passes b l)
+  barrier-both test passes tests Distinct l = distinct-both l
+  barrier-both test passes tests (Limit n) l = take-map k.item n.number l
+  barrier-both test passes tests (Skip n) l = drop-map k.item n.number l
+  barrier-both test passes tests (TakeWhile p) l = take_while-both k.item (holds (test p)) (passes p) (tests p) l
+  barrier-both test passes tests (DropWhile p) l = drop_while-both k.item (holds (test p)) (passes p) (tests p) l
 
   pub first-both : (l : List X) → optional_text item_text (first (map k.item l)) ≡ optional_text k.told (first l)
   first-both [] = refl

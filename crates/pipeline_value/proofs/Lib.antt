@@ -1,8 +1,7 @@
-pub mod KnownSizes
+pub mod Counts
 pub mod Links
 pub mod Strict
 pub mod Telling
-pub mod RepeatedItems
 mod Embedded
 mod NumbersTold
 mod TextsTold

@@ -63,7 +63,7 @@ stage-number : (stage : NumberStage) (l : List ℤ) → stage_items (number_stag
 stage-number (stages.Map f) l = mapped-number f l
 stage-number (stages.Filter p) l = filter-both Number (holds (number_test p)) (number_holds p) (holds-number p) l
 stage-number (stages.FlatMap n) l = flat_map-both Number (replicate n) (replicate n) (replicate-both Number n) l
-stage-number (stages.Barrier b) l = barrier-both numbers number_test holds number_holds holds-number b l
+stage-number (stages.Barrier b) l = barrier-both numbers number_test number_holds holds-number b l
 
 stages-number : (list : List NumberStage) (l : List ℤ) → stages_items (map number_stage list) (map Number l) ≡ map Number (meaning.number_stages list l)
 stages-number [] l = refl

@@ -13,8 +13,3 @@ pub source-told : (body : NumberBody) (before items : List ℤ) (r : Result (Lis
 source-told body before items r same h =
     let Q : List ℤ → Type 0 = λ l. Tells (number_body_told body l) r in
     subst Q same h
-
--- stages of which the first were taken by copies
-pub copies-told : (Q : List ℤ → Type 0) (stages rest : List NumberStage) (taken : ℕ) (copies source items : List ℤ) → rest ≡ drop taken stages
-    → number_stages (drop taken stages) copies ≡ number_stages stages source → source ≡ items → Q (number_stages rest copies) → Q (number_stages stages items)
-copies-told Q stages rest taken copies source items is means same h = subst Q (ap (λ s. number_stages s copies) is ∙ means ∙ ap (number_stages stages) same) h

@@ -59,7 +59,7 @@ stage-text (stages.Map x) l = kept (map Text l)
 stage-text (stages.Filter p) l = passed p l
 stage-text (stages.FlatMap (Repeat n)) l = flat_map-both Text (replicate n) (replicate n) (replicate-both Text n) l
 stage-text (stages.FlatMap Words) l = flat_map-both Text (expanded Words) words_of (λ x. refl) l
-stage-text (stages.Barrier b) l = barrier-both texts text_test holds text_holds holds-text b l
+stage-text (stages.Barrier b) l = barrier-both texts text_test text_holds holds-text b l
 
 base-text : (base : TextBase) (l : List (List ℕ)) → base_text (text_base base) (map Text l) ≡ text_base_text base l
 base-text bases.Count l = counted Text l

@@ -1,16 +1,19 @@
 -- The items of a pipeline, and what its stages make of them. A number is asked of no text and a text of no number in a file that means
 -- something; that each stands for the other here, by its length and by its digits, leaves nothing open.
-use Rattle.std.specs.Prelude.{ℕ, ℤ, pos, neg_ℤ, ◌+ℤ◌, Bool, false, nat_lt, int_lt, bytes_eq, ◌==◌, List, map, filter, flat_map, length}
+use Rattle.std.specs.Prelude.{ℕ, ℤ, pos, neg_ℤ, ◌+ℤ◌, Bool, false, nat_lt, int_lt, bytes_eq, ◌==◌, List, map, filter, flat_map, take, drop, take_while, length}
 use Rattle.std.proofs.Math.ListN.{replicate}
 use Rattle.std.specs.Fmt.{signed_decimal}
 use Rattle.std.specs.List.{starts_with}
 use Rattle.std.specs.Ordering.{int_eq, int_cmp}
 use Rattle.sources.specs.Integers.{integers_between}
+use Rattle.barriers.specs.Whiles.{drop_while}
 use Rattle.stages.specs.Choices.{larger, smaller}
+use Rattle.stages.specs.Distinct.{distinct}
 use Rattle.stages.specs.Products.{wrapped_product}
 use Rattle.stages.specs.Wrapping.{wrapped, wrapped_sum}
 use Rattle.file_words.specs.Words.{words_of}
 use Rattle.pipeline_language.specs.declared.grammar.Merge.TheVariants as merges
+use Rattle.pipeline_language.specs.declared.grammar.Barrier.TheVariants.{Distinct, Limit, Skip, TakeWhile, DropWhile}
 use Rattle.pipeline_language.specs.declared.grammar.Condition.TheVariants.{Less, Greater, Equals, Divisible, Empty, Starts, Longer}
 use Rattle.pipeline_language.specs.declared.grammar.Expansion.{Expansion}
 use Rattle.pipeline_language.specs.declared.grammar.Expansion.TheVariants.{Repeat, Words}
@@ -18,9 +21,8 @@ use Rattle.pipeline_language.specs.declared.grammar.Function.{Function}
 use Rattle.pipeline_language.specs.declared.grammar.Function.TheVariants.{Add, Mul, Negate, Mod, Length, Itself}
 use Rattle.pipeline_language.specs.declared.grammar.Merge.{Merge}
 use Rattle.pipeline_language.specs.declared.grammar.Stage.TheVariants.{Map, Filter, FlatMap, Barrier}
-use Rattle.pipeline_language.specs.Syntax.{Condition, Origin, Range, Closed, Numbers, Lines, Stage}
+use Rattle.pipeline_language.specs.Syntax.{Barring, Condition, Origin, Range, Closed, Numbers, Lines, Stage}
 use Rattle.pipeline_meaning.specs.Functions.{modulo, text_length}
-use Rattle.pipeline_meaning.specs.Stages.{barrier_list}
 use Rattle.pipeline_meaning.specs.Walks.{one_after_other}
 
 -- a number of 64 bits, or a text by its bytes
@@ -77,11 +79,18 @@ expanded (Repeat n) x = replicate n x
 expanded Words x = map Text (words_of (item_text x))
 
 -- What a stage makes of a list. java.util.stream.Stream: map, filter, flatMap, distinct, limit, skip, takeWhile, dropWhile.
+abbrev pub barrier_items : Barring → List Item → List Item
+barrier_items Distinct items = distinct same_item items
+barrier_items (Limit n) items = take n items
+barrier_items (Skip n) items = drop n items
+barrier_items (TakeWhile p) items = take_while (holds p) items
+barrier_items (DropWhile p) items = drop_while (holds p) items
+
 abbrev pub stage_items : Stage → List Item → List Item
 stage_items (Map f) items = map (image f) items
 stage_items (Filter p) items = filter (holds p) items
 stage_items (FlatMap e) items = flat_map (expanded e) items
-stage_items (Barrier b) items = barrier_list same_item holds b items
+stage_items (Barrier b) items = barrier_items b items
 
 -- and what one after the other does
 abbrev pub stages_items : List Stage → List Item → List Item

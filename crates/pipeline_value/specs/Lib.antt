@@ -1,17 +1,5 @@
 pub mod Arrangements
 pub mod Barriers
-pub mod Copies
-pub mod Differing
-pub mod FitLaws
-pub mod FoldedCopies
-pub mod Folds
 pub mod Items
-pub mod KnownSizes
-pub mod Narrowing
-pub mod OneToOne
-pub mod Ranges
-pub mod Repeats
-pub mod Spans
-pub mod Sums
 pub mod Typed
 pub mod Value

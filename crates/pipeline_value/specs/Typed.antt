@@ -31,8 +31,8 @@ use Rattle.pipeline_value.specs.Value.{Told, strict_told}
 
 -- the items of a source (java.util.stream.LongStream, range and rangeClosed)
 abbrev pub source_numbers : NumberSource → List ℤ
-source_numbers (Range a b) = integers_between a b
-source_numbers (Closed a b) = integers_between a (b +ℤ pos 1)
+source_numbers (Range range) = integers_between range.start range.end
+source_numbers (Closed range) = integers_between range.start (range.last +ℤ pos 1)
 source_numbers (Numbers numbers) = numbers.items
 
 -- what a terminal tells of numbers (java.util.stream.LongStream)

@@ -2,8 +2,7 @@
 
 ghost use Rattle.std.specs.Prelude.{◌≡◌, Bool, false, IfOk, IsTrue, List, MatchBool, MatchOption, flat_map};
 ghost use Rattle.pipeline_meaning.specs.Stages.{is_barrier_stage, number_stage, text_stage};
-ghost use Rattle.pipeline_value.specs.Ranges.{NumberStageFits, TextStageFits};
-ghost use Rattle.pipeline_value.specs.Barriers.{BarrierFits, IsReady, barrier_list};
+ghost use Rattle.pipeline_value.specs.Barriers.{IsReady, barrier_list};
 
 use pipeline_language::{Barrier, NumberStage, TextStage};
 use pipeline_meaning::{NumberCheck, NumberSteps, TextCheck, TextSteps};
@@ -25,9 +24,6 @@ pub(crate) trait LanguageStage<T: OrderedValue + Drop>: Sized {
     // whether the stage looks at more than one item
     ghost is_barrier: { Self → Bool };
 
-    // its number is in the range of its place
-    ghost Fits: { Self → Type 0 };
-
     /// No stage.
     fn no_steps(alloc: Global) -> Self::Steps
         ensures { (l : List T.Content) → flat_map (Self.Steps.expand result) l ≡ l };
@@ -39,7 +35,6 @@ pub(crate) trait LanguageStage<T: OrderedValue + Drop>: Sized {
     /// The barrier that the stage is, or `None` where it looks at one item at a time.
     fn barrier(&self) -> Option<Barrier<Self::Check>>
         ensures none { MatchOption result (is_barrier self.now ≡ false) (λ b. (l : List T.Content) → barrier_list T.same Self.Check.holds b l ≡ makes self.now l) }
-        ensures fits { MatchOption result (Unit {0}) (λ b. Fits self.now → BarrierFits b) }
         ensures ready { MatchOption result (Unit {0}) (IsReady Self.Check.ready) };
 
     // steps are always ready
@@ -56,8 +51,6 @@ impl LanguageStage<i64> for NumberStage {
     ghost makes = { number_stage };
 
     ghost is_barrier = { is_barrier_stage };
-
-    ghost Fits = { NumberStageFits };
 
     fn no_steps(alloc: Global) -> NumberSteps {
         NumberSteps::new(alloc)
@@ -91,8 +84,6 @@ impl<'a> LanguageStage<&'a str> for TextStage<'a> {
     ghost makes = { text_stage };
 
     ghost is_barrier = { is_barrier_stage };
-
-    ghost Fits = { TextStageFits };
 
     fn no_steps(alloc: Global) -> TextSteps<'a> {
         TextSteps::new(alloc)

@@ -4,7 +4,7 @@ ghost use Rattle.std.specs.Prelude.{◌≡◌, ⊤, All, IfOk, List, flat_map};
 ghost use Rattle.spliterator.specs.Clones.{ClonesAlike};
 ghost use Rattle.chained_streams.specs.Chains.{link_value, through_links};
 ghost use Rattle.pipeline_meaning.specs.Walks.{one_after_other};
-ghost use Rattle.pipeline_value.specs.Barriers.{BarrierFits, IsReady, barrier_list};
+ghost use Rattle.pipeline_value.specs.Barriers.{IsReady, barrier_list};
 
 use crate::language_stages::LanguageStage;
 use barriers::{AnyBarrier, Barrier, Demand, Distinct, DropWhile, Limit, Skip, TakeWhile};
@@ -31,7 +31,6 @@ fn language_barrier<T, K>(hashes: SeededHashes, barrier: Line<K>) -> LanguageBar
 where
     T: OrderedValue + Hash + Clone + Drop,
     K: Test<T>,
-    requires fits { BarrierFits barrier }
     requires ready { IsReady K.ready barrier }
     requires clones { ClonesAlike T.is_clone T.content }
     ensures value { (l : List T.Content) → ⟦<LanguageBarrier<K> as Barrier<T>>⟧.value result l ≡ barrier_list T.same K.holds barrier l }
@@ -40,8 +39,8 @@ where
 {
     match barrier {
         Line::Distinct => AnyBarrier::Distinct(Distinct::with_hasher(hashes)),
-        Line::Limit(most) => AnyBarrier::Limit(Limit::new(most)),
-        Line::Skip(number) => AnyBarrier::Skip(Skip::new(number)),
+        Line::Limit(most) => AnyBarrier::Limit(Limit::new(most.get())),
+        Line::Skip(number) => AnyBarrier::Skip(Skip::new(number.get())),
         Line::TakeWhile(test) => AnyBarrier::TakeWhile(TakeWhile::new(test)),
         Line::DropWhile(test) => AnyBarrier::DropWhile(DropWhile::new(test)),
     }
@@ -56,7 +55,6 @@ pub(crate) fn linked<T, G>(
 where
     T: OrderedValue + Hash + Clone + Drop,
     G: LanguageStage<T>,
-    requires fits { All G.Fits stages.now }
     requires clones { ClonesAlike T.is_clone T.content }
     ensures means { let value = link_value G.Steps.expand ⟦<LanguageBarrier<G::Check> as Barrier<T>>⟧.value in
         IfOk result (λ linked. (l : List T.Content) → flat_map (G.Steps.expand linked.steps) (through_links value linked.links.items l) ≡ one_after_other G.makes stages.now l) }

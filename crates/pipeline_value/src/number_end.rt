@@ -1,28 +1,24 @@
 //! What the terminals make of numbers.
 
-ghost use Rattle.std.specs.Prelude.{◌≡◌, None, flat_map};
-ghost use Rattle.pipeline_value.specs.Folds.{fold_of};
+ghost use Rattle.std.specs.Prelude.{◌≡◌};
 ghost use Rattle.pipeline_value.specs.Typed.{number_told};
 ghost use Rattle.pipeline_value.specs.Value.{Tells};
 
 use crate::arranged::arranged_value;
 use crate::engine::Engine;
-use crate::folds::{Fold, fold_value};
 use crate::maps::{merged_value, strict_value};
 use crate::number_groups::number_arrangement;
 use crate::told::{ValueError, ran_optional, ran_text, ran_told};
+use crate::totals::total_value;
 use parallel_streams::Stream;
-use pipeline_language::{NumberTerminal, NumberTotal};
-use pipeline_meaning::{
-    NumberCheck as Check, NumberMapping as Mapping, NumberMerging, NumberSteps,
-};
-use stages::Stage;
+use pipeline_language::NumberTerminal;
+use pipeline_meaning::{NumberCheck as Check, NumberMapping as Mapping, NumberMerging};
 use std::thread::Threads;
 use stealing_pool::Gate;
 use value_text::{JoinedText, Rope};
 
-/// The text of a terminal's value on a stream of numbers. The terminal is no fold.
-fn unfolded_end<R, X, H>(
+/// The text of a terminal's value on a stream of numbers.
+pub(crate) fn number_end<R, X, H>(
     engine: &Engine<'_, R, H>,
     stream: &X,
     terminal: &NumberTerminal,
@@ -34,7 +30,6 @@ where
     X::Part: Send,
     H: Gate + Sync,
     requires stream { X.ready stream.now }
-    requires unfolded { fold_of terminal.now ≡ None }
     ensures { Tells (number_told terminal.now (X.value stream.now)) result }
 {
     if let Some(arrangement) = number_arrangement(engine, terminal) {
@@ -42,6 +37,7 @@ where
     }
     let (rt, alloc, run) = (engine.rt, engine.alloc, &engine.run);
     match *terminal {
+        NumberTerminal::Count => ran_told(engine, stream.count(rt, alloc, run)),
         NumberTerminal::FindFirst => ran_optional(engine, stream.find_first(rt, alloc, run)),
         NumberTerminal::ToList => {
             let list = JoinedText::list(alloc);
@@ -66,37 +62,9 @@ where
         NumberTerminal::ToMapStrict(key, value) => {
             strict_value(engine, stream, Mapping::of(key), Mapping::of(value))
         }
+        NumberTerminal::Own(total) => total_value(engine, stream, total),
         NumberTerminal::GroupBy(_, _)
         | NumberTerminal::Partition(_, _)
-        | NumberTerminal::Teeing(_, _)
-        | NumberTerminal::Own(NumberTotal::Sum)
-        | NumberTerminal::Own(NumberTotal::Product)
-        | NumberTerminal::Own(NumberTotal::Max)
-        | NumberTerminal::Own(NumberTotal::Min)
-        | NumberTerminal::Count => unreachable!(),
+        | NumberTerminal::Teeing(_, _) => unreachable!(),
     }
-}
-
-/// The text of a terminal's value on what steps make of a stream's numbers. A fold takes the copies that the last step asks for without
-/// their being made.
-pub(crate) fn number_end<R, X, H>(
-    engine: &Engine<'_, R, H>,
-    stream: X,
-    mut steps: NumberSteps,
-    terminal: &NumberTerminal,
-) -> Result<Rope, ValueError>
-where
-    R: Threads + Sync,
-    X: Stream<Item = i64> + Drop + Sync,
-    X::Progress: Send + Sync,
-    X::Part: Send,
-    H: Gate + Sync,
-    requires { X.ready stream }
-    ensures { Tells (number_told terminal.now (flat_map (⟦<NumberSteps as Stage>⟧.expand steps) (X.value stream))) result }
-{
-    let Some(fold) = Fold::of(terminal) else {
-        return unfolded_end(engine, &stream.then(steps), terminal);
-    };
-    let copies = steps.take_repeat();
-    fold_value(engine, &stream.then(steps), fold, copies)
 }

@@ -1,44 +1,51 @@
 //! The value of stages over texts and what follows them.
 
-ghost use Rattle.std.specs.Prelude.{◌≡◌, All, flat_map, map};
+ghost use Rattle.std.specs.Prelude.{◌≡◌, map};
 ghost use Rattle.pipeline_meaning.specs.Functions.{text_length};
-ghost use Rattle.pipeline_meaning.specs.Stages.{text_stages};
-ghost use Rattle.pipeline_value.specs.Ranges.{NumberBodyFits, TextEndFits, TextStageFits};
-ghost use Rattle.pipeline_value.specs.Typed.{number_body_told, text_end_told};
+ghost use Rattle.pipeline_value.specs.Typed.{number_body_told, text_body_told, text_end_told};
 ghost use Rattle.pipeline_value.specs.Value.{Tells};
 
 use crate::engine::Engine;
+use crate::known::known_text_count;
 use crate::linked::linked;
 use crate::numbers::number_value;
 use crate::text_end::{Texts, text_end};
-use crate::told::ValueError;
+use crate::told::{ValueError, told};
 use chained_streams::Chain;
 use parallel_streams::{Stream, of};
 use parts::Length;
-use pipeline_language::{NumberBody, TextEnd, TextStage};
+use pipeline_language::{NumberBody, TextBody, TextEnd};
+use pipeline_plan::Texts as OfTexts;
+use pipeline_plan::{Plan, Window, optimised, outlook_of};
 use sources::SliceSplit;
 use spliterator::{OrderedValue, Text};
 use std::thread::Threads;
 use stealing_pool::Gate;
 use value_text::Rope;
 
-/// The text of the value of stages and what follows them, over a list of texts.
-pub(crate) fn text_value<'a, R: Threads + Sync, H: Gate + Sync>(
+/// The text of the value of a body, over a list of texts.
+pub(crate) fn text_value<'s, 'a, R: Threads + Sync, H: Gate + Sync>(
     engine: &Engine<'_, R, H>,
-    items: &[&'a str],
-    stages: &[TextStage<'a>],
-    end: &TextEnd<'a>,
+    items: &'s [&'a str],
+    body: TextBody<'a>,
 ) -> Result<Rope, ValueError>
-    requires fits { All TextStageFits stages.now }
-    requires end { TextEndFits end.now }
-    ensures { Tells (text_end_told end.now (text_stages stages.now (map (λ t. t.now) items.now))) result }
+    ensures { Tells (text_body_told body.entry (map (λ t. t.now) items.now)) result }
 {
-    let linked = linked(engine.alloc, engine.hashes, stages)?;
+    let TextBody { stages, end } = body;
+    let source = Window {
+        source: SliceSplit::new(items),
+    };
+    let mut plan: Plan<Window<SliceSplit<'s, &'a str>>, OfTexts<'a>> = Plan { source, stages };
+    optimised(&mut plan);
+    if let Some(count) = known_text_count(outlook_of(&plan), &end) {
+        return told(engine.alloc, &count);
+    }
+    let linked = linked(engine.alloc, engine.hashes, plan.stages.as_slice())?;
     let chain = Chain {
-        upstream: of(SliceSplit::new(items)),
+        upstream: of(plan.source.source),
         links: linked.links,
     };
-    end_value(engine, chain.then(linked.steps), end)
+    end_value(engine, chain.then(linked.steps), &end)
 }
 
 /// The text of the value of what follows stages over texts, over a stream of texts.
@@ -48,7 +55,6 @@ fn end_value<'s, 'a, R: Threads + Sync, H: Gate + Sync>(
     end: &TextEnd<'a>,
 ) -> Result<Rope, ValueError>
     requires texts { ⟦<Texts<'s, 'a> as Stream>⟧.ready texts }
-    requires end { TextEndFits end.now }
     ensures { Tells (text_end_told end.now (⟦<Texts<'s, 'a> as Stream>⟧.value texts.entry)) result }
 {
     match end {
@@ -71,7 +77,6 @@ where
     X::Part: Send,
     H: Gate + Sync,
     requires texts { X.ready texts }
-    requires fits { NumberBodyFits body.now }
     ensures { Tells (number_body_told body.now (map text_length (X.value texts))) result }
 {
     let stages = body.stages.as_slice();

@@ -2,25 +2,21 @@
 
 ghost use Rattle.parallel_streams.specs.Runs.{IsLawfulRun};
 ghost use Rattle.pipeline_language.specs.Content.{program_of};
-ghost use Rattle.pipeline_value.specs.Ranges.{NumberBodyFits, NumberSourceFits, PipelineFits};
 ghost use Rattle.pipeline_value.specs.Typed.{number_body_told, source_numbers};
 ghost use Rattle.pipeline_value.specs.Value.{Tells, program_told};
 
-use crate::differing::drop_distincts;
 use crate::engine::Engine;
-use crate::known_folds::known_fold;
-use crate::known_size::known_count;
-use crate::narrowed::{emptied, narrowed};
-use crate::numbers::{list_value, number_value};
-use crate::repeats::{drop_repeats, repeats_first, with_copies};
-use crate::stepped::stepped;
+use crate::known::{known_number_count, known_number_sum};
+use crate::numbers::number_value;
+use crate::ranges::{closed_numbers, open_numbers};
 use crate::texts::text_value;
-use crate::told::{ValueError, told};
+use crate::told::ValueError;
 use parallel_streams::{Run, of};
 use pipeline_language::{NumberBody, NumberSource, Pipeline};
 use pipeline_meaning::SeededHashes;
-use sources::RangeSplit;
-use spliterator::{Spliterator, Value};
+use pipeline_plan::{NumberRange, Numbers, Plan, Window, optimised};
+use sources::{RangeSplit, SliceSplit};
+use spliterator::Spliterator;
 use std::alloc::Global;
 use std::thread::Threads;
 use stealing_pool::Gate;
@@ -36,12 +32,8 @@ pub fn pipeline_value<R: Threads + Sync, H: Gate + Sync>(
     run: &Run<'_, H>,
 ) -> Result<Rope, ValueError>
     requires settings { IsLawfulRun run.now.workers run.now.target }
-    requires fits { PipelineFits pipeline }
     ensures { Tells (program_told (program_of pipeline.entry)) result }
 {
-    if let Some(count) = known_count(&pipeline) {
-        return told(alloc, &count);
-    }
     let engine = &Engine {
         rt,
         alloc,
@@ -54,9 +46,7 @@ pub fn pipeline_value<R: Threads + Sync, H: Gate + Sync>(
     };
     match pipeline {
         Pipeline::Numbers(source, body) => source_value(engine, source, body),
-        Pipeline::Texts(texts, body) => {
-            text_value(engine, texts.as_slice(), body.stages.as_slice(), &body.end)
-        }
+        Pipeline::Texts(texts, body) => text_value(engine, texts.as_slice(), body),
     }
 }
 
@@ -66,64 +56,52 @@ fn source_value<R: Threads + Sync, H: Gate + Sync>(
     source: NumberSource,
     body: NumberBody,
 ) -> Result<Rope, ValueError>
-    requires source { NumberSourceFits source }
-    requires body { NumberBodyFits body }
     ensures { Tells (number_body_told body (source_numbers source)) result }
 {
     match source {
-        NumberSource::Range(start, end) => {
-            let range = RangeSplit::range(start, end).unwrap();
-            narrowed_value(engine, range, body)
-        }
-        NumberSource::Closed(start, last) => {
-            let range = RangeSplit::closed(start, last).unwrap();
-            narrowed_value(engine, range, body)
-        }
-        NumberSource::Numbers(numbers) => listed_value(engine, numbers, body),
+        NumberSource::Range(range) => range_value(engine, open_numbers(range), body),
+        NumberSource::Closed(range) => range_value(engine, closed_numbers(range), body),
+        NumberSource::Numbers(numbers) => list_value(engine, numbers.as_slice(), body),
     }
 }
 
-/// The text of the value of a body, over numbers as they stand. A `distinct` behind another is dropped, and so are repeats before a
-/// `distinct`; other repeats move before what cuts.
-fn listed_value<R: Threads + Sync, H: Gate + Sync>(
+/// The text of the value of a body, over numbers as they stand.
+fn list_value<R: Threads + Sync, H: Gate + Sync>(
     engine: &Engine<'_, R, H>,
-    numbers: Vec<i64>,
-    mut body: NumberBody,
+    numbers: &[i64],
+    body: NumberBody,
 ) -> Result<Rope, ValueError>
-    requires body { NumberBodyFits body }
-    ensures { Tells (number_body_told body numbers.items) result }
+    ensures { Tells (number_body_told body numbers.now) result }
 {
-    // the call promises that the numbers are of an i64
-    numbers.is_value();
-    drop_repeats(&mut body.stages);
-    drop_distincts(&mut body.stages, false);
-    repeats_first(&mut body.stages);
-    let stages = body.stages.as_slice();
-    list_value(engine, numbers.as_slice(), stages, &body.terminal)
-}
-
-/// The text of the value of a body, over a range. A `distinct` that its numbers come to without repeats is dropped, and so are repeats
-/// before a `distinct`; a repeat of no copies empties the range, and limits and skips that look at no item narrow it. Sums,
-/// products and negatives that come first are taken by the numbers themselves, whose sum, least and greatest are known, and the copies of
-/// repeats before what cuts are made by their source.
-fn narrowed_value<R: Threads + Sync, H: Gate + Sync>(
-    engine: &Engine<'_, R, H>,
-    range: RangeSplit,
-    mut body: NumberBody,
-) -> Result<Rope, ValueError>
-    requires body { NumberBodyFits body }
-    ensures { Tells (number_body_told body (⟦<RangeSplit as Spliterator>⟧.items range)) result }
-{
-    let range = emptied(range, body.stages.as_slice());
-    drop_repeats(&mut body.stages);
-    drop_distincts(&mut body.stages, true);
-    let range = narrowed(range, &mut body.stages);
-    let numbers = stepped(range, &mut body.stages);
-    if let Some(told) = known_fold(engine, numbers, &body) {
+    let NumberBody { stages, terminal } = body;
+    let source = Window {
+        source: SliceSplit::new(numbers),
+    };
+    let mut plan: Plan<Window<SliceSplit<'_, i64>>, Numbers> = Plan { source, stages };
+    optimised(&mut plan);
+    if let Some(told) = known_number_count(engine, &plan, &terminal) {
         return told;
     }
-    repeats_first(&mut body.stages);
-    let copies = with_copies(numbers, &mut body.stages);
-    let stages = body.stages.as_slice();
-    number_value(engine, of(copies), stages, &body.terminal)
+    number_value(engine, of(plan.source.source), plan.stages.as_slice(), &terminal)
+}
+
+/// The text of the value of a body, over a range.
+fn range_value<R: Threads + Sync, H: Gate + Sync>(
+    engine: &Engine<'_, R, H>,
+    range: RangeSplit,
+    body: NumberBody,
+) -> Result<Rope, ValueError>
+    ensures { Tells (number_body_told body (⟦<RangeSplit as Spliterator>⟧.items range)) result }
+{
+    let NumberBody { stages, terminal } = body;
+    let source = NumberRange::Range(range);
+    let mut plan: Plan<NumberRange, Numbers> = Plan { source, stages };
+    optimised(&mut plan);
+    if let Some(told) = known_number_count(engine, &plan, &terminal) {
+        return told;
+    }
+    if let Some(told) = known_number_sum(engine, &plan, &terminal) {
+        return told;
+    }
+    number_value(engine, of(plan.source.steps()), plan.stages.as_slice(), &terminal)
 }

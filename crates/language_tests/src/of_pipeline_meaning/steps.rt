@@ -1,6 +1,6 @@
 //! Stages as steps, fed item by item and a block at once.
 use pipeline_language::{
-    Barrier, Expansion, NumberFunction, NumberStage, NumberTest, TextStage, TextTest,
+    Barrier, Expansion, ItemCount, NumberFunction, NumberStage, NumberTest, TextStage, TextTest,
 };
 use pipeline_meaning::{NumberSteps, TextSteps};
 use spliterator::NoMemory;
@@ -187,8 +187,8 @@ fn a_number_is_repeated_often(rt: HostRuntime) -> Result<(), Fail> {
 
 static BARRIERS: [NumberStage; 5] = [
     NumberStage::Barrier(Barrier::Distinct),
-    NumberStage::Barrier(Barrier::Limit(1)),
-    NumberStage::Barrier(Barrier::Skip(1)),
+    NumberStage::Barrier(Barrier::Limit(ItemCount { number: 1 })),
+    NumberStage::Barrier(Barrier::Skip(ItemCount { number: 1 })),
     NumberStage::Barrier(Barrier::TakeWhile(NumberTest::Less(0))),
     NumberStage::Barrier(Barrier::DropWhile(NumberTest::Less(9))),
 ];
@@ -213,7 +213,13 @@ const LOST: (Operation, Option<u64>) = (Operation::FlatMap, None);
 static NUMBER_SIZES: [(&[NumberStage], (Operation, Option<u64>)); 5] = [
     (&[], KEPT),
     (&[MORE, MORE], KEPT),
-    (&[MORE, NumberStage::Barrier(Barrier::Limit(3))], KEPT),
+    (
+        &[
+            MORE,
+            NumberStage::Barrier(Barrier::Limit(ItemCount { number: 3 })),
+        ],
+        KEPT,
+    ),
     (&[MORE, NumberStage::Filter(NumberTest::Divisible(1))], LOST),
     (&[NumberStage::FlatMap(1)], LOST),
 ];
@@ -329,8 +335,8 @@ fn check_texts(rt: &(impl Abort + Alloc<A = Global>), rows: &[TextRow<'_>]) -> R
 
 static TEXT_BARRIERS: [TextStage<'_>; 5] = [
     TextStage::Barrier(Barrier::Distinct),
-    TextStage::Barrier(Barrier::Limit(1)),
-    TextStage::Barrier(Barrier::Skip(1)),
+    TextStage::Barrier(Barrier::Limit(ItemCount { number: 1 })),
+    TextStage::Barrier(Barrier::Skip(ItemCount { number: 1 })),
     TextStage::Barrier(Barrier::TakeWhile(TextTest::Empty)),
     TextStage::Barrier(Barrier::DropWhile(TextTest::Empty)),
 ];

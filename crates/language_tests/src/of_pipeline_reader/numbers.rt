@@ -3,7 +3,7 @@
 use super::first_wrong;
 use file_words::ReadError;
 use pipeline_language::{
-    Barrier, Merge, NumberBase, NumberFunction, NumberOnly, NumberSource, NumberStage,
+    Barrier, ItemCount, Merge, NumberBase, NumberFunction, NumberOnly, NumberSource, NumberStage,
     NumberSummary, NumberTerminal, NumberTest, NumberTotal, Pipeline,
 };
 use pipeline_reader::read_pipeline;
@@ -43,8 +43,10 @@ static STAGES: [NumberStage; 15] = [
     NumberStage::Filter(NumberTest::Divisible(4)),
     NumberStage::FlatMap(1000),
     NumberStage::Barrier(Barrier::Distinct),
-    NumberStage::Barrier(Barrier::Limit(0)),
-    NumberStage::Barrier(Barrier::Skip(9_223_372_036_854_775_807)),
+    NumberStage::Barrier(Barrier::Limit(ItemCount { number: 0 })),
+    NumberStage::Barrier(Barrier::Skip(ItemCount {
+        number: 9_223_372_036_854_775_807,
+    })),
     NumberStage::Barrier(Barrier::TakeWhile(NumberTest::Less(5))),
     NumberStage::Barrier(Barrier::DropWhile(NumberTest::Less(6))),
 ];

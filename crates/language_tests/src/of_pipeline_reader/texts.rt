@@ -2,9 +2,9 @@
 
 use file_words::ReadError;
 use pipeline_language::{
-    Barrier, Expansion, Joint, Merge, NumberFunction, NumberStage, NumberTerminal, NumberTotal,
-    Pipeline, TextBase, TextEnd, TextFunction, TextStage, TextSummary, TextTerminal, TextTest,
-    TextValue,
+    Barrier, Expansion, ItemCount, Joint, Merge, NumberFunction, NumberStage, NumberTerminal,
+    NumberTotal, Pipeline, TextBase, TextEnd, TextFunction, TextStage, TextSummary, TextTerminal,
+    TextTest, TextValue,
 };
 use pipeline_reader::read_pipeline;
 use std::alloc::{AllocError, Global};
@@ -47,8 +47,8 @@ static STAGES: [TextStage<'static>; 11] = [
     TextStage::FlatMap(Expansion::Words),
     TextStage::FlatMap(Expansion::Repeat(2)),
     TextStage::Barrier(Barrier::Distinct),
-    TextStage::Barrier(Barrier::Limit(1)),
-    TextStage::Barrier(Barrier::Skip(0)),
+    TextStage::Barrier(Barrier::Limit(ItemCount { number: 1 })),
+    TextStage::Barrier(Barrier::Skip(ItemCount { number: 0 })),
     TextStage::Barrier(Barrier::TakeWhile(TextTest::Empty)),
     TextStage::Barrier(Barrier::DropWhile(TextTest::Starts("a"))),
 ];

@@ -58,10 +58,8 @@ const LENGTHS: &[u8] = b"pipeline 1\nlines 2\na\nb\nmap self\nmap length\ncount\
 
 const SUM: &[u8] = b"pipeline 1\nrange 0 262145\nmap mul 3\nsum\n";
 
-const GREATEST: &[u8] = b"pipeline 1\nrange 0 4611686018427387904\nmax\n";
-
-/// A count of a known size runs no leaf, nor does a fold of many numbers by one step, unless the user has a target.
-static COUNTS: [LeafRow<'_>; 15] = [
+/// A count of a known size runs no leaf, nor does the sum of many numbers by one step, unless the user has a target.
+static COUNTS: [LeafRow<'_>; 14] = [
     (LONG_RANGE, 4, 0, 0),
     (LONG_RANGE, 4, 1, 0),
     (SKIPPED, 4, 0, 0),
@@ -76,7 +74,6 @@ static COUNTS: [LeafRow<'_>; 15] = [
     (LENGTHS, 4, 1, 0),
     (SUM, 4, 0, 0),
     (SUM, 4, 65537, 4),
-    (GREATEST, 4, 0, 0),
 ];
 
 /// What the second of eight leaves decides.

@@ -1,15 +1,8 @@
 use Rattle.std.proofs.lemmas.Result.{err_from_is_err_and}
 use Rattle.std.proofs.Common.{◌∙◌}
 use Rattle.pipeline_language.specs.Content.{program_of}
-use Rattle.pipeline_value.specs.FitLaws.{fits}
 use Rattle.pipeline_runner.proofs.RunLemmas.{value_told}
 use Rattle.pipeline_runner.proofs.runner.whole_text.Goals as goal
-
-pub pipeline_value-requires-clause-fits : goal.pipeline_value-requires-clause-fits
-pipeline_value-requires-clause-fits g c κs lives = fits c.args.file.now c.in_ok-pipeline.pipeline c.in_ok-pipeline.ensures.meaning
-
-pub settings_for-workers-requires-clause-fits : goal.settings_for-workers-requires-clause-fits
-settings_for-workers-requires-clause-fits g c = fits c.args.file.now c.in_ok-pipeline.pipeline c.in_ok-pipeline.ensures.meaning
 
 pub returns-in_err-text-clause-errors : goal.returns-in_err-text-clause-errors
 returns-in_err-text-clause-errors g c =

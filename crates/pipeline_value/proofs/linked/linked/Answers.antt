@@ -8,8 +8,7 @@ use Rattle.chained_streams.specs.Chains.{link_value, through_links}
 use Rattle.chained_streams.specs.declared.chain.Link.{Link}
 use Rattle.pipeline_meaning.specs.Walks.{one_after_other}
 use Rattle.spliterator.specs.Clones.{ClonesAlike}
-use Rattle.pipeline_value.specs.Narrowing.{stage-more}
-use Rattle.pipeline_value.proofs.Links.{through-push}
+use Rattle.pipeline_value.proofs.Links.{stage-more, through-push}
 use Rattle.pipeline_value.proofs.linked.linked.Goals as goal
 
 pub loop-at-preserved-then-branch : goal.loop-at-preserved-then-branch
@@ -24,11 +23,6 @@ loop-at-preserved-then-branch g c =
           ∙ stage-more makes c.args.stages.now c.loop-at.at _ (flat_map (g.G.Steps.Stage.expand c.loop-at.steps) came) items within (c.loop-at.invariant.0 items),
       c.loop-at.invariant.1,
     )
-
-pub language_barrier-barrier-requires-clause-fits : goal.language_barrier-barrier-requires-clause-fits
-language_barrier-barrier-requires-clause-fits g c =
-    let stage = c.index-stages-at-in-loop-at in
-    c.in-Some.ensures.fits (subst g.G.LanguageStage.Fits (sym stage.is) (c.requires.fits c.loop-at.at stage.result c.loop-at-test.true))
 
 pub loop-at-preserved : goal.loop-at-preserved
 loop-at-preserved g c =

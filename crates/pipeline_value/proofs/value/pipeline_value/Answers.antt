@@ -4,11 +4,6 @@ use Rattle.pipeline_value.specs.Value.{Tells}
 use Rattle.pipeline_value.proofs.ContentTold.{told_by_content}
 use Rattle.pipeline_value.proofs.value.pipeline_value.Goals as goal
 
-pub returns-in-Some : goal.returns-in-Some
-returns-in-Some g c =
-    let told : Tells (pipeline_told c.args.pipeline) c.told.result = search rules in
-    subst (λ t. Tells t c.told.result) (sym (told_by_content c.args.pipeline)) told
-
 pub returns-in-Numbers : goal.returns-in-Numbers
 returns-in-Numbers g c =
     let told : Tells (pipeline_told c.args.pipeline) c.source_value.result = search rules in

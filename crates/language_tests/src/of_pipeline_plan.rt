@@ -1,0 +1,95 @@
+//! What the rules make of plans over 0 to 99: how many stages are left, and what is known before anything runs.
+
+ghost use Rattle.std.specs.Prelude.{◌<◌, ◌^◌};
+
+use pipeline_language::{Barrier, ItemCount, NumberFunction, NumberStage, NumberTest};
+use pipeline_plan::{NumberRange, Numbers, Plan, known_sum, optimised, outlook_of};
+use sources::RangeSplit;
+use std::process::Abort;
+use std::test::Fail;
+
+const SEVENTHS: NumberStage = NumberStage::Filter(NumberTest::Divisible(7));
+
+const THIRDS: NumberStage = NumberStage::Map(NumberFunction::Mod(3));
+
+const DISTINCT: NumberStage = NumberStage::Barrier(Barrier::Distinct);
+
+fn limit(number: u64) -> NumberStage
+    requires { number < 2 ^ 63 }
+{
+    NumberStage::Barrier(Barrier::Limit(ItemCount { number }))
+}
+
+fn skip(number: u64) -> NumberStage
+    requires { number < 2 ^ 63 }
+{
+    NumberStage::Barrier(Barrier::Skip(ItemCount { number }))
+}
+
+/// How many stages are left, how many numbers there are, and their sum.
+fn left<R: Abort>(rt: &R, stages: Vec<NumberStage>) -> (usize, Option<u64>, Option<i64>) {
+    let Ok(range) = RangeSplit::range(0, 100) else {
+        panic!(rt; "too long")
+    };
+    let source = NumberRange::Range(range);
+    let mut plan: Plan<NumberRange, Numbers> = Plan { source, stages };
+    optimised(&mut plan);
+    let known = outlook_of(&plan).known_size::<Numbers>();
+    (plan.stages.len(), known, known_sum(&plan))
+}
+
+#[test]
+fn a_range_absorbs(rt: HostRuntime) -> Result<(), Fail> {
+    let negate = NumberStage::Map(NumberFunction::Negate);
+    let stages = vec![in rt.alloc(); negate, skip(1), limit(3)]?;
+    assert!(rt; left(&rt, stages) == (0, Some(3), Some(-6)));
+    let less = NumberStage::Filter(NumberTest::Less(4));
+    let stages = vec![in rt.alloc(); less, THIRDS, skip(1)]?;
+    assert!(rt; left(&rt, stages) == (1, Some(3), None));
+    Ok(())
+}
+
+#[test]
+fn nothing_is_read_before_no_copies(rt: HostRuntime) -> Result<(), Fail> {
+    let stages = vec![in rt.alloc(); SEVENTHS, DISTINCT, NumberStage::FlatMap(0), THIRDS]?;
+    assert!(rt; left(&rt, stages) == (1, Some(0), None));
+    Ok(())
+}
+
+#[test]
+fn a_distinct_of_numbers_that_differ_is_dropped(rt: HostRuntime) -> Result<(), Fail> {
+    let stages = vec![in rt.alloc(); SEVENTHS, DISTINCT, limit(3), DISTINCT]?;
+    assert!(rt; left(&rt, stages) == (2, None, None));
+    let stages = vec![in rt.alloc(); THIRDS, DISTINCT]?;
+    assert_eq!(rt; left(&rt, stages).0, 2);
+    Ok(())
+}
+
+#[test]
+fn copies_sink_behind_what_looks_at_items(rt: HostRuntime) -> Result<(), Fail> {
+    let stages = vec![in rt.alloc(); NumberStage::FlatMap(4), SEVENTHS, limit(12), skip(4)]?;
+    let Ok(range) = RangeSplit::range(0, 100) else {
+        panic!(rt; "too long")
+    };
+    let source = NumberRange::Range(range);
+    let mut plan: Plan<NumberRange, Numbers> = Plan { source, stages };
+    optimised(&mut plan);
+    assert_eq!(rt; plan.stages.len(), 4);
+    assert!(rt; matches!(plan.stages.first(), Some(NumberStage::Filter(_))));
+    assert!(rt; matches!(plan.stages.last(), Some(NumberStage::FlatMap(4))));
+    Ok(())
+}
+
+#[test]
+fn copies_before_a_distinct_are_dropped(rt: HostRuntime) -> Result<(), Fail> {
+    let stages = vec![in rt.alloc(); SEVENTHS, NumberStage::FlatMap(4), THIRDS, DISTINCT]?;
+    assert_eq!(rt; left(&rt, stages).0, 3);
+    Ok(())
+}
+
+#[test]
+fn windows_of_some_copies_stay(rt: HostRuntime) -> Result<(), Fail> {
+    let stages = vec![in rt.alloc(); NumberStage::FlatMap(4), limit(10), limit(9), skip(3)]?;
+    assert_eq!(rt; left(&rt, stages).0, 3);
+    Ok(())
+}

@@ -1,0 +1,18 @@
+//! The plan of a pipeline, and the rules that make it simpler before anything runs. Each rule keeps what the plan means.
+#![tactic(auto)]
+
+mod kind;
+mod neighbours;
+mod numbers;
+mod outlook;
+mod plan;
+mod sums;
+mod windows;
+
+pub use kind::{Kind, Numbers, StageOf, Texts};
+pub use neighbours::Instead;
+pub use numbers::NumberRange;
+pub use outlook::Outlook;
+pub use plan::{Plan, PlanSource, optimised, outlook_of};
+pub use sums::known_sum;
+pub use windows::Window;

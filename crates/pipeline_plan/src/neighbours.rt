@@ -1,0 +1,241 @@
+//! Two stages, one behind the other, that are put more simply.
+
+ghost use Rattle.std.specs.Prelude.{◌≡◌, ◌≤◌, ◌+◌, IfSome, List, [], ◌++◌, drop, length, take, true};
+ghost use Rattle.pipeline_plan.specs.Meanings.{stage_list};
+ghost use Rattle.pipeline_plan.specs.Better.{Betters, IsBetter, instead_list};
+ghost use Rattle.pipeline_plan.specs.Neighbours.{IsWindowOver, Repeats, is_distinct, is_window_behind_map, passes_copies};
+
+use crate::{Kind, StageOf};
+use pipeline_language::{Barrier, Stage};
+
+/// What stands in the place of two neighbours.
+pub enum Instead<G> {
+    Both(G, G),
+    One(G),
+}
+
+/// Whether a limit or a skip stands behind a map.
+fn is_window_behind_map<F, P, E>(first: &Stage<F, P, E>, second: &Stage<F, P, E>) -> bool
+    ensures { result ≡ is_window_behind_map first.now second.now }
+{
+    match (first, second) {
+        (Stage::Map(_), Stage::Barrier(Barrier::Limit(_))) => true,
+        (Stage::Map(_), Stage::Barrier(Barrier::Skip(_))) => true,
+        _ => false,
+    }
+}
+
+/// A limit or a skip behind a map stands as well before it.
+///
+/// ```text
+/// map negate, limit 3    // limit 3, map negate
+/// ```
+fn window_first<K: Kind>(first: &StageOf<K>, second: &StageOf<K>) -> Option<Instead<StageOf<K>>>
+    ensures { IfSome result (IsBetter K.means first.now second.now) }
+{
+    if is_window_behind_map(first, second) {
+        Some(Instead::Both(*second, *first))
+    } else {
+        None
+    }
+}
+
+/// How many copies of each item a stage makes, where it makes copies alone.
+pub(crate) fn copies_of<K: Kind>(stage: &StageOf<K>) -> Option<u64>
+    ensures { IfSome result (Repeats K.means stage.now) }
+{
+    match stage {
+        Stage::FlatMap(expansion) => K::copies(expansion),
+        _ => None,
+    }
+}
+
+/// Whether a stage makes nothing of whatever comes to it: so many copies as none.
+pub(crate) fn makes_none<K: Kind>(stage: &StageOf<K>) -> bool
+    ensures { result ≡ true → (l : List K.Item.Content) → stage_list K.means stage.now l ≡ [] }
+{
+    let Some(copies) = copies_of::<K>(stage) else {
+        return false;
+    };
+    if copies >= 1 {
+        return false;
+    }
+    true
+}
+
+/// What stands before a stage that makes nothing is of no use.
+///
+/// ```text
+/// map negate, flatmap repeat 0    // flatmap repeat 0
+/// ```
+fn emptied<K: Kind>(_first: &StageOf<K>, second: &StageOf<K>) -> Option<Instead<StageOf<K>>>
+    ensures { IfSome result (IsBetter K.means _first.now second.now) }
+{
+    if makes_none::<K>(second) {
+        Some(Instead::One(*second))
+    } else {
+        None
+    }
+}
+
+/// Whether a stage looks at items and not at how many there are: a map, a filter or a while.
+fn passes_copies<F, P, E>(stage: &Stage<F, P, E>) -> bool
+    ensures { result ≡ passes_copies stage.now }
+{
+    match stage {
+        Stage::Map(_) | Stage::Filter(_) => true,
+        Stage::Barrier(Barrier::TakeWhile(_)) | Stage::Barrier(Barrier::DropWhile(_)) => true,
+        _ => false,
+    }
+}
+
+/// What looks at items had better look before they are copied.
+///
+/// ```text
+/// flatmap repeat 4, map negate    // map negate, flatmap repeat 4
+/// ```
+fn copies_last<K: Kind>(first: &StageOf<K>, second: &StageOf<K>) -> Option<Instead<StageOf<K>>>
+    ensures { IfSome result (IsBetter K.means first.now second.now) }
+{
+    let _copies = copies_of::<K>(first)?;
+    if passes_copies(second) {
+        Some(Instead::Both(*second, *first))
+    } else {
+        None
+    }
+}
+
+/// Whether the stage is `distinct`.
+pub(crate) fn is_distinct<F, P, E>(stage: &Stage<F, P, E>) -> bool
+    ensures { result ≡ is_distinct stage.now }
+{
+    matches!(stage, Stage::Barrier(Barrier::Distinct))
+}
+
+/// A `distinct` drops the copies that a repeat makes.
+///
+/// ```text
+/// flatmap repeat 4, distinct    // distinct
+/// ```
+fn copies_dropped<K: Kind>(first: &StageOf<K>, second: &StageOf<K>) -> Option<Instead<StageOf<K>>>
+    ensures { IfSome result (IsBetter K.means first.now second.now) }
+{
+    let copies = copies_of::<K>(first)?;
+    if copies >= 1 && is_distinct(second) {
+        Some(Instead::One(*second))
+    } else {
+        None
+    }
+}
+
+/// The limit or the skip of items whose copies a limit or a skip is of, where it is of whole copies.
+fn window_over<F: Copy, P: Copy, E: Copy>(
+    stage: &Stage<F, P, E>,
+    copies: u64,
+) -> Option<Stage<F, P, E>>
+    ensures { IfSome result (IsWindowOver copies stage.now) }
+{
+    match *stage {
+        Stage::Barrier(Barrier::Limit(most)) => {
+            let part = most.part(copies)?;
+            Some(Stage::Barrier(Barrier::Limit(part)))
+        }
+        Stage::Barrier(Barrier::Skip(number)) => {
+            let part = number.part(copies)?;
+            Some(Stage::Barrier(Barrier::Skip(part)))
+        }
+        _ => None,
+    }
+}
+
+/// A limit or a skip of whole copies stands as well before they are made.
+///
+/// ```text
+/// flatmap repeat 4, limit 12    // limit 3, flatmap repeat 4
+/// ```
+fn window_before_copies<K: Kind>(
+    first: &StageOf<K>,
+    second: &StageOf<K>,
+) -> Option<Instead<StageOf<K>>>
+    ensures { IfSome result (IsBetter K.means first.now second.now) }
+{
+    let copies = copies_of::<K>(first)?;
+    let part = window_over(second, copies)?;
+    Some(Instead::Both(part, *first))
+}
+
+/// Two limits are one, and so are two skips.
+///
+/// ```text
+/// limit 7, limit 3    // limit 3
+/// skip 7, skip 3      // skip 10
+/// ```
+fn windows_merged<K: Kind>(first: &StageOf<K>, second: &StageOf<K>) -> Option<Instead<StageOf<K>>>
+    ensures { IfSome result (IsBetter K.means first.now second.now) }
+{
+    match (*first, *second) {
+        (Stage::Barrier(Barrier::Limit(most)), Stage::Barrier(Barrier::Limit(other))) => {
+            let least = most.least(other);
+            Some(Instead::One(Stage::Barrier(Barrier::Limit(least))))
+        }
+        (Stage::Barrier(Barrier::Skip(number)), Stage::Barrier(Barrier::Skip(other))) => {
+            let sum = number.plus(other)?;
+            Some(Instead::One(Stage::Barrier(Barrier::Skip(sum))))
+        }
+        _ => None,
+    }
+}
+
+/// The two as the first rule that fits puts them.
+fn better<K: Kind>(first: &StageOf<K>, second: &StageOf<K>) -> Option<Instead<StageOf<K>>>
+    ensures { IfSome result (IsBetter K.means first.now second.now) }
+{
+    if let Some(new) = emptied::<K>(first, second) {
+        return Some(new);
+    }
+    if let Some(new) = window_first::<K>(first, second) {
+        return Some(new);
+    }
+    if let Some(new) = copies_last::<K>(first, second) {
+        return Some(new);
+    }
+    if let Some(new) = copies_dropped::<K>(first, second) {
+        return Some(new);
+    }
+    if let Some(new) = window_before_copies::<K>(first, second) {
+        return Some(new);
+    }
+    windows_merged::<K>(first, second)
+}
+
+/// The first neighbours that a rule betters, and what stands in their place.
+pub(crate) fn better_neighbours<K: Kind>(
+    stages: &[StageOf<K>],
+) -> Option<(usize, Instead<StageOf<K>>)>
+    ensures within { IfSome result (λ found. found.0 + 2 ≤ length stages.now) }
+    ensures betters { IfSome result (λ found. Betters K.means (instead_list found.1) (take 2 (drop found.0 stages.now))) }
+{
+    for at in 1..stages.len() {
+        if let Some(new) = better::<K>(&stages[at - 1], &stages[at]) {
+            return Some((at - 1, new));
+        }
+    }
+    None
+}
+
+/// Puts something in the place of two neighbours.
+pub(crate) fn put<G: Copy>(stages: &mut Vec<G>, at: usize, new: Instead<G>)
+    requires { at + 2 ≤ length stages.old.items }
+    ensures { stages.new.items ≡ take at stages.old.items ++ (instead_list new ++ drop (at + 2) stages.old.items) }
+{
+    match new {
+        Instead::Both(first, second) => {
+            stages[at] = first;
+            stages[at + 1] = second;
+        }
+        Instead::One(stage) => {
+            stages[at] = stage;
+            stages.remove(at + 1);
+        }
+    }
+}

@@ -1,0 +1,109 @@
+//! A pipeline's plan, and the loop that makes it simpler.
+
+ghost use Rattle.std.specs.Prelude.{◌≡◌, ◌<◌, IfSome, IsTrue, List, drop, length, remove, true};
+ghost use Rattle.pipeline_plan.specs.Better.{work};
+ghost use Rattle.pipeline_plan.specs.Meanings.{stage_list, stages_list};
+ghost use Rattle.pipeline_plan.specs.Outlooks.{IsOutlook};
+
+use crate::neighbours::{better_neighbours, is_distinct, makes_none, put};
+use crate::{Kind, Outlook, StageOf};
+use pipeline_language::{Barrier, ItemCount, Stage};
+
+/// Where the items of a plan come from.
+pub trait PlanSource<K: Kind>: Copy {
+    ghost items: { Self → List K.Item.Content };
+
+    /// The source of what a stage leaves of the items, where that is a source of this type.
+    fn absorbed(&self, stage: &StageOf<K>) -> Option<Self>
+        ensures { IfSome result (λ source. items source ≡ stage_list K.means stage.now (items self.now)) };
+
+    /// What is known of the items.
+    fn outlook(&self) -> Outlook
+        ensures { IsOutlook K.Item.order result (items self.now) };
+}
+
+/// Where items come from, and the stages behind.
+#[derive(Drop)]
+pub struct Plan<S, K: Kind> {
+    pub source: S,
+    pub stages: Vec<StageOf<K>>,
+}
+
+/// What is known of the items behind stages.
+fn outlook_behind<K: Kind, S: PlanSource<K>>(source: &S, stages: &[StageOf<K>]) -> Outlook
+    ensures { IsOutlook K.Item.order result (stages_list K.means stages.now (S.items source.now)) }
+{
+    source.outlook().through::<K>(stages)
+}
+
+/// A `distinct` to which only items that differ come.
+fn unneeded_distinct<K: Kind, S: PlanSource<K>>(source: &S, stages: &[StageOf<K>]) -> Option<usize>
+    ensures within { IfSome result (λ at. at < length stages.now) }
+    ensures same { let made = stages_list K.means in
+        IfSome result (λ at. made (remove stages.now at) (S.items source.now) ≡ made stages.now (S.items source.now)) }
+{
+    for at in 0..stages.len() {
+        if is_distinct(&stages[at]) {
+            let (front, _) = stages.split_at(at);
+            if outlook_behind::<K, S>(source, front).flags.is_distinct() {
+                return Some(at);
+            }
+        }
+    }
+    None
+}
+
+/// The source that does what the first stage does, where there is one.
+fn absorbing<K: Kind, S: PlanSource<K>>(source: &S, stages: &[StageOf<K>]) -> Option<S>
+    ensures within { IfSome result (λ _. 0 < length stages.now) }
+    ensures same { let made = stages_list K.means in
+        IfSome result (λ new. made (remove stages.now 0) (S.items new) ≡ made stages.now (S.items source.now)) }
+{
+    if stages.is_empty() {
+        return None;
+    }
+    if makes_none::<K>(&stages[0]) {
+        let none = ItemCount { number: 0 };
+        return source.absorbed(&Stage::Barrier(Barrier::Limit(none)));
+    }
+    source.absorbed(&stages[0])
+}
+
+/// Applies the first rule that fits. Says whether one did.
+fn simpler<K: Kind, S: PlanSource<K>>(plan: &mut Plan<S, K>) -> bool
+    ensures same { stages_list K.means plan.new.stages.items (S.items plan.new.source)
+        ≡ stages_list K.means plan.old.stages.items (S.items plan.old.source) }
+    ensures less { result ≡ true → work plan.new.stages.items < work plan.old.stages.items }
+{
+    let stages = plan.stages.as_slice();
+    if let Some(at) = unneeded_distinct::<K, S>(&plan.source, stages) {
+        plan.stages.remove(at);
+        return true;
+    }
+    if let Some(source) = absorbing::<K, S>(&plan.source, stages) {
+        plan.source = source;
+        plan.stages.remove(0);
+        return true;
+    }
+    if let Some((at, new)) = better_neighbours::<K>(stages) {
+        put(&mut plan.stages, at, new);
+        return true;
+    }
+    false
+}
+
+/// Applies rules to a plan until none fits.
+pub fn optimised<K: Kind, S: PlanSource<K>>(plan: &mut Plan<S, K>)
+    ensures { stages_list K.means plan.new.stages.items (S.items plan.new.source)
+        ≡ stages_list K.means plan.old.stages.items (S.items plan.old.source) }
+{
+    while simpler(plan) {}
+}
+
+/// What is known of a plan's items.
+pub fn outlook_of<K: Kind, S: PlanSource<K>>(plan: &Plan<S, K>) -> Outlook
+    ensures { let made = stages_list K.means plan.now.stages.items (S.items plan.now.source) in
+        IsOutlook K.Item.order result made }
+{
+    outlook_behind::<K, S>(&plan.source, plan.stages.as_slice())
+}

@@ -1,7 +1,0 @@
-use Rattle.std.proofs.Common.{arith}
-use Rattle.std.proofs.lemmas.Grind.{common_steps}
-use Rattle.pipeline_value.proofs.known_size.text_size_after.Goals as goal
-
--- bounded: a wrong body would search to its limit
-pub returns-in-Barrier-Limit-clause-value : goal.returns-in-Barrier-Limit-clause-value
-returns-in-Barrier-Limit-clause-value c = grind (arith, common_steps) steps 40000
