@@ -71,9 +71,6 @@ fn nothing_kept<P: Drop, T: Value + Clone + Drop>(
     }))
 }
 
-// The most items that a list is made for where it isn't known how many come.
-const MOST_ROOM: u64 = 1 << 20;
-
 impl<U: Stream, A: Stage<In = U::Item, Out = U::Item>, B: Barrier<U::Item>> Chain<U, A, B> {
     // The states before any item.
     fn fresh_states(&self, alloc: Global) -> Result<Vec<B::State>, NoMemory>
@@ -135,19 +132,6 @@ impl<U: Stream, A: Stage<In = U::Item, Out = U::Item>, B: Barrier<U::Item>> Chai
         ensures { result ≡ is_own_turn (U.done self.now.upstream progress.now.before) progress.now.listed }
     {
         progress.listed.is_some() || self.upstream.is_gathered(&progress.before)
-    }
-
-    // How many items a leaf's list is made for: those of all leaves for the first one, behind which the others are put.
-    fn room(&self, progress: &ChainProgress<U::Progress, B::State, U::Item>, leaf: usize) -> u64 {
-        if progress.listed.is_some() {
-            return 0;
-        }
-        let leaves = self.upstream.leaves(&progress.before).max(1) as u64;
-        match self.upstream.segment_size(&progress.before) {
-            Some(number) if leaf == 0 => number.min(MOST_ROOM),
-            Some(number) => (number / leaves).min(MOST_ROOM),
-            None => 0,
-        }
     }
 
     // Runs a leaf of the next run, through a stage into a collector: over the stream before, or over the last link's list.
@@ -453,7 +437,7 @@ impl<U: Stream, A: Stage<In = U::Item, Out = U::Item>, B: Barrier<U::Item>> Stre
         let reading = Reading {
             stage: &link.stage,
             demand: &demand,
-            collector: &ToList::with_room(alloc, self.room(progress, leaf)),
+            collector: &ToList::new(alloc),
         };
         let end = self.read_own_leaf(alloc, progress, &reading, board, seat, leaf);
         end_own(&link.barrier, state, end)

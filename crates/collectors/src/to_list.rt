@@ -13,7 +13,6 @@ use std::marker::PhantomData;
 #[derive(Drop)]
 pub struct ToList<T: Value + Clone> {
     alloc: Global,
-    room: u64,
     items: PhantomData<T>,
     ghost clones_alike: { TestsClonesAlike T.same T.is_clone T.content },
 }
@@ -24,18 +23,6 @@ impl<T: Value + Clone> ToList<T> {
     {
         ToList {
             alloc,
-            room: 0,
-            items: PhantomData,
-        }
-    }
-
-    /// The same, whose containers are made for so many items or more.
-    pub fn with_room(alloc: Global, room: u64) -> ToList<T>
-        requires { ClonesAlike T.is_clone T.content }
-    {
-        ToList {
-            alloc,
-            room,
             items: PhantomData,
         }
     }
@@ -67,7 +54,7 @@ impl<T: Value + Clone> Collector for ToList<T> {
     }
 
     fn supply_for(&self, number: u64) -> Result<Pieces<T>, NoMemory> {
-        Ok(Pieces::with_room(self.alloc, number.max(self.room) as usize))
+        Ok(Pieces::with_room(self.alloc, number as usize))
     }
 
     fn accumulate(&self, acc: &mut Pieces<T>, x: &T) -> Result<(), NoMemory> {

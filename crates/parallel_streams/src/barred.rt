@@ -27,22 +27,6 @@ pub struct Barred<U, B> {
     pub barrier: B,
 }
 
-// The most items that a list is made for where it isn't known how many come.
-const MOST_ROOM: u64 = 1 << 20;
-
-impl<U: Stream, B: Barrier<U::Item>> Barred<U, B> {
-    // How many items a leaf's list is made for, where any number may come: those of all leaves for the first one, behind which the others are put.
-    fn room(&self, progress: &U::Progress, leaf: usize) -> u64 {
-        let size = self.upstream.segment_size(progress);
-        let leaves = self.upstream.leaves(progress).max(1) as u64;
-        match (size, self.barrier.size_after(size)) {
-            (Some(number), None) if leaf == 0 => number.min(MOST_ROOM),
-            (Some(number), None) => (number / leaves).min(MOST_ROOM),
-            _ => 0,
-        }
-    }
-}
-
 impl<U: Stream, B: Barrier<U::Item>> Stream for Barred<U, B> {
     ghost use Rattle.std.specs.Prelude.{◌⊎◌, true};
     ghost use Rattle.barriers.specs.Needs.{IsEnough};
@@ -275,7 +259,7 @@ impl<U: Stream, B: Barrier<U::Item>> Stream for Barred<U, B> {
             let reading = Reading {
                 stage: &Nothing::in_blocks(),
                 demand: &demand,
-                collector: &ToList::with_room(alloc, self.room(&progress.before, leaf)),
+                collector: &ToList::new(alloc),
             };
             let end = self
                 .upstream
