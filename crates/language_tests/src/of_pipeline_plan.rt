@@ -8,11 +8,21 @@ use sources::RangeSplit;
 use std::process::Abort;
 use std::test::Fail;
 
-const SEVENTHS: NumberStage = NumberStage::Filter(NumberTest::Divisible(7));
+fn sevenths() -> NumberStage {
+    NumberStage::Filter(NumberTest::Divisible(7))
+}
 
-const THIRDS: NumberStage = NumberStage::Map(NumberFunction::Mod(3));
+fn thirds() -> NumberStage {
+    NumberStage::Map(NumberFunction::Mod(3))
+}
 
-const DISTINCT: NumberStage = NumberStage::Barrier(Barrier::Distinct);
+fn distinct() -> NumberStage {
+    NumberStage::Barrier(Barrier::Distinct)
+}
+
+fn repeat(copies: u64) -> NumberStage {
+    NumberStage::FlatMap(copies)
+}
 
 fn limit(number: u64) -> NumberStage
     requires { number < 2 ^ 63 }
@@ -44,30 +54,30 @@ fn a_range_absorbs(rt: HostRuntime) -> Result<(), Fail> {
     let stages = vec![in rt.alloc(); negate, skip(1), limit(3)]?;
     assert!(rt; left(&rt, stages) == (0, Some(3), Some(-6)));
     let less = NumberStage::Filter(NumberTest::Less(4));
-    let stages = vec![in rt.alloc(); less, THIRDS, skip(1)]?;
+    let stages = vec![in rt.alloc(); less, thirds(), skip(1)]?;
     assert!(rt; left(&rt, stages) == (1, Some(3), None));
     Ok(())
 }
 
 #[test]
 fn nothing_is_read_before_no_copies(rt: HostRuntime) -> Result<(), Fail> {
-    let stages = vec![in rt.alloc(); SEVENTHS, DISTINCT, NumberStage::FlatMap(0), THIRDS]?;
+    let stages = vec![in rt.alloc(); sevenths(), distinct(), repeat(0), thirds()]?;
     assert!(rt; left(&rt, stages) == (1, Some(0), None));
     Ok(())
 }
 
 #[test]
 fn a_distinct_of_numbers_that_differ_is_dropped(rt: HostRuntime) -> Result<(), Fail> {
-    let stages = vec![in rt.alloc(); SEVENTHS, DISTINCT, limit(3), DISTINCT]?;
+    let stages = vec![in rt.alloc(); sevenths(), distinct(), limit(3), distinct()]?;
     assert!(rt; left(&rt, stages) == (2, None, None));
-    let stages = vec![in rt.alloc(); THIRDS, DISTINCT]?;
+    let stages = vec![in rt.alloc(); thirds(), distinct()]?;
     assert_eq!(rt; left(&rt, stages).0, 2);
     Ok(())
 }
 
 #[test]
 fn copies_sink_behind_what_looks_at_items(rt: HostRuntime) -> Result<(), Fail> {
-    let stages = vec![in rt.alloc(); NumberStage::FlatMap(4), SEVENTHS, limit(12), skip(4)]?;
+    let stages = vec![in rt.alloc(); repeat(4), sevenths(), limit(12), skip(4)]?;
     let Ok(range) = RangeSplit::range(0, 100) else {
         panic!(rt; "too long")
     };
@@ -82,14 +92,14 @@ fn copies_sink_behind_what_looks_at_items(rt: HostRuntime) -> Result<(), Fail> {
 
 #[test]
 fn copies_before_a_distinct_are_dropped(rt: HostRuntime) -> Result<(), Fail> {
-    let stages = vec![in rt.alloc(); SEVENTHS, NumberStage::FlatMap(4), THIRDS, DISTINCT]?;
+    let stages = vec![in rt.alloc(); sevenths(), repeat(4), thirds(), distinct()]?;
     assert_eq!(rt; left(&rt, stages).0, 3);
     Ok(())
 }
 
 #[test]
 fn windows_of_some_copies_stay(rt: HostRuntime) -> Result<(), Fail> {
-    let stages = vec![in rt.alloc(); NumberStage::FlatMap(4), limit(10), limit(9), skip(3)]?;
+    let stages = vec![in rt.alloc(); repeat(4), limit(10), limit(9), skip(3)]?;
     assert_eq!(rt; left(&rt, stages).0, 3);
     Ok(())
 }

@@ -1,9 +1,7 @@
 -- What is told of a source's numbers.
-use Rattle.std.proofs.Common.{◌≡◌, ℕ, ℤ, List, drop, ap, subst, ◌∙◌}
+use Rattle.std.proofs.Common.{◌≡◌, ℕ, ℤ, List, subst}
 use Rattle.std.specs.Prelude.{Result}
 use Rattle.pipeline_language.specs.declared.pipeline.NumberBody.{NumberBody}
-use Rattle.pipeline_language.specs.Typed.{NumberStage}
-use Rattle.pipeline_meaning.specs.Stages.{number_stages}
 use Rattle.pipeline_value.specs.declared.told.ValueError.{ValueError}
 use Rattle.pipeline_value.specs.Typed.{number_body_told}
 use Rattle.pipeline_value.specs.Value.{Tells}

@@ -14,7 +14,9 @@ ghost use Rattle.pipeline_value.specs.Value.{Tells};
 use crate::engine::Engine;
 use crate::told::{ValueError, told};
 use pipeline_language::{NumberTerminal, NumberTotal, TextEnd, TextTerminal};
-use pipeline_plan::{NumberRange, Numbers, Outlook, Plan, PlanSource, Texts, known_sum, outlook_of};
+use pipeline_plan::{
+    NumberRange, Numbers, Outlook, Plan, PlanSource, Texts, known_sum, outlook_of,
+};
 use value_text::Rope;
 
 /// A number of items, as an `i64` that wraps.

@@ -25,7 +25,7 @@ mod told;
 mod totals;
 mod value;
 
-pub use sizes::source_size;
 pub use laws::one_value;
+pub use sizes::source_size;
 pub use told::ValueError;
 pub use value::pipeline_value;

@@ -82,7 +82,12 @@ fn list_value<R: Threads + Sync, H: Gate + Sync>(
     if let Some(told) = known_number_count(engine, &plan, &terminal) {
         return told;
     }
-    number_value(engine, of(plan.source.source), plan.stages.as_slice(), &terminal)
+    number_value(
+        engine,
+        of(plan.source.source),
+        plan.stages.as_slice(),
+        &terminal,
+    )
 }
 
 /// The text of the value of a body, over a range.
@@ -103,5 +108,10 @@ fn range_value<R: Threads + Sync, H: Gate + Sync>(
     if let Some(told) = known_number_sum(engine, &plan, &terminal) {
         return told;
     }
-    number_value(engine, of(plan.source.steps()), plan.stages.as_slice(), &terminal)
+    number_value(
+        engine,
+        of(plan.source.steps()),
+        plan.stages.as_slice(),
+        &terminal,
+    )
 }

@@ -80,101 +80,106 @@ const LARGE: NumberStage = NumberStage::Filter(NumberTest::Greater(3));
 
 const TWICE: NumberStage = NumberStage::FlatMap(2);
 
-/// Each step follows the one before.
-static IN_ORDER: [NumberRow<'_>; 6] = [
-    (&[], &[4, LEAST], &[4, LEAST], 0),
-    (&[THRICE], &[1, -2], &[3, -6], 1),
-    (&[THRICE, EVEN], &[1, 2, 3, 4], &[6, 12], 2),
-    (&[EVEN, THRICE], &[1, 2, 3, 4], &[6, 12], 2),
-    (&[THRICE, MORE, EVEN], &[1, 2, 3], &[4, 10], 3),
-    (&[THRICE, MORE, EVEN, SMALL], &[1, 2, 3], &[4], 4),
-];
-
-/// Functions wrap at the outermost numbers.
-static WRAPPED: [NumberRow<'_>; 5] = [
-    (&[SAME, SAME], &[-7, LEAST], &[-7, LEAST], 2),
-    (&[THRICE], &[MOST, LEAST, -1], &[MOST - 2, LEAST, -3], 1),
-    (&[MORE, THRICE], &[MOST, 0], &[LEAST, 3], 2),
-    (&[NEGATED], &[LEAST, MOST, 0], &[LEAST, -MOST, 0], 1),
-    (&[FAR, FAR, THRICE], &[1], &[-3], 3),
-];
-
-/// Bounds drop numbers.
-static BOUNDED: [NumberRow<'_>; 8] = [
-    (&[LARGE], &[3, 4, LEAST, MOST], &[4, MOST], 1),
-    (&[SMALL], &[9, 10, LEAST, MOST], &[9, LEAST], 1),
-    (&[SMALL, LARGE], &[3, 4, 9, 10], &[4, 9], 2),
-    (
-        &[THRICE, SMALL, MORE, LARGE],
-        &[0, 1, 2, 3, 4],
-        &[4, 7, 10],
-        4,
-    ),
-    (&[LARGE, NEGATED, SMALL], &[3, 4], &[-4], 3),
-    (
-        &[NumberStage::Filter(NumberTest::Less(LEAST))],
-        &[LEAST, 0],
-        &[],
-        1,
-    ),
-    (
-        &[NumberStage::Filter(NumberTest::Greater(MOST))],
-        &[MOST, 0],
-        &[],
-        1,
-    ),
-    (
-        &[NumberStage::Filter(NumberTest::Equals(LEAST))],
-        &[LEAST, 0],
-        &[LEAST],
-        1,
-    ),
-];
-
-/// Remainders are not negative.
-static REMAINDERS: [NumberRow<'_>; 5] = [
-    (&[REST], &[-1, -3, LEAST, 7], &[2, 0, 1, 1], 1),
-    (&[NEGATED, REST], &[-1, 1], &[1, 2], 2),
-    (&[REST, REST], &[-4, 5], &[2, 2], 2),
-    (&[SEVENS], &[-14, 13, 0, LEAST], &[-14, 0], 1),
-    (&[EVEN], &[LEAST, MOST], &[LEAST], 1),
-];
-
-/// A number is repeated.
-static REPEATED: [NumberRow<'_>; 5] = [
-    (&[TWICE], &[7, 8], &[7, 7, 8, 8], 1),
-    (&[NumberStage::FlatMap(0), NEGATED], &[7, 8], &[], 2),
-    (&[NumberStage::FlatMap(1)], &[7, 8], &[7, 8], 1),
-    (&[TWICE, NEGATED, TWICE], &[7], &[-7, -7, -7, -7], 3),
-    (
-        &[NEGATED, TWICE, NumberStage::Filter(NumberTest::Less(-7))],
-        &[7, 8],
-        &[-8, -8],
-        3,
-    ),
-];
-
 #[test]
-fn numbers_walk_through_their_steps(rt: HostRuntime) -> Result<(), Fail> {
-    let tables: [&[NumberRow<'_>]; 5] = [&IN_ORDER, &WRAPPED, &BOUNDED, &REMAINDERS, &REPEATED];
-    for rows in tables {
-        check(&rt, rows)?;
-    }
-    Ok(())
+fn steps_follow_one_another(rt: HostRuntime) -> Result<(), Fail> {
+    let rows: [NumberRow<'_>; 6] = [
+        (&[], &[4, LEAST], &[4, LEAST], 0),
+        (&[THRICE], &[1, -2], &[3, -6], 1),
+        (&[THRICE, EVEN], &[1, 2, 3, 4], &[6, 12], 2),
+        (&[EVEN, THRICE], &[1, 2, 3, 4], &[6, 12], 2),
+        (&[THRICE, MORE, EVEN], &[1, 2, 3], &[4, 10], 3),
+        (&[THRICE, MORE, EVEN, SMALL], &[1, 2, 3], &[4], 4),
+    ];
+    check(&rt, &rows)
 }
 
-/// More copies than a sink is given at once.
-static OFTEN: [(&[NumberStage], usize); 5] = [
-    (&[NumberStage::FlatMap(1_024)], 1_024),
-    (&[NumberStage::FlatMap(1_025)], 1_025),
-    (&[NumberStage::FlatMap(3_000)], 3_000),
-    (&[TWICE, NumberStage::FlatMap(700)], 1_400),
-    (&[NumberStage::FlatMap(1_100), TWICE], 2_200),
-];
+#[test]
+fn functions_wrap(rt: HostRuntime) -> Result<(), Fail> {
+    let rows: [NumberRow<'_>; 5] = [
+        (&[SAME, SAME], &[-7, LEAST], &[-7, LEAST], 2),
+        (&[THRICE], &[MOST, LEAST, -1], &[MOST - 2, LEAST, -3], 1),
+        (&[MORE, THRICE], &[MOST, 0], &[LEAST, 3], 2),
+        (&[NEGATED], &[LEAST, MOST, 0], &[LEAST, -MOST, 0], 1),
+        (&[FAR, FAR, THRICE], &[1], &[-3], 3),
+    ];
+    check(&rt, &rows)
+}
+
+#[test]
+fn bounds_drop_numbers(rt: HostRuntime) -> Result<(), Fail> {
+    let rows: [NumberRow<'_>; 8] = [
+        (&[LARGE], &[3, 4, LEAST, MOST], &[4, MOST], 1),
+        (&[SMALL], &[9, 10, LEAST, MOST], &[9, LEAST], 1),
+        (&[SMALL, LARGE], &[3, 4, 9, 10], &[4, 9], 2),
+        (
+            &[THRICE, SMALL, MORE, LARGE],
+            &[0, 1, 2, 3, 4],
+            &[4, 7, 10],
+            4,
+        ),
+        (&[LARGE, NEGATED, SMALL], &[3, 4], &[-4], 3),
+        (
+            &[NumberStage::Filter(NumberTest::Less(LEAST))],
+            &[LEAST, 0],
+            &[],
+            1,
+        ),
+        (
+            &[NumberStage::Filter(NumberTest::Greater(MOST))],
+            &[MOST, 0],
+            &[],
+            1,
+        ),
+        (
+            &[NumberStage::Filter(NumberTest::Equals(LEAST))],
+            &[LEAST, 0],
+            &[LEAST],
+            1,
+        ),
+    ];
+    check(&rt, &rows)
+}
+
+#[test]
+fn remainders_are_not_negative(rt: HostRuntime) -> Result<(), Fail> {
+    let rows: [NumberRow<'_>; 5] = [
+        (&[REST], &[-1, -3, LEAST, 7], &[2, 0, 1, 1], 1),
+        (&[NEGATED, REST], &[-1, 1], &[1, 2], 2),
+        (&[REST, REST], &[-4, 5], &[2, 2], 2),
+        (&[SEVENS], &[-14, 13, 0, LEAST], &[-14, 0], 1),
+        (&[EVEN], &[LEAST, MOST], &[LEAST], 1),
+    ];
+    check(&rt, &rows)
+}
+
+#[test]
+fn a_number_is_repeated(rt: HostRuntime) -> Result<(), Fail> {
+    let rows: [NumberRow<'_>; 5] = [
+        (&[TWICE], &[7, 8], &[7, 7, 8, 8], 1),
+        (&[NumberStage::FlatMap(0), NEGATED], &[7, 8], &[], 2),
+        (&[NumberStage::FlatMap(1)], &[7, 8], &[7, 8], 1),
+        (&[TWICE, NEGATED, TWICE], &[7], &[-7, -7, -7, -7], 3),
+        (
+            &[NEGATED, TWICE, NumberStage::Filter(NumberTest::Less(-7))],
+            &[7, 8],
+            &[-8, -8],
+            3,
+        ),
+    ];
+    check(&rt, &rows)
+}
 
 #[test]
 fn a_number_is_repeated_often(rt: HostRuntime) -> Result<(), Fail> {
-    for &(stages, number) in &OFTEN {
+    // more copies than a sink is given at once
+    let rows: [(&[NumberStage], usize); 5] = [
+        (&[NumberStage::FlatMap(1_024)], 1_024),
+        (&[NumberStage::FlatMap(1_025)], 1_025),
+        (&[NumberStage::FlatMap(3_000)], 3_000),
+        (&[TWICE, NumberStage::FlatMap(700)], 1_400),
+        (&[NumberStage::FlatMap(1_100), TWICE], 2_200),
+    ];
+    for &(stages, number) in &rows {
         let (steps, _) = front_of(rt.alloc(), stages)?;
         let found = made_at_once(rt.alloc(), &steps, &[7, 8])?;
         assert!(rt;
@@ -185,7 +190,7 @@ fn a_number_is_repeated_often(rt: HostRuntime) -> Result<(), Fail> {
     Ok(())
 }
 
-static BARRIERS: [NumberStage; 5] = [
+const BARRIERS: [NumberStage; 5] = [
     NumberStage::Barrier(Barrier::Distinct),
     NumberStage::Barrier(Barrier::Limit(ItemCount { number: 1 })),
     NumberStage::Barrier(Barrier::Skip(ItemCount { number: 1 })),
@@ -209,23 +214,8 @@ const KEPT: (Operation, Option<u64>) = (Operation::Map, Some(5));
 
 const LOST: (Operation, Option<u64>) = (Operation::FlatMap, None);
 
-/// Maps alone keep the number of items, and stand in the flags' table as a map.
-static NUMBER_SIZES: [(&[NumberStage], (Operation, Option<u64>)); 5] = [
-    (&[], KEPT),
-    (&[MORE, MORE], KEPT),
-    (
-        &[
-            MORE,
-            NumberStage::Barrier(Barrier::Limit(ItemCount { number: 3 })),
-        ],
-        KEPT,
-    ),
-    (&[MORE, NumberStage::Filter(NumberTest::Divisible(1))], LOST),
-    (&[NumberStage::FlatMap(1)], LOST),
-];
-
 /// The texts themselves keep the size.
-static TEXT_SIZES: [(TextStage<'_>, (Operation, Option<u64>)); 2] = [
+const TEXT_SIZES: [(TextStage<'_>, (Operation, Option<u64>)); 2] = [
     (TextStage::Map(()), KEPT),
     (TextStage::FlatMap(Expansion::Words), LOST),
 ];
@@ -246,7 +236,21 @@ fn text_front_of<'a>(
 
 #[test]
 fn maps_alone_keep_the_size(rt: HostRuntime) -> Result<(), Fail> {
-    for &(stages, wanted) in &NUMBER_SIZES {
+    // they stand in the flags' table as a map
+    let rows: [(&[NumberStage], (Operation, Option<u64>)); 5] = [
+        (&[], KEPT),
+        (&[MORE, MORE], KEPT),
+        (
+            &[
+                MORE,
+                NumberStage::Barrier(Barrier::Limit(ItemCount { number: 3 })),
+            ],
+            KEPT,
+        ),
+        (&[MORE, NumberStage::Filter(NumberTest::Divisible(1))], LOST),
+        (&[NumberStage::FlatMap(1)], LOST),
+    ];
+    for &(stages, wanted) in &rows {
         let (steps, _) = front_of(rt.alloc(), stages)?;
         assert!(rt; (steps.operation(), steps.size_after(Some(5))) == wanted);
     }
@@ -272,36 +276,33 @@ fn no_stage_lends_a_list(rt: HostRuntime) -> Result<(), Fail> {
     Ok(())
 }
 
-/// Stages, and about how many come of one item.
-static GROWTHS: [(&[NumberStage], u64); 4] = [
-    (&[], 1),
-    (&[MORE, TWICE, TWICE], 4),
-    (&[NumberStage::FlatMap(0)], 1),
-    (
-        &[NumberStage::FlatMap(u64::MAX), NumberStage::FlatMap(2)],
-        u64::MAX,
-    ),
-];
-
-static TEXT_GROWTHS: [(&[TextStage<'_>], u64); 3] = [
-    (&[TextStage::Map(())], 1),
-    (&[TextStage::FlatMap(Expansion::Words)], 16),
-    (
-        &[
-            TextStage::FlatMap(Expansion::Repeat(3)),
-            TextStage::FlatMap(Expansion::Words),
-        ],
-        48,
-    ),
-];
-
 #[test]
 fn repeats_and_words_make_several_of_one(rt: HostRuntime) -> Result<(), Fail> {
-    for &(stages, wanted) in &GROWTHS {
+    let rows: [(&[NumberStage], u64); 4] = [
+        (&[], 1),
+        (&[MORE, TWICE, TWICE], 4),
+        (&[NumberStage::FlatMap(0)], 1),
+        (
+            &[NumberStage::FlatMap(u64::MAX), NumberStage::FlatMap(2)],
+            u64::MAX,
+        ),
+    ];
+    for &(stages, wanted) in &rows {
         let (steps, _) = front_of(rt.alloc(), stages)?;
         assert!(rt; steps.growth() == wanted);
     }
-    for &(stages, wanted) in &TEXT_GROWTHS {
+    let text_rows: [(&[TextStage<'_>], u64); 3] = [
+        (&[TextStage::Map(())], 1),
+        (&[TextStage::FlatMap(Expansion::Words)], 16),
+        (
+            &[
+                TextStage::FlatMap(Expansion::Repeat(3)),
+                TextStage::FlatMap(Expansion::Words),
+            ],
+            48,
+        ),
+    ];
+    for &(stages, wanted) in &text_rows {
         let (steps, _) = text_front_of(rt.alloc(), stages)?;
         assert!(rt; steps.growth() == wanted);
     }
@@ -333,7 +334,7 @@ fn check_texts(rt: &(impl Abort + Alloc<A = Global>), rows: &[TextRow<'_>]) -> R
     Ok(())
 }
 
-static TEXT_BARRIERS: [TextStage<'_>; 5] = [
+const TEXT_BARRIERS: [TextStage<'_>; 5] = [
     TextStage::Barrier(Barrier::Distinct),
     TextStage::Barrier(Barrier::Limit(ItemCount { number: 1 })),
     TextStage::Barrier(Barrier::Skip(ItemCount { number: 1 })),
@@ -356,77 +357,36 @@ fn a_front_of_texts_ends_at_a_barrier(rt: HostRuntime) -> Result<(), Fail> {
 
 const LONG: TextStage<'_> = TextStage::Filter(TextTest::Longer(1));
 
-/// A text is cut at its spaces.
-static CUT: [TextRow<'_>; 5] = [
-    (&[TextStage::FlatMap(Expansion::Words)], &[""], &[""], 1),
-    (
-        &[TextStage::FlatMap(Expansion::Words)],
-        &[" "],
-        &["", ""],
-        1,
-    ),
-    (
-        &[TextStage::FlatMap(Expansion::Words)],
-        &["a b"],
-        &["a", "b"],
-        1,
-    ),
-    (
-        &[TextStage::FlatMap(Expansion::Words)],
-        &["a  b"],
-        &["a", "", "b"],
-        1,
-    ),
-    (
-        &[TextStage::FlatMap(Expansion::Words)],
-        &[" é\t", "c "],
-        &["", "é\t", "c", ""],
-        1,
-    ),
-];
+const PIECES: TextStage<'_> = TextStage::FlatMap(Expansion::Words);
 
-/// A text walks through its steps.
-static WALKED: [TextRow<'_>; 6] = [
-    (&[], &["a", ""], &["a", ""], 0),
-    (
-        &[TextStage::Map(()), LONG],
-        &["a", "é", "bc"],
-        &["é", "bc"],
-        2,
-    ),
-    (
-        &[
-            TextStage::FlatMap(Expansion::Words),
-            TextStage::FlatMap(Expansion::Repeat(2)),
-        ],
-        &["a b"],
-        &["a", "a", "b", "b"],
-        2,
-    ),
-    (
-        &[
-            TextStage::FlatMap(Expansion::Repeat(2)),
-            TextStage::FlatMap(Expansion::Words),
-        ],
-        &["a b"],
-        &["a", "b", "a", "b"],
-        2,
-    ),
-    (
-        &[
-            TextStage::FlatMap(Expansion::Words),
-            LONG,
-            TextStage::FlatMap(Expansion::Words),
-        ],
-        &["a bc d", "ef"],
-        &["bc", "ef"],
-        3,
-    ),
-    (&[TextStage::FlatMap(Expansion::Repeat(0))], &["a"], &[], 1),
-];
+const DOUBLED: TextStage<'_> = TextStage::FlatMap(Expansion::Repeat(2));
 
 #[test]
-fn texts_walk_through_their_steps(rt: HostRuntime) -> Result<(), Fail> {
-    check_texts(&rt, &CUT)?;
-    check_texts(&rt, &WALKED)
+fn a_text_is_cut_at_its_spaces(rt: HostRuntime) -> Result<(), Fail> {
+    let rows: [TextRow<'_>; 5] = [
+        (&[PIECES], &[""], &[""], 1),
+        (&[PIECES], &[" "], &["", ""], 1),
+        (&[PIECES], &["a b"], &["a", "b"], 1),
+        (&[PIECES], &["a  b"], &["a", "", "b"], 1),
+        (&[PIECES], &[" é\t", "c "], &["", "é\t", "c", ""], 1),
+    ];
+    check_texts(&rt, &rows)
+}
+
+#[test]
+fn a_text_walks_through_its_steps(rt: HostRuntime) -> Result<(), Fail> {
+    let rows: [TextRow<'_>; 6] = [
+        (&[], &["a", ""], &["a", ""], 0),
+        (
+            &[TextStage::Map(()), LONG],
+            &["a", "é", "bc"],
+            &["é", "bc"],
+            2,
+        ),
+        (&[PIECES, DOUBLED], &["a b"], &["a", "a", "b", "b"], 2),
+        (&[DOUBLED, PIECES], &["a b"], &["a", "b", "a", "b"], 2),
+        (&[PIECES, LONG, PIECES], &["a bc d", "ef"], &["bc", "ef"], 3),
+        (&[TextStage::FlatMap(Expansion::Repeat(0))], &["a"], &[], 1),
+    ];
+    check_texts(&rt, &rows)
 }

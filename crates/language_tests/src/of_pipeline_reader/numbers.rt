@@ -31,7 +31,7 @@ fn is_of_numbers(
 }
 
 /// The stages of a file with each function, each test and each barrier.
-static STAGES: [NumberStage; 15] = [
+const STAGES: [NumberStage; 15] = [
     NumberStage::Map(NumberFunction::Add(-3)),
     NumberStage::Map(NumberFunction::Mul(2)),
     NumberStage::Map(NumberFunction::Negate),

@@ -39,7 +39,7 @@ fn is_of_texts<'a>(
 }
 
 /// The stages of a file with each stage over texts.
-static STAGES: [TextStage<'static>; 11] = [
+const STAGES: [TextStage<'static>; 11] = [
     TextStage::Map(()),
     TextStage::Filter(TextTest::Starts("")),
     TextStage::Filter(TextTest::Empty),
