@@ -156,7 +156,7 @@ fn barriers_tell_their_rows_and_sizes(rt: HostRuntime) {
         (row_of(&Limit::new(0)), (Operation::Limit, Some(0), None)),
         (row_of(&Skip::new(3)), (Operation::Skip, Some(2), None)),
         (row_of(&Skip::new(9)), (Operation::Skip, Some(0), None)),
-        (row_of(&Distinct), (Operation::Distinct, None, None)),
+        (row_of(&Distinct::new()), (Operation::Distinct, None, None)),
         (
             row_of(&TakeWhile::new(Below(3))),
             (Operation::TakeWhile, None, None),
