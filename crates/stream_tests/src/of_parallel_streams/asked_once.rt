@@ -1,13 +1,11 @@
 //! How often a caller's functions are asked.
 ghost use Rattle.std.specs.Prelude.{int_lt};
-ghost use Rattle.parallel_streams.specs.Reading.{SplitsFinely};
 
 use super::answers::{check, check_list, counted, listed, numbers, same};
 use super::functions::Copies;
 use super::{SETTINGS, at};
-use parallel_streams::{Run, Stream, StreamError, of};
-use sources::RangeSplit;
-use spliterator::{NoMemory, Spliterator};
+use parallel_streams::{Run, Stream, StreamError};
+use spliterator::NoMemory;
 use stages::{Mapping, Test};
 use std::alloc::Global;
 use std::fmt::Debug;
@@ -126,28 +124,6 @@ fn functions_are_asked_once_an_item(rt: HostRuntime) -> Result<(), StreamError> 
         let [mapped, _, _] = times(&asked);
         let is_so = (5_000..=7_812).contains(&mapped);
         same(&rt, (front.len(), is_so), (5_000, true));
-    }
-    Ok(())
-}
-
-// A range is a source of which little is read.
-fn splits_finely(_range: &RangeSplit)
-    ensures { let finely = SplitsFinely ⟦<RangeSplit as Spliterator>⟧.estimate
-        ⟦<RangeSplit as Spliterator>⟧.told ⟦<RangeSplit as Spliterator>⟧.split_gives in
-        finely _range.now }
-{}
-
-// Of 2^62 numbers a limit reads at most three times as many as it lets through, and 4,096.
-#[test]
-fn little_is_read_of_a_range(rt: HostRuntime) -> Result<(), StreamError> {
-    let asked = AtomicU64::new(0);
-    for (workers, most) in [(1, 0), (2, 1), (7, 4_097), (2, 20_000)] {
-        let range = RangeSplit::range(0, 4_611_686_018_427_387_904).expect(&rt, "a range");
-        splits_finely(&range);
-        let all = of(range).map(Itself { asked: &asked });
-        let front = listed(&rt, &at((workers, 0)), &all.limit(most))?;
-        let is_little = asked.swap(0, Ordering::SeqCst) <= 3 * most + 4_096;
-        same(&rt, (front.len() as u64, is_little), (most, true));
     }
     Ok(())
 }
