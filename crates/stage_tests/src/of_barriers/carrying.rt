@@ -3,8 +3,8 @@ ghost use Rattle.std.specs.Prelude.{IfOk, map};
 ghost use Rattle.barriers.specs.Needs.{IsToldBy};
 
 use barriers::{
-    AnyBarrier, AnyState, Barrier, Behind, Demand, Distinct, DropWhile, Limit, Need,
-    Skip, TakeWhile,
+    AnyBarrier, AnyState, Barrier, Behind, Demand, Distinct, DropWhile, Limit, Need, Skip,
+    TakeWhile,
 };
 use parts::Below;
 use spliterator::{NoMemory, Value};
@@ -129,7 +129,12 @@ fn a_while_ends_in_one_part(rt: HostRuntime) -> Result<(), NoMemory> {
 #[test]
 fn an_item_of_an_earlier_part_stands_once(rt: HostRuntime) -> Result<(), NoMemory> {
     for &items in &LISTS {
-        check_cuts(&rt, &Distinct::new(), items, &first_ones(rt.alloc(), items)?)?;
+        check_cuts(
+            &rt,
+            &Distinct::new(),
+            items,
+            &first_ones(rt.alloc(), items)?,
+        )?;
     }
     Ok(())
 }

@@ -37,10 +37,7 @@ const END: u64 = 10_000;
 const BY: i64 = 600;
 
 /// What a pair leaves of some numbers, cut at a number or place.
-fn items_behind<
-    R: Threads + Alloc<A = Global> + Sync,
-    X: Stream<Item = i64> + Drop + Sync,
->(
+fn items_behind<R: Threads + Alloc<A = Global> + Sync, X: Stream<Item = i64> + Drop + Sync>(
     rt: &R,
     run: &Run<'_, Workers>,
     all: X,
@@ -60,7 +57,9 @@ where
         Pair::DistinctLimit => all.distinct().limit(place).to_list(rt, alloc, run),
         Pair::RemainderDistinct => {
             let remainders = all.map(Modulo::by(BY)).distinct();
-            remainders.limit(place.min(BY as u64)).to_list(rt, alloc, run)
+            remainders
+                .limit(place.min(BY as u64))
+                .to_list(rt, alloc, run)
         }
         Pair::TakeWhileLimit => {
             let front = all.take_while(Below(END as i64));
