@@ -91,12 +91,18 @@ def before_half(at):
     """Of the longest one that begins in the first half of the items."""
     starts = itertools.accumulate((number for number, _ in at.segments), initial=0)
     longest = max(segment for segment, start in zip(at.segments, starts) if 2 * start < at.items)
-    return listed(longest) * (5 if at.items > 1_000_000 else 4) // 4
+    return listed(longest) * (5 if at.items > 1_000_000 else 4.2) // 4
 
 
 def of_first(at):
     """Of the first one: what skips or drops nothing lets the others pass."""
     return listed(at.segments[0])
+
+
+def of_leaves(at):
+    """Of the longest one's leaves that run at a time: their lists, in pieces and as a whole, and what is left of them."""
+    number, own = max(at.segments)
+    return (20 if own == 1 else 13) * number // 4
 
 
 def counted(values):
@@ -113,13 +119,14 @@ PIPELINES = [
     Row("filter equals 5\nfindfirst", lambda n: "Optional[5]", 9),
     *[Row(f"map mod 7\n{test}", lambda n: "true", 9) for test in ("allmatch less 7", "nonematch less 0")],
     Row("map mod 7\nanymatch less 0", lambda n: "false", 9),
-    Row("flatmap repeat 2\nmap mod 10\nsum", lambda n: 9 * n, 9),
-    Row("filter divisible 2\nlimit HALF\nmax", lambda n: f"Optional[{n - 2}]", 28, 0, of_segment, 2, 1, segmented=True),
+    # (a block's copies have a room of their own)
+    Row("flatmap repeat 2\nmap mod 10\nsum", lambda n: 9 * n, lambda at: 10 * len(at.sizes) + at.items // 1024, 2_100),
+    Row("filter divisible 2\nlimit HALF\nmax", lambda n: f"Optional[{n - 2}]", 28, 0, lambda at: of_segment(at) * 5 // 8, 2, 1, segmented=True),
     Row("filter divisible 2\nskip 9\nmin", lambda n: "Optional[18]", 28, 0, of_first, segmented=True),
     Row("takewhile less HALF\nmap mod 10\nsum", lambda n: 9 * n // 4, 28, 2_500, before_half, 1.2, segmented=True),
     Row("dropwhile less HALF\nmap mod 10\nsum", lambda n: 9 * n // 4, 28, 0, of_segment, 1.2, segmented=True),
-    # (a set makes room for half of what comes; a segment that passes, or of which little is left, has one run with several workers)
-    Row("map mod 1000\ndistinct\nsum", lambda n: 499_500, 28, 0, lambda at: of_segment(at) * (12 if at.items > 1_000_000 else 8.5) / 5, 1.2, segmented=True),
+    # (what came is dropped leaf by leaf; a segment that passes, or of which little is left, has one run with several workers)
+    Row("map mod 1000\ndistinct\nsum", lambda n: 499_500, 28, 0, of_leaves, 1.2, segmented=True),
     Row("groupby mod 10 counting", lambda n: counted([n // 10] * 10), 18, 700),
     Row("groupby mod 10 sum", lambda n: counted(n // 10 * (n // 2 - 5 + k) for k in range(10)), 18, 1_900),
     Row("groupby mod 10 mapping mod 7 max", lambda n: counted(["Optional[6]"] * 10), 18, 2_400),
@@ -171,7 +178,7 @@ def judged(found, at, row, base):
     items, nodes = row.items(at) if row.items else 0, (1 << (at.workers.bit_length() - 1)) - 1
     started = sum(row.runs * own + row.joins * 2 * nodes + row.sorting for _, own in at.segments if own > 1)
     most = int(of_run + of_worker * at.workers + 1.1 * (row.leaf * len(at.sizes) + items))
-    most_requests = int(1.1 * (requests + row.requests * len(at.sizes)))
+    most_requests = int(1.1 * (requests + (row.requests(at) if callable(row.requests) else row.requests * len(at.sizes))))
     is_small = 0.9 * items <= found.peak <= most and found.requests <= most_requests and abs(found.live) <= OF_THREAD * found.threads
     # (a place may be sought in more runs, and a sort has as many threads as there are processors)
     is_started = found.threads == started or found.threads > started > 0 and (row.runs > 1 or row.sorting > 0)
