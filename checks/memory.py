@@ -162,12 +162,11 @@ TERMINALS = [
     Row("to_sorted_list", None, 50, 0, an_item(16), joins=1),
     Row("sorted_by_key", None, 8, 0, an_item(32), joins=1, sorting=SORTING),
     Row("limit", None, 16, 0, of_segment, 2, 1, segmented=True),
-    # (what a skip drops goes first, and what a drop while tests comes once more)
-    Row("skip", None, 16, 0, lambda at: of_first(at) * 9 // 10, segmented=True),
-    Row("drop_while", None, 16, 0, lambda at: of_first(at) * 21 // 20, segmented=True),
-    # (of many items a while's lists have a quarter more room)
-    Row("take_while", None, 16, 0, lambda at: of_segment(at) * (5 if at.items > 1_000_000 else 4) // 4, 2, 1, segmented=True),
-    Row("distinct", None, 16, 0, lambda at: entries(24)(at) + of_segment(at), 2, 1, segmented=True),
+    # (what a skip drops goes first)
+    *[Row(name, None, 16, 0, lambda at: of_first(at) * 9 // 10, segmented=True) for name in ("skip", "drop_while")],
+    # (a while's lists grow as items come)
+    Row("take_while", None, 16, 0, lambda at: of_segment(at) * 9 // 8, 2, 1, segmented=True),
+    Row("distinct", None, 28, 0, lambda at: entries(24)(at) + of_segment(at), 2, 1, segmented=True),
 ]
 
 
