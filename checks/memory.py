@@ -165,7 +165,7 @@ TERMINALS = [
     # (what a skip drops goes first)
     *[Row(name, None, 16, 0, lambda at: of_first(at) * 9 // 10, segmented=True) for name in ("skip", "drop_while")],
     # (a while's lists grow as items come)
-    Row("take_while", None, 16, 0, lambda at: of_segment(at) * 9 // 8, 2, 1, segmented=True),
+    Row("take_while", None, 28, 0, lambda at: of_segment(at) * 9 // 8, 2, 1, segmented=True),
     Row("distinct", None, 28, 0, lambda at: entries(24)(at) + of_segment(at), 2, 1, segmented=True),
 ]
 
