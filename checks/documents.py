@@ -19,6 +19,7 @@ import subprocess
 import tempfile
 import textwrap
 
+import record
 import signatures
 from built import PSTREAM, ROOT, conclude, need_program, run
 
@@ -26,8 +27,8 @@ DOCS = ROOT / "docs"
 # the most bytes that each page may have, and those that README.md, examples/README.md and docs/ may have in all, docs/signatures.md aside
 SIZES, ALL_SIZES = {
     "README.md": 7_000, "examples/README.md": 5_500, "examples/why/README.md": 1_900, "bench/README.md": 4_000, "docs/ARCHITECTURE.md": 10_500,
-    "docs/DECISIONS.md": 30_000, "docs/PROVED.md": 14_000, "docs/TOOLCHAIN.md": 10_000, "docs/board.md": 8_000, "docs/faults.md": 6_000,
-    "docs/from-java.md": 20_000, "docs/glossary.md": 6_000, "docs/inside.md": 12_000, "docs/language.md": 10_100, "docs/library.md": 18_800,
+    "docs/DECISIONS.md": 30_000, "docs/PROVED.md": 14_500, "docs/TOOLCHAIN.md": 10_000, "docs/board.md": 8_000, "docs/faults.md": 6_000,
+    "docs/from-java.md": 20_000, "docs/glossary.md": 6_000, "docs/inside.md": 12_000, "docs/language.md": 10_100, "docs/library.md": 20_500,
     "docs/many-machines.md": 6_500, "docs/performance.md": 8_000, "docs/pool.md": 8_000, "docs/pstream.1": 6_400, "docs/signatures.md": 250_000,
 }, 170_000
 # names in code marks that no source has: patterns, words of other programs' command lines and messages, methods of Java's behind column one
@@ -99,6 +100,8 @@ def pages_alone():
     total = sum(size for path, size in sizes.items() if path.startswith(("docs/", "README", "examples/README"))) - sizes["docs/signatures.md"]
     yield f"{total} bytes of all pages, {ALL_SIZES} allowed", total <= ALL_SIZES, True
     yield "docs/signatures.md is what checks/signatures.py makes", signatures.PAGE.read_text() == signatures.page(), True
+    parcel = record.block("spliterator", "Parcel", [("sender", "String"), ("grams", "i64"), ("place", "i64")])
+    yield "parcel.rt is what checks/record.py prints", (ROOT / "crates/source_tests/src/parcel.rt").read_text(), parcel
 
 
 # What `--help` says.

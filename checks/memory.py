@@ -23,6 +23,9 @@ OF_PROGRAM, OF_TEST = (1_063_400, 10_000, 42), (1_000, 1_500, 8)
 # what a thread keeps for the one that comes next, and how many threads more sort at least where there are several processors
 OF_THREAD, SORTING = 600, int(os.cpu_count() > 1)
 
+# a run of more items starts its threads at once, and one of fewer may start none
+FEW = 1 << 18
+
 # the sizes of all leaves, and of each segment its items and workers
 Shape = collections.namedtuple("Shape", "items workers sizes segments")
 # requests and bytes for a leaf, and bytes for the items, of which at least nine tenths live; runs of a segment, in the mean, those in which threads combine, threads that
@@ -148,7 +151,7 @@ PIPELINES = [
 FOLDS = "sum summary reduce reduce_optional min max min_by_key max_by_key count find_first any_match all_match none_match".split()
 TERMINALS = [
     *[Row(name, None, 4) for name in FOLDS],
-    Row("collect_concat", None, 8, runs=2),
+    Row("concat", None, 8, runs=2),
     Row("first_sorted", None, 14, 8_800, joins=1),
     Row("to_list", None, 6, 0, lambda at: 8 * at.items if at.workers == 1 else pieces(at), joins=1),
     Row("for_each_ordered", None, 6, 0, an_item(16), joins=1),
@@ -171,15 +174,17 @@ TERMINALS = [
 
 def judged(found, at, row, base):
     """Whether a run asked for as much as its row and its base tell. One worker starts no thread; several have one each, and two for each node near the
-    top of the plan's tree."""
+    top of the plan's tree. Where segments or streams are short, they may start none."""
     of_run, of_worker, requests = base
     items, nodes = row.items(at) if row.items else 0, (1 << (at.workers.bit_length() - 1)) - 1
     started = sum(row.runs * own + row.joins * 2 * nodes + row.sorting for _, own in at.segments if own > 1)
+    is_long = row.runs == 1 and not row.segmented
+    least = started if is_long else sum(own for number, own in at.segments if own > 1 and number > row.runs * FEW)
     most = int(of_run + of_worker * at.workers + 1.1 * (row.leaf * len(at.sizes) + items))
     most_requests = int(1.1 * (requests + (row.requests(at) if callable(row.requests) else row.requests * len(at.sizes))))
     is_small = 0.9 * items <= found.peak <= most and found.requests <= most_requests and abs(found.live) <= OF_THREAD * found.threads
     # (a place may be sought in more runs, and a sort has as many threads as there are processors)
-    is_started = found.threads == started or found.threads > started > 0 and (row.runs > 1 or row.sorting > 0)
+    is_started = least <= found.threads <= started or found.threads > started > 0 and (row.runs > 1 or row.sorting > 0)
     return is_small and is_started or (found[3:], items, most, most_requests, started)
 
 

@@ -101,7 +101,7 @@ def functions_in(crate):
 def head_at(lines, first):
     """The head of an impl or a trait, which may take several lines."""
     last = next((at for at in range(first, len(lines)) if lines[at].endswith(("{", "{}"))), first)
-    return " ".join(line.strip() for line in lines[first : last + 1])
+    return " ".join(line.strip() for line in lines[first : last + 1]).replace("< ", "<").replace(", >", ">")
 
 
 def last_line(lines, first, indent):

@@ -1,7 +1,7 @@
 //! A barrier that is chosen at run time.
 use crate::{Barrier, Demand, Distinct, DropWhile, Limit, Need, Skip, TakeWhile};
 use indexmap::IndexSet;
-use spliterator::{NoMemory, OrderedValue, Value};
+use spliterator::{EqualValue, NoMemory, OrderedValue, Value};
 use stages::{Operation, Test};
 use std::alloc::Global;
 use std::hash::{BuildHasher, Hash};
@@ -67,8 +67,9 @@ impl<T: Value, P: Test<T>, S> Demand<T> for AnyBarrier<P, S> {
 }
 
 /// With a state of another barrier, which none of its own calls makes, the barrier is over: nothing is left of what comes.
-impl<T: OrderedValue + Hash + Clone + Drop, P: Test<T>, S: BuildHasher + Copy> Barrier<T>
-    for AnyBarrier<P, S> {
+impl<T: OrderedValue + EqualValue + Hash + Clone + Drop, P: Test<T>, S: BuildHasher + Copy> Barrier<
+    T,
+> for AnyBarrier<P, S> {
     ghost use Rattle.std.specs.Prelude.{◌≡◌, ◌++◌, List, IfOk, OnOk, count_by, map};
     ghost use Rattle.spliterator.specs.Clones.{ClonesAlike};
     ghost use Rattle.barriers.specs.Needs.{IsToldBy, less_needed};

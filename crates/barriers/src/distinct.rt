@@ -11,14 +11,14 @@ ghost use Rattle.barriers.specs.BarrierFlags.{KeepsSound-distinct};
 
 use crate::{Barrier, Demand, Need};
 use indexmap::IndexSet;
-use spliterator::{NoMemory, OrderedValue, Value};
+use spliterator::{EqualValue, NoMemory, OrderedValue, Value};
 use stages::Operation;
 use std::alloc::Global;
 use std::hash::{BuildHasher, BuildHasherDefault, FoldHasher, Hash};
 use std::mem;
 
 // Of equal items the first, in the order of the items. The items go into a set that is empty; none is cloned.
-fn first_ones<T: Value + Hash + Drop, S: BuildHasher + Drop>(
+fn first_ones<T: EqualValue + Hash + Drop, S: BuildHasher + Drop>(
     mut empty: IndexSet<T, S>,
     items: Vec<T>,
 ) -> Result<Vec<T>, NoMemory>
@@ -34,7 +34,11 @@ fn first_ones<T: Value + Hash + Drop, S: BuildHasher + Drop>(
 const SAMPLE: usize = 1 << 10;
 
 // Whether an item is the one at a place of a set.
-fn stands_at<T: Value + Hash, S: BuildHasher>(came: &IndexSet<T, S>, place: usize, x: &T) -> bool
+fn stands_at<T: EqualValue + Hash, S: BuildHasher>(
+    came: &IndexSet<T, S>,
+    place: usize,
+    x: &T,
+) -> bool
     ensures { result ≡ true → list_any (T.PartialEq.eq x.now) came.now.keys ≡ true }
 {
     let known = came.as_slice();
@@ -43,7 +47,7 @@ fn stands_at<T: Value + Hash, S: BuildHasher>(came: &IndexSet<T, S>, place: usiz
 
 // The place of an item in a set. Items often come again in the order in which they came first, as remainders do. So an item is compared with the one
 // that is expected, and hashed only where that is another.
-fn place_of<T: Value + Hash, S: BuildHasher>(
+fn place_of<T: EqualValue + Hash, S: BuildHasher>(
     came: &IndexSet<T, S>,
     expected: usize,
     x: &T,
@@ -57,7 +61,7 @@ fn place_of<T: Value + Hash, S: BuildHasher>(
 }
 
 // The items that didn't come.
-fn without_known<T: Value + Hash + Drop, S: BuildHasher>(
+fn without_known<T: EqualValue + Hash + Drop, S: BuildHasher>(
     came: &IndexSet<T, S>,
     items: Vec<T>,
 ) -> Result<Vec<T>, NoMemory>
@@ -77,7 +81,7 @@ fn without_known<T: Value + Hash + Drop, S: BuildHasher>(
 }
 
 // Where it pays, drops the items that came, and of equal ones all but the first. The set is empty.
-fn keep_new<T: Value + Hash + Drop, S: BuildHasher + Drop>(
+fn keep_new<T: EqualValue + Hash + Drop, S: BuildHasher + Drop>(
     came: &IndexSet<T, S>,
     empty: IndexSet<T, S>,
     items: Vec<T>,
@@ -95,7 +99,7 @@ fn keep_new<T: Value + Hash + Drop, S: BuildHasher + Drop>(
 }
 
 // Drops items that came, and of equal ones all but the first. Where most of a sample are new, the others stay as they are: a set of them would not pay.
-fn thin_distinct<T: Value + Hash + Drop, S: BuildHasher + Copy + Drop>(
+fn thin_distinct<T: EqualValue + Hash + Drop, S: BuildHasher + Copy + Drop>(
     came: &IndexSet<T, S>,
     hashes: S,
     items: &mut Vec<T>,
@@ -114,7 +118,7 @@ fn thin_distinct<T: Value + Hash + Drop, S: BuildHasher + Copy + Drop>(
 }
 
 // The items go into the set of those that came, and what is new there is cloned: an item that repeats is not.
-fn carry_distinct<T: Value + Hash + Clone + Drop, S: BuildHasher>(
+fn carry_distinct<T: EqualValue + Hash + Clone + Drop, S: BuildHasher>(
     came: &mut IndexSet<T, S>,
     items: Vec<T>,
 ) -> Result<Vec<T>, NoMemory>
@@ -165,7 +169,8 @@ impl<T: Value, S> Demand<T> for Distinct<S> {
     }
 }
 
-impl<T: OrderedValue + Hash + Clone + Drop, S: BuildHasher + Copy> Barrier<T> for Distinct<S> {
+impl<T: OrderedValue + EqualValue + Hash + Clone + Drop, S: BuildHasher + Copy> Barrier<T>
+    for Distinct<S> {
     /// Of the items that came the first ones, as clones.
     type State = IndexSet<T, S>;
 

@@ -29,7 +29,7 @@ fn length_of_front<T: Value, P: Test<T>>(items: &[T], test: &P) -> usize
 }
 
 /// The longest front whose items all meet a test (`java.util.stream.Stream`, `takeWhile`). One item that fails it is enough.
-#[derive(Drop)]
+#[derive(Clone, Copy, Drop)]
 pub struct TakeWhile<P> {
     pub test: P,
 }
@@ -130,7 +130,7 @@ impl<T: OrderedValue + Drop, P: Test<T>> Barrier<T> for TakeWhile<P> {
 }
 
 /// What follows the longest front whose items all meet a test (`java.util.stream.Stream`, `dropWhile`).
-#[derive(Drop)]
+#[derive(Clone, Copy, Drop)]
 pub struct DropWhile<P> {
     pub test: P,
 }

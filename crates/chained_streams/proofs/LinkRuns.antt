@@ -54,6 +54,13 @@ module _ {L S T C : Type 0} (needed : L → S → Option ℕ) (counted : L → C
       let mine = ends-own_ok before (needed link state) (counted link) is_value content (behind link state) (map (flat_map (images link)) lists) turn cut leaf r ended thinned is h in
       subst P' (sym is_link) (subst Q (sym is_state) mine)
 
+  -- its run has a leaf a list
+  pub leaves-own : {P : Type 0} (before : Work P) (turn : Bool) (link : Option L) (state : Option S) (leaf : ℕ) → turn ≡ true → leaf < (barred_work turn before (own link state)).leaves → leaf < length lists
+  leaves-own before turn link state leaf is within =
+      let W : Bool → Type 0 = λ b. leaf < (barred_work b before (own link state)).leaves in
+      let V : ℕ → Type 0 = λ n. leaf < n in
+      subst V (length-map lists (flat_map (images_at images link state))) (subst W is within)
+
   nothing-ends : (cut leaf : ℕ) (state : Option S) → leaf < length lists → EndsLeaf (own None state) cut leaf (Done (record { count = 0; kept = [] }))
   nothing-ends cut leaf state within =
       let W : ℕ → Type 0 = λ n. leaf < n in

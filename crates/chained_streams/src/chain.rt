@@ -20,10 +20,10 @@ use barriers::{Barrier, Behind, Demand, Need};
 use collectors::{Collector, ToList};
 use leaf_board::Handout;
 use leaf_reading::{LeafEnd, Portion, Reading, feed_whole, read_leaf};
-use parallel_streams::{Listed, Part, Places, Stream, end_before, end_own};
+use parallel_streams::{Listed, Part, Places, Plumbing, end_before, end_own};
 use sources::SliceSplit;
 use split_tree::Tree;
-use spliterator::{NoMemory, Value};
+use spliterator::{NoMemory, OrderedValue, Value};
 use stages::{Sink, Stage, StreamFlags, Then};
 use std::alloc::Global;
 use stealing_pool::RunEntry;
@@ -71,129 +71,82 @@ fn nothing_kept<P: Drop, T: Value + Clone + Drop>(
     }))
 }
 
-impl<U: Stream, A: Stage<In = U::Item, Out = U::Item>, B: Barrier<U::Item>> Chain<U, A, B> {
-    // The states before any item.
-    fn fresh_states(&self, alloc: Global) -> Result<Vec<B::State>, NoMemory>
-        ensures fresh { let step = link_behind A.expand B.value_behind in
-            IfOk result (λ states. AreFresh step (link_value A.expand B.value) self.now.links.items states.items) }
-        ensures stand { let value = link_value A.expand B.value in
-            let stands = StandsLink A.expand B.Demand.needed B.Demand.counted B.value B.needed_behind B.value_behind in
-            IfOk result (λ states. StandLinks stands value self.now.links.items states.items []
-            × (through_links value self.now.links.items [] ≡ [])) }
-    {
-        let mut states = Vec::with_capacity(alloc, self.links.len())?;
-        for at in 0..self.links.len() {
-            states.push(self.links[at].barrier.fresh(alloc))?;
-        }
-        Ok(states)
+// The states before any item.
+fn fresh_states<T: OrderedValue, A: Stage<In = T, Out = T>, B: Barrier<T>>(
+    alloc: Global,
+    links: &Vec<Link<A, B>>,
+) -> Result<Vec<B::State>, NoMemory>
+    ensures fresh { let step = link_behind A.expand B.value_behind in
+        IfOk result (λ states. AreFresh step (link_value A.expand B.value) links.now.items states.items) }
+    ensures stand { let value = link_value A.expand B.value in
+        let stands = StandsLink A.expand B.Demand.needed B.Demand.counted B.value B.needed_behind B.value_behind in
+        IfOk result (λ states. StandLinks stands value links.now.items states.items []
+        × (through_links value links.now.items [] ≡ [])) }
+{
+    let mut states = Vec::with_capacity(alloc, links.len())?;
+    for at in 0..links.len() {
+        states.push(links[at].barrier.fresh(alloc))?;
     }
+    Ok(states)
+}
 
-    // Whether nothing that is still to come matters to some link.
-    fn is_over(&self, states: &[B::State]) -> bool
-        requires { All (λ link. B.Demand.ready link.barrier) self.now.links.items }
-        ensures over { let step = link_behind A.expand B.value_behind in
-            result ≡ true → (items : List _) → behind_links step self.now.links.items states.now items ≡ [] }
-        ensures undecided { let value = link_value A.expand B.value in
-            let stands = StandsLink A.expand B.Demand.needed B.Demand.counted B.value B.needed_behind B.value_behind in
-            result ≡ false → (items : List _) → StandLinks stands value self.now.links.items states.now items
-            → SomeEnough (EnoughLink A.expand B.Demand.needed B.Demand.counted) value self.now.links.items items → ⊥ }
-    {
-        let count = self.links.len().min(states.len());
-        for at in 0..count {
-            if self.links[at].barrier.is_over(&states[at]) {
-                return true;
-            }
-        }
-        false
-    }
-
-    // How many links need no run over a segment: the first, where it lets all pass.
-    fn first_run(&self, states: &[B::State]) -> usize
-        ensures start { let first = IsFirstRun (link_behind A.expand B.value_behind) (λ link. A.expand link.stage) in
-            first self.now.links.items states.now result }
-        ensures within { result ≤ length self.now.links.items }
-        ensures lets { FirstLets (LetsPass B.needed_behind B.value_behind) self.now.links.items states.now result }
-    {
-        if self.links.is_empty() {
-            return 0;
-        }
-        if states.is_empty() {
-            return 0;
-        }
-        if self.links[0].barrier.lets_pass(&states[0]) {
-            1
-        } else {
-            0
+// Whether nothing that is still to come matters to some link.
+fn some_is_over<T: OrderedValue, A: Stage<In = T, Out = T>, B: Barrier<T>>(
+    links: &Vec<Link<A, B>>,
+    states: &[B::State],
+) -> bool
+    requires { All (λ link. B.Demand.ready link.barrier) links.now.items }
+    ensures over { let step = link_behind A.expand B.value_behind in
+        result ≡ true → (items : List _) → behind_links step links.now.items states.now items ≡ [] }
+    ensures undecided { let value = link_value A.expand B.value in
+        let stands = StandsLink A.expand B.Demand.needed B.Demand.counted B.value B.needed_behind B.value_behind in
+        result ≡ false → (items : List _) → StandLinks stands value links.now.items states.now items
+        → SomeEnough (EnoughLink A.expand B.Demand.needed B.Demand.counted) value links.now.items items → ⊥ }
+{
+    let count = links.len().min(states.len());
+    for at in 0..count {
+        if links[at].barrier.is_over(&states[at]) {
+            return true;
         }
     }
+    false
+}
 
-    // Whether the barriers of the stream before have run.
-    fn is_own_turn(&self, progress: &ChainProgress<U::Progress, B::State, U::Item>) -> bool
-        ensures { result ≡ is_own_turn (U.done self.now.upstream progress.now.before) progress.now.listed }
-    {
-        progress.listed.is_some() || self.upstream.is_gathered(&progress.before)
+// How many links need no run over a segment: the first, where it lets all pass.
+fn first_run<T: OrderedValue, A: Stage<In = T, Out = T>, B: Barrier<T>>(
+    links: &Vec<Link<A, B>>,
+    states: &[B::State],
+) -> usize
+    ensures start { let first = IsFirstRun (link_behind A.expand B.value_behind) (λ link. A.expand link.stage) in
+        first links.now.items states.now result }
+    ensures within { result ≤ length links.now.items }
+    ensures lets { FirstLets (LetsPass B.needed_behind B.value_behind) links.now.items states.now result }
+{
+    if links.is_empty() {
+        return 0;
     }
-
-    // Runs a leaf of the next run, through a stage into a collector: over the stream before, or over the last link's list.
-    fn read_own_leaf<
-        G: Stage<In = U::Item>,
-        D: Demand<G::Out>,
-        C: Collector<Item = G::Out>,
-        L: Handout,
-    >(
-        &self,
-        alloc: Global,
-        progress: &ChainProgress<U::Progress, B::State, U::Item>,
-        reading: &Reading<'_, G, D, C>,
-        board: &L,
-        seat: &mut L::Seat,
-        leaf: usize,
-    ) -> Result<LeafEnd<C::Acc>, NoMemory>
-        requires ready { U.ready self.now.upstream }
-        requires clones { ClonesAlike U.Item.is_clone U.Item.content }
-        requires stages { All (λ link. A.ready link.stage) self.now.links.items }
-        requires stage { G.ready reading.now.stage.now }
-        requires demand { D.ready reading.now.demand.now }
-        requires collector { C.ready reading.now.collector.now }
-        requires before { U.holds self.now.upstream progress.now.before }
-        requires holds { let holds = HoldsChain (link_behind A.expand B.value_behind) (λ link. A.expand link.stage) in
-            holds self.now.links.items progress.now.states.items progress.now.run progress.now.listed }
-        requires turn { is_own_turn (U.done self.now.upstream progress.now.before) progress.now.listed ≡ true }
-        requires board { L.leaves board.now ≡ length (lists_of (λ link. A.expand link.stage) U.Item.content self.now.links.items progress.now.run (U.parts self.now.upstream progress.now.before) progress.now.listed) }
-        requires of { L.is_of board.now seat.old }
-        requires within { leaf < L.leaves board.now }
-        ensures seat { StaysSeat (L.is_of board.now) L.number L.draws_left L.made_cut seat.old seat.new }
-        ensures same { SameFrom (L.status seat.old) (L.status seat.new) }
-        ensures end { let needs = folding (D.needed reading.now.demand.now) (D.counted reading.now.demand.now) G.Out.is_value in
-            let fold = needs (C.empty reading.now.collector.now) (C.add reading.now.collector.now) in
-            let lists = map (flat_map (G.expand reading.now.stage.now)) (lists_of (λ link. A.expand link.stage) U.Item.content self.now.links.items progress.now.run (U.parts self.now.upstream progress.now.before) progress.now.listed) in
-            IfOk result (EndsLeaf (work_of fold (C.content reading.now.collector.now) lists) (L.cut seat.new) leaf) }
-    {
-        match &progress.listed {
-            Some(listed) => {
-                let items = listed.places.part(&listed.items, leaf);
-                read_leaf(alloc, SliceSplit::new(items), reading, board, seat, leaf)
-            }
-            None if progress.run == 0 => {
-                self.upstream
-                    .run_last_leaf(alloc, &progress.before, reading, board, seat, leaf)
-            }
-            None => {
-                let fused = Then::new(&self.links[0].stage, reading.stage);
-                let reading = Reading {
-                    stage: &fused,
-                    demand: reading.demand,
-                    collector: reading.collector,
-                };
-                self.upstream
-                    .run_last_leaf(alloc, &progress.before, &reading, board, seat, leaf)
-            }
-        }
+    if states.is_empty() {
+        return 0;
+    }
+    if links[0].barrier.lets_pass(&states[0]) {
+        1
+    } else {
+        0
     }
 }
 
-impl<U: Stream, A: Stage<In = U::Item, Out = U::Item>, B: Barrier<U::Item>> Stream
-    for Chain<U, A, B> {
+// Whether the barriers of the stream before have run.
+fn own_turn<T>(is_gathered: bool, listed: &Option<Listed<T>>) -> bool
+    ensures { result ≡ is_own_turn is_gathered listed.now }
+{
+    listed.is_some() || is_gathered
+}
+
+impl<U: Plumbing, A: Stage<In = U::Item, Out = U::Item> + Sync, B: Barrier<U::Item> + Sync> Plumbing
+    for Chain<U, A, B>
+where
+    B::State: Send + Sync,
+{
     type Item = U::Item;
 
     type Progress = ChainProgress<U::Progress, B::State, U::Item>;
@@ -328,7 +281,7 @@ impl<U: Stream, A: Stage<In = U::Item, Out = U::Item>, B: Barrier<U::Item>> Stre
         most: Option<u64>,
     ) -> Result<ChainProgress<U::Progress, B::State, U::Item>, NoMemory> {
         let before = self.upstream.start(alloc, workers, target, most)?;
-        let states = self.fresh_states(alloc)?;
+        let states = fresh_states(alloc, &self.links)?;
         Ok(ChainProgress {
             before,
             states,
@@ -339,7 +292,7 @@ impl<U: Stream, A: Stage<In = U::Item, Out = U::Item>, B: Barrier<U::Item>> Stre
     }
 
     fn is_last(&self, progress: &ChainProgress<U::Progress, B::State, U::Item>) -> bool {
-        self.upstream.is_last(&progress.before) || self.is_over(&progress.states)
+        self.upstream.is_last(&progress.before) || some_is_over(&self.links, &progress.states)
     }
 
     fn go_on(
@@ -352,7 +305,7 @@ impl<U: Stream, A: Stage<In = U::Item, Out = U::Item>, B: Barrier<U::Item>> Stre
     ) -> Result<ChainProgress<U::Progress, B::State, U::Item>, NoMemory> {
         let ChainProgress { before, states, .. } = progress;
         let before = self.upstream.go_on(alloc, before, workers, target, most)?;
-        let run = self.first_run(&states);
+        let run = first_run(&self.links, &states);
         Ok(ChainProgress {
             before,
             states,
@@ -362,14 +315,10 @@ impl<U: Stream, A: Stage<In = U::Item, Out = U::Item>, B: Barrier<U::Item>> Stre
         })
     }
 
-    fn segment_size(
-        &self,
-        progress: &ChainProgress<U::Progress, B::State, U::Item>,
-    ) -> Option<u64> {
-        if self.links.is_empty() {
-            self.upstream.segment_size(&progress.before)
-        } else {
-            None
+    fn estimate(&self, progress: &ChainProgress<U::Progress, B::State, U::Item>) -> u64 {
+        match &progress.listed {
+            Some(listed) => listed.items.len() as u64,
+            None => self.upstream.estimate(&progress.before),
         }
     }
 
@@ -380,7 +329,8 @@ impl<U: Stream, A: Stage<In = U::Item, Out = U::Item>, B: Barrier<U::Item>> Stre
     }
 
     fn is_gathered(&self, progress: &ChainProgress<U::Progress, B::State, U::Item>) -> bool {
-        self.is_own_turn(progress) && progress.run == self.links.len()
+        let is_gathered = self.upstream.is_gathered(&progress.before);
+        own_turn(is_gathered, &progress.listed) && progress.run == self.links.len()
     }
 
     fn leaves(&self, progress: &ChainProgress<U::Progress, B::State, U::Item>) -> usize {
@@ -398,7 +348,8 @@ impl<U: Stream, A: Stage<In = U::Item, Out = U::Item>, B: Barrier<U::Item>> Stre
     }
 
     fn need(&self, progress: &ChainProgress<U::Progress, B::State, U::Item>) -> Need {
-        if !self.is_own_turn(progress) {
+        let is_gathered = self.upstream.is_gathered(&progress.before);
+        if !own_turn(is_gathered, &progress.listed) {
             return self.upstream.need(&progress.before);
         }
         let Some(link) = self.links.get(progress.run) else {
@@ -418,11 +369,10 @@ impl<U: Stream, A: Stage<In = U::Item, Out = U::Item>, B: Barrier<U::Item>> Stre
         seat: &mut L::Seat,
         leaf: usize,
     ) -> Result<LeafEnd<Part<U::Part, U::Item>>, NoMemory> {
-        if !self.is_own_turn(progress) {
-            return end_before(
-                self.upstream
-                    .run_barrier_leaf(alloc, &progress.before, board, seat, leaf),
-            );
+        let (upstream, before) = (&self.upstream, &progress.before);
+        if !own_turn(upstream.is_gathered(before), &progress.listed) {
+            let end = upstream.run_barrier_leaf(alloc, before, board, seat, leaf);
+            return end_before(end);
         }
         let run = progress.run;
         if run >= self.links.len() {
@@ -439,7 +389,24 @@ impl<U: Stream, A: Stage<In = U::Item, Out = U::Item>, B: Barrier<U::Item>> Stre
             demand: &demand,
             collector: &ToList::new(alloc),
         };
-        let end = self.read_own_leaf(alloc, progress, &reading, board, seat, leaf);
+        let end = match &progress.listed {
+            Some(listed) => {
+                let items = listed.places.part(&listed.items, leaf);
+                read_leaf(alloc, SliceSplit::new(items), &reading, board, seat, leaf)
+            }
+            None if run == 0 => {
+                upstream.run_last_leaf(alloc, before, &reading, board, seat, leaf)
+            }
+            None => {
+                let fused = Then::new(&self.links[0].stage, &link.stage);
+                let reading = Reading {
+                    stage: &fused,
+                    demand: &demand,
+                    collector: &ToList::new(alloc),
+                };
+                upstream.run_last_leaf(alloc, before, &reading, board, seat, leaf)
+            }
+        };
         end_own(&link.barrier, state, end)
     }
 
@@ -475,51 +442,30 @@ impl<U: Stream, A: Stage<In = U::Item, Out = U::Item>, B: Barrier<U::Item>> Stre
         workers: u32,
         target: u64,
     ) -> Result<ChainProgress<U::Progress, B::State, U::Item>, NoMemory> {
-        let ChainProgress {
-            before,
-            mut states,
-            run,
-            listed,
-            gathered,
-        } = progress;
+        let mut progress = progress;
         match part {
             Part::Before(part) => {
-                let before = self
+                let before = progress.before;
+                progress.before = self
                     .upstream
                     .gather(alloc, before, part, entry, workers, target)?;
-                Ok(ChainProgress {
-                    before,
-                    states,
-                    run,
-                    listed,
-                    gathered,
-                })
+                Ok(progress)
             }
             Part::Own(pieces) => {
+                let run = progress.run;
                 let list = pieces.into_list()?;
-                let gathered = gathered.max(list.len() as u64);
-                let is_cut = entry.cut().is_some();
+                progress.gathered = progress.gathered.max(list.len() as u64);
                 if run >= self.links.len() {
-                    return Ok(ChainProgress {
-                        before,
-                        states,
-                        run,
-                        listed,
-                        gathered,
-                    });
+                    return Ok(progress);
                 }
-                drop(listed);
+                progress.listed = None;
                 let barrier = &self.links[run].barrier;
-                let items = barrier.carry(&mut states[run], list, is_cut)?;
+                let state = &mut progress.states[run];
+                let items = barrier.carry(state, list, entry.cut().is_some())?;
                 let places = Places::cut(alloc, items.as_slice(), workers, target)?;
-                let listed = Some(Listed { items, places });
-                Ok(ChainProgress {
-                    before,
-                    states,
-                    run: run + 1,
-                    listed,
-                    gathered,
-                })
+                progress.listed = Some(Listed { items, places });
+                progress.run = run + 1;
+                Ok(progress)
             }
         }
     }
@@ -576,6 +522,25 @@ impl<U: Stream, A: Stage<In = U::Item, Out = U::Item>, B: Barrier<U::Item>> Stre
         seat: &mut L::Seat,
         leaf: usize,
     ) -> Result<LeafEnd<C::Acc>, NoMemory> {
-        self.read_own_leaf(alloc, progress, reading, board, seat, leaf)
+        match &progress.listed {
+            Some(listed) => {
+                let items = listed.places.part(&listed.items, leaf);
+                read_leaf(alloc, SliceSplit::new(items), reading, board, seat, leaf)
+            }
+            None if progress.run == 0 => {
+                self.upstream
+                    .run_last_leaf(alloc, &progress.before, reading, board, seat, leaf)
+            }
+            None => {
+                let fused = Then::new(&self.links[0].stage, reading.stage);
+                let reading = Reading {
+                    stage: &fused,
+                    demand: reading.demand,
+                    collector: reading.collector,
+                };
+                self.upstream
+                    .run_last_leaf(alloc, &progress.before, &reading, board, seat, leaf)
+            }
+        }
     }
 }

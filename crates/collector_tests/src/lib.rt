@@ -1,9 +1,7 @@
-//! The tests of `collectors`, `summaries` and `derived_collectors`.
+//! The tests of `collectors` and `derived_collectors`.
 #![tactic(auto)]
 
 #[cfg(test)]
 mod of_collectors;
 #[cfg(test)]
 mod of_derived_collectors;
-#[cfg(test)]
-mod of_summaries;

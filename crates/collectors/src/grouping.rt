@@ -10,7 +10,7 @@ use crate::collector::LIGHT_ENTRIES;
 use crate::groups::Groups;
 use crate::map_entries::add_entry;
 use indexmap::IndexMap;
-use spliterator::{NoMemory, Value};
+use spliterator::{EqualValue, NoMemory};
 use stages::Mapping;
 use std::alloc::Global;
 use std::hash::{BuildHasher, BuildHasherDefault, FoldHasher, Hash};
@@ -58,7 +58,7 @@ impl<K, D, S> GroupingBy<K, D, S> {
 /// Takes in the first item of a group. Few items are first ones, and the loop over the others is shorter without this.
 #[cold]
 #[inline(never)]
-fn add_group<K: Value + Hash + Drop, D: Collector, S: BuildHasher>(
+fn add_group<K: EqualValue + Hash + Drop, D: Collector, S: BuildHasher>(
     downstream: &D,
     groups: &mut Groups<K, D::Acc, S>,
     key: K,
@@ -87,7 +87,7 @@ fn first_kept<D: Collector>(downstream: &D, x: &D::Item) -> Result<D::Acc, NoMem
 }
 
 // Takes a group of the right side into that of its key, or adds it where the key is new.
-fn merge_group<K: Value + Hash + Drop, D: Collector, S: BuildHasher>(
+fn merge_group<K: EqualValue + Hash + Drop, D: Collector, S: BuildHasher>(
     downstream: &D,
     left: &mut IndexMap<K, D::Acc, S>,
     group: (K, D::Acc),
@@ -106,7 +106,7 @@ fn merge_group<K: Value + Hash + Drop, D: Collector, S: BuildHasher>(
 }
 
 // Takes each group of the right side into the left side, in their order.
-fn merge_groups<K: Value + Hash + Drop, D: Collector, S: BuildHasher + Copy>(
+fn merge_groups<K: EqualValue + Hash + Drop, D: Collector, S: BuildHasher + Copy>(
     downstream: &D,
     left: &mut IndexMap<K, D::Acc, S>,
     right: IndexMap<K, D::Acc, S>,
@@ -136,7 +136,7 @@ fn all_light<K: Eq + Hash, D: Collector, S: BuildHasher>(
 }
 
 // Adds a group's result to the results.
-fn finish_group<K: Value + Hash + Drop, D: Collector, S: BuildHasher>(
+fn finish_group<K: EqualValue + Hash + Drop, D: Collector, S: BuildHasher>(
     downstream: &D,
     results: &mut IndexMap<K, D::Out, S>,
     group: (K, D::Acc),
@@ -154,7 +154,7 @@ fn finish_group<K: Value + Hash + Drop, D: Collector, S: BuildHasher>(
 }
 
 // The groups' results, each at the place of its group.
-fn finish_groups<K: Value + Hash + Drop, D: Collector, S: BuildHasher + Copy>(
+fn finish_groups<K: EqualValue + Hash + Drop, D: Collector, S: BuildHasher + Copy>(
     downstream: &D,
     groups: IndexMap<K, D::Acc, S>,
     mut results: IndexMap<K, D::Out, S>,
@@ -174,7 +174,7 @@ fn finish_groups<K: Value + Hash + Drop, D: Collector, S: BuildHasher + Copy>(
 
 impl<D: Collector, K: Mapping<D::Item>, S: BuildHasher + Copy> Collector for GroupingBy<K, D, S>
 where
-    K::Out: Hash + Drop,
+    K::Out: EqualValue + Hash + Drop,
 {
     type Item = D::Item;
 

@@ -11,7 +11,7 @@ use crate::groups::Groups;
 use crate::map_entries::add_entry;
 use crate::reducing::join_into;
 use indexmap::IndexMap;
-use spliterator::{NoMemory, Value};
+use spliterator::{EqualValue, NoMemory, Value};
 use stages::{Mapping, Operator};
 use std::alloc::Global;
 use std::hash::{BuildHasher, BuildHasherDefault, FoldHasher, Hash};
@@ -69,7 +69,7 @@ impl<T: Value, U: Value, K, V, M: Operator<U>, S> ToMap<T, U, K, V, M, S> {
 }
 
 // Merges a value into that of its key, or adds the entry where the key is new.
-fn merge_value<K: Value + Hash + Drop, U: Value + Drop, M: Operator<U>, S: BuildHasher>(
+fn merge_value<K: EqualValue + Hash + Drop, U: Value + Drop, M: Operator<U>, S: BuildHasher>(
     merge: &M,
     map: &mut IndexMap<K, U, S>,
     entry: (K, U),
@@ -87,11 +87,12 @@ fn merge_value<K: Value + Hash + Drop, U: Value + Drop, M: Operator<U>, S: Build
 }
 
 // Merges each entry of the right side, in their order.
-fn merge_values<K: Value + Hash + Drop, U: Value + Drop, M: Operator<U>, S: BuildHasher + Copy>(
-    merge: &M,
-    left: &mut IndexMap<K, U, S>,
-    right: IndexMap<K, U, S>,
-) -> Result<(), NoMemory>
+fn merge_values<
+    K: EqualValue + Hash + Drop,
+    U: Value + Drop,
+    M: Operator<U>,
+    S: BuildHasher + Copy,
+>(merge: &M, left: &mut IndexMap<K, U, S>, right: IndexMap<K, U, S>) -> Result<(), NoMemory>
     requires { M.ready merge.now }
     ensures { let seen = contents K.content U.content in
         let merged = group_merge K.same (M.join merge.now) (seen left.old.entries) in
@@ -112,7 +113,7 @@ impl<
     S: BuildHasher + Copy,
 > Collector for ToMap<T, U, K, V, M, S>
 where
-    K::Out: Hash + Drop,
+    K::Out: EqualValue + Hash + Drop,
 {
     type Item = T;
 

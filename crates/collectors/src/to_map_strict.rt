@@ -8,7 +8,7 @@ use crate::Collector;
 use crate::collector::LIGHT_ENTRIES;
 use crate::map_entries::{add_entry, entry_of};
 use indexmap::IndexMap;
-use spliterator::{NoMemory, Value};
+use spliterator::{EqualValue, NoMemory, Value};
 use stages::Mapping;
 use std::alloc::Global;
 use std::fmt::Display;
@@ -31,7 +31,7 @@ pub struct StrictEntries<K: Eq + Hash, V, S: BuildHasher = BuildHasherDefault<Fo
     repeated: Option<K>,
 }
 
-impl<K: Value + Hash + Drop, V: Value + Drop, S: BuildHasher> StrictEntries<K, V, S> {
+impl<K: EqualValue + Hash + Drop, V: Value + Drop, S: BuildHasher> StrictEntries<K, V, S> {
     // A key that is there is the repeat, and after a repeat nothing changes.
     fn put(&mut self, entry: (K, V)) -> Result<(), NoMemory>
         ensures { let seen = contents K.content V.content in
@@ -75,7 +75,7 @@ impl<K: Value + Hash + Drop, V: Value + Drop, S: BuildHasher> StrictEntries<K, V
     }
 }
 
-impl<K: Value + Hash + Drop, V: Value + Drop, S: BuildHasher + Copy> StrictEntries<K, V, S> {
+impl<K: EqualValue + Hash + Drop, V: Value + Drop, S: BuildHasher + Copy> StrictEntries<K, V, S> {
     // Each entry is put, in their order.
     fn put_all(&mut self, entries: IndexMap<K, V, S>) -> Result<(), NoMemory>
         ensures { let seen = contents K.content V.content in
@@ -134,7 +134,7 @@ impl<T, K, V, S> ToMapStrict<T, K, V, S> {
 impl<T: Value, K: Mapping<T>, V: Mapping<T>, S: BuildHasher + Copy> Collector
     for ToMapStrict<T, K, V, S>
 where
-    K::Out: Hash + Drop,
+    K::Out: EqualValue + Hash + Drop,
     V::Out: Drop,
 {
     type Item = T;

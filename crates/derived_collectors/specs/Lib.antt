@@ -1,3 +1,11 @@
 pub mod FirstBest
 pub mod FlatMapping
 pub mod Sets
+pub mod Facts
+pub mod Summaries
+pub mod ExactSums
+pub mod Scans
+pub mod ScanLaws
+pub mod Tried
+pub mod TriedLaws
+pub mod Decided

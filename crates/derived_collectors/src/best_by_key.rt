@@ -7,7 +7,7 @@ ghost use Rattle.derived_collectors.specs.FirstBest.{is_better, better-ranks, be
 use crate::best::Best;
 use crate::keyed::{Keyed, item_of, takes_place};
 use collectors::Collector;
-use spliterator::{NoMemory, OrderedValue, Value};
+use spliterator::{NoMemory, SortedValue, Value};
 use stages::Mapping;
 use std::marker::PhantomData;
 
@@ -59,7 +59,7 @@ impl<T: Value + Clone, K> BestByKey<T, K> {
 
 impl<T: Value + Clone, K: Mapping<T>> Collector for BestByKey<T, K>
 where
-    K::Out: OrderedValue + Drop,
+    K::Out: SortedValue + Drop,
 {
     type Item = T;
 

@@ -3,7 +3,7 @@ ghost use Rattle.std.specs.Prelude.{◌≡◌, option_map};
 ghost use Rattle.derived_collectors.specs.FirstBest.{is_better, takes_place};
 
 use crate::best::Best;
-use spliterator::OrderedValue;
+use spliterator::SortedValue;
 
 /// An item, and its key.
 #[derive(Drop)]
@@ -13,7 +13,7 @@ pub struct Keyed<T, J> {
 }
 
 /// Whether an item of this key takes the place of the one that is kept, if one is.
-pub fn takes_place<T, J: OrderedValue>(best: Best, key: &J, kept: &Option<Keyed<T, J>>) -> bool
+pub fn takes_place<T, J: SortedValue>(best: Best, key: &J, kept: &Option<Keyed<T, J>>) -> bool
     ensures { let kept_key = option_map (λ k. J.content k.key) kept.now in
         result ≡ takes_place (is_better best J.order) kept_key (J.content key.now) }
 {

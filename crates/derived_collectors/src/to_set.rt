@@ -6,7 +6,7 @@ ghost use Rattle.derived_collectors.specs.Sets.{as_keys, set_add, set_merge, set
 
 use collectors::Collector;
 use indexmap::IndexSet;
-use spliterator::{NoMemory, Value};
+use spliterator::{EqualValue, NoMemory, Value};
 use std::alloc::Global;
 use std::hash::{BuildHasher, BuildHasherDefault, FoldHasher, Hash};
 use std::marker::PhantomData;
@@ -48,7 +48,7 @@ impl<T: Value + Clone, S> ToSet<T, S> {
     }
 }
 
-impl<T: Value + Clone + Hash + Drop, S: BuildHasher + Copy> Collector for ToSet<T, S> {
+impl<T: EqualValue + Clone + Hash + Drop, S: BuildHasher + Copy> Collector for ToSet<T, S> {
     type Item = T;
 
     type Acc = IndexSet<T, S>;

@@ -18,6 +18,7 @@ use Rattle.std.proofs.lemmas.Grind.{pow_more}
 use Rattle.std.proofs.lemmas.Slice.{between_to_end}
 use Rattle.std.proofs.lemmas.List.Sums.{prefix_len-le-length, prefix_len_stops}
 use Rattle.std.proofs.lemmas.Str.{digit_value_digit}
+use Rattle.std.proofs.Math.ListN.{get_or-eq_default}
 use Rattle.std.proofs.Math.Nat.{mod-eq_of_lt, pow-le-pow_right}
 use Rattle.file_words.proofs.NumberLemmas.{own, is_leading_digit, is_plain_number, leading_bounds, not_plain, number_of_number, number_of_other}
 
@@ -138,8 +139,7 @@ other_front c more other minus digit = not_plain (c ∷ more) (by_rest more)
     by_rest (d ∷ more) = rw (not_leading, not_minus) refl
 
 pub no_first : (line : List ℕ) → length line < 1 → get_or line 0 0 ≡ 0
-no_first [] none = refl
-no_first (b ∷ line) none = absurd (omega (arith, none))
+no_first line none = get_or-eq_default line 0 (omega (arith, none))
 
 -- The front of a line, by how the line begins.
 first_alone : (line : List ℕ) (b : ℕ) → 1 ≤ length line → get_or line 0 0 ≡ b → take 1 line ≡ b ∷ []
@@ -169,32 +169,12 @@ first_digit (b ∷ bytes) value (suc end) f = f.low
 is_past : (bytes : List ℕ) (value end : ℕ) → AreFront bytes value end → IsPast (slice_index bytes end) (take end bytes)
 is_past bytes value end f range = subst (λ v. 922337203685477580 < v) f.value (f.past range)
 
-pub positive_front : (line : List ℕ) (value end : ℕ) → AreFront line value end → (if nat_lt value 9223372036854775808 then Some (pos value) else None) ≡ number_of (take end line)
-positive_front line value end f = positive_number (take end line) value f.digits f.value (first_digit line value end f) f.fits
-
-pub positive_past : (line : List ℕ) (value end : ℕ) → AreFront line value end → NoLonger end line
-positive_past line value end f more = positive_longer (take end line) more (slice_index line end) (first_digit line value end f) (is_past line value end f)
-
 -- behind a sign
 behind_sign : (line digits : List ℕ) (end : ℕ) → line ≡ 45 ∷ digits → take (end + 1) line ≡ 45 ∷ take end digits
 behind_sign line digits end is = ap (take (end + 1)) is ∙ rw add-one refl
 
 next_behind : (line digits : List ℕ) (end : ℕ) → line ≡ 45 ∷ digits → slice_index line (end + 1) ≡ slice_index digits end
 next_behind line digits end is = ap (λ l. slice_index l (end + 1)) is ∙ rw add-one refl
-
-pub negative_front : (line digits : List ℕ) (value end : ℕ) → line ≡ 45 ∷ digits → AreFront digits value end → (if nat_le value 9223372036854775808 then Some (neg_ℤ (pos value)) else None) ≡ number_of (take (end + 1) line)
-negative_front line digits value end is f =
-    negative_number (take end digits) value f.digits f.value (first_digit digits value end f) f.fits ∙ ap number_of (sym (behind_sign line digits end is))
-
-pub negative_past : (line digits : List ℕ) (value end : ℕ) → line ≡ 45 ∷ digits → AreFront digits value end → NoLonger (end + 1) line
-negative_past line digits value end is f more =
-    ap (λ l. number_of (l ++ slice_index line (end + 1) ∷ more)) (behind_sign line digits end is)
-    ∙ ap (λ c. number_of ((45 ∷ take end digits) ++ c ∷ more)) (next_behind line digits end is)
-    ∙ negative_longer (take end digits) more (slice_index digits end) (is_past digits value end f)
-
-pub negative_solid : (line digits : List ℕ) (value end : ℕ) → line ≡ 45 ∷ digits → AreFront digits value end → All (λ b. (b == 32) ≡ false) (take (end + 1) line)
-negative_solid line digits value end is f =
-    subst (All (λ b. (b == 32) ≡ false)) (sym (behind_sign line digits end is)) (All-cons (λ b. (b == 32) ≡ false) 45 (take end digits) refl (no_space_in (take end digits) f.digits))
 
 -- a sign with no number behind it
 pub sign_past : (line digits : List ℕ) → line ≡ 45 ∷ digits → (49 ≤ get_or digits 0 0 → get_or digits 0 0 ≤ 57 → ⊥) → NoLonger 1 line
@@ -226,9 +206,7 @@ at_least ds (suc n) some low high =
     omega (arith, before, ap (λ k. 10 ^ k) (sym (add-one n)), pow_more 10 n, digits_value_more 10 ds (n + 1) (omega (arith, some)), ap (λ k. digits_value 10 (take k ds)) next)
 
 inside_of_digit : (bytes : List ℕ) (i : ℕ) → 48 ≤ get_or bytes i 0 → i < length bytes
-inside_of_digit [] i some = absurd (omega (arith, some))
-inside_of_digit (b ∷ bytes) zero some = omega arith
-inside_of_digit (b ∷ bytes) (suc i) some = let inside = inside_of_digit bytes i some in omega (arith, inside)
+inside_of_digit bytes i some = grind (arith, get_or-eq_default)
 
 module _ (bytes : List ℕ) (n end value : ℕ) (most : n ≤ 19) (inside : n ≤ length bytes) (ends : end ≡ 0 + digits_len (take n bytes)) (is : value ≡ (0 * 10 ^ (end - 0) + digits_value 10 (slice_range (take n bytes) 0 end)) % 2 ^ 64) where
   room : length (take n bytes) ≡ n
@@ -288,9 +266,9 @@ split_at (b ∷ line) sign is = by_test (b == 45) refl is
     by_test true e is = inr (is, ap (λ c. c ∷ line) (eqb-true b 45 e) ∙ ap (λ l. 45 ∷ l) (sym (ap (λ s. drop s (b ∷ line)) is)))
     by_test false e is = inl (is, ap (λ s. drop s (b ∷ line)) is, λ m. false≢true (sym e ∙ eq-eqb b 45 m))
 
-pub split_line : (line digits : List ℕ) (sign : ℕ) → sign ≡ (if get_or line 0 0 == 45 then 1 else 0) → digits ≡ take (length line - sign) (drop sign line) → IsSplit line digits sign
-split_line line digits sign is rest =
-    subst (λ l. IsSplit line l sign) (sym (rest ∙ between_to_end line sign (length line) (le_refl _))) (split_at line sign is)
+pub split_line : (line : List ℕ) (sign : ℕ) → sign ≡ (if get_or line 0 0 == 45 then 1 else 0) → IsSplit line (take (length line - sign) (drop sign line)) sign
+split_line line sign is =
+    subst (λ l. IsSplit line l sign) (sym (between_to_end line sign (length line) (le_refl _))) (split_at line sign is)
 
 front_same : (line digits : List ℕ) (sign end : ℕ) → sign ≡ 0 → digits ≡ line → take (sign + end) line ≡ take end digits
 front_same line digits sign end none same =
@@ -306,20 +284,25 @@ sign_length sign end one = omega (arith, one)
 pub split_solid : (line digits : List ℕ) (sign value end : ℕ) → IsSplit line digits sign → AreFront digits value end → All (λ b. (b == 32) ≡ false) (take (sign + end) line)
 split_solid line digits sign value end (inl e) f = subst (All (λ b. (b == 32) ≡ false)) (sym (front_same line digits sign end e.0 e.1)) (no_space_in _ f.digits)
 split_solid line digits sign value end (inr e) f =
-    subst (λ k. All (λ b. (b == 32) ≡ false) (take k line)) (sym (sign_length sign end e.0)) (negative_solid line digits value end e.1 f)
+    subst (λ k. All (λ b. (b == 32) ≡ false) (take k line)) (sym (sign_length sign end e.0))
+    (subst (All (λ b. (b == 32) ≡ false)) (sym (behind_sign line digits end e.1)) (All-cons (λ b. (b == 32) ≡ false) 45 (take end digits) refl (no_space_in (take end digits) f.digits)))
 
 pub split_past : (line digits : List ℕ) (sign value end : ℕ) → IsSplit line digits sign → AreFront digits value end → NoLonger (sign + end) line
 split_past line digits sign value end (inl e) f =
-    subst (λ k. NoLonger k line) (sym (plain_length sign end e.0)) (subst (λ l. NoLonger end l) e.1 (positive_past digits value end f))
-split_past line digits sign value end (inr e) f = subst (λ k. NoLonger k line) (sym (sign_length sign end e.0)) (negative_past line digits value end e.1 f)
+    subst (λ k. NoLonger k line) (sym (plain_length sign end e.0)) (subst (λ l. NoLonger end l) e.1 (λ more. positive_longer (take end digits) more (slice_index digits end) (first_digit digits value end f) (is_past digits value end f)))
+split_past line digits sign value end (inr e) f = subst (λ k. NoLonger k line) (sym (sign_length sign end e.0))
+    (λ more. ap (λ l. number_of (l ++ slice_index line (end + 1) ∷ more)) (behind_sign line digits end e.1)
+    ∙ ap (λ c. number_of ((45 ∷ take end digits) ++ c ∷ more)) (next_behind line digits end e.1)
+    ∙ negative_longer (take end digits) more (slice_index digits end) (is_past digits value end f))
 
 pub split_number : (line digits : List ℕ) (sign value end : ℕ) (number : Option ℤ) → IsSplit line digits sign → AreFront digits value end
     → (sign ≡ 0 → number ≡ (if nat_lt value 9223372036854775808 then Some (pos value) else None)) → (0 < sign → number ≡ (if nat_le value 9223372036854775808 then Some (neg_ℤ (pos value)) else None))
     → number ≡ number_of (take (sign + end) line)
 split_number line digits sign value end number (inl e) f plain behind =
-    plain e.0 ∙ positive_front digits value end f ∙ ap number_of (sym (front_same line digits sign end e.0 e.1))
+    plain e.0 ∙ positive_number (take end digits) value f.digits f.value (first_digit digits value end f) f.fits ∙ ap number_of (sym (front_same line digits sign end e.0 e.1))
 split_number line digits sign value end number (inr e) f plain behind =
-    behind (omega (arith, e.0)) ∙ negative_front line digits value end e.1 f ∙ ap (λ k. number_of (take k line)) (sym (sign_length sign end e.0))
+    behind (omega (arith, e.0)) ∙ negative_number (take end digits) value f.digits f.value (first_digit digits value end f) f.fits
+    ∙ ap number_of (sym (behind_sign line digits end e.1)) ∙ ap (λ k. number_of (take k line)) (sym (sign_length sign end e.0))
 
 -- what begins with a 0
 pub split_zero : (line digits : List ℕ) (sign : ℕ) → IsSplit line digits sign → sign ≡ 0 → 1 ≤ length digits → get_or digits 0 0 ≡ 48 → (1 ≤ length line) × (get_or line 0 0 ≡ 48)
@@ -331,11 +314,6 @@ pub split_none : (line digits : List ℕ) (sign : ℕ) → IsSplit line digits s
 split_none line digits sign (inl e) = sym (ap (λ s. number_of (take s line)) e.0 ∙ no_number)
 split_none line digits sign (inr e) =
     sym (ap (λ s. number_of (take s line)) e.0 ∙ ap (λ l. number_of (take 1 l)) e.1 ∙ not_plain (45 ∷ []) refl)
-
-pub split_none_solid : (line digits : List ℕ) (sign : ℕ) → IsSplit line digits sign → All (λ b. (b == 32) ≡ false) (take sign line)
-split_none_solid line digits sign (inl e) = subst (λ s. All (λ b. (b == 32) ≡ false) (take s line)) (sym e.0) (no_space_in [] tt)
-split_none_solid line digits sign (inr e) =
-    subst (All (λ b. (b == 32) ≡ false)) (sym (ap (λ s. take s line) e.0 ∙ ap (take 1) e.1)) (All-cons (λ b. (b == 32) ≡ false) 45 [] refl (no_space_in [] tt))
 
 pub split_none_past : (line digits : List ℕ) (sign : ℕ) → IsSplit line digits sign → (sign ≡ 0 → get_or digits 0 0 ≡ 48 → ⊥) → (49 ≤ get_or digits 0 0 → get_or digits 0 0 ≤ 57 → ⊥) → NoLonger sign line
 split_none_past line digits sign (inl e) no_zero other =

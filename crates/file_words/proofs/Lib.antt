@@ -2,5 +2,4 @@ mod DigitLemmas
 mod LineLemmas
 mod NearLemmas
 pub mod NumberLemmas
-mod NumbersLemmas
 mod WordLemmas

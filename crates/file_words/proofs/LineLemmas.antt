@@ -1,5 +1,5 @@
 -- Cutting a file into lines.
-use Rattle.std.proofs.Common.{◌≡◌, ◌==◌, ℕ, suc, ◌+◌, ◌<◌, ◌≤◌, Bool, true, false, List, [], ◌∷◌, ◌++◌, length, take, drop, slice_index, get_or, All, le_refl, suc-le-suc, refl, subst, sym, ap, ◌∙◌, arith}
+use Rattle.std.proofs.Common.{◌≡◌, ◌==◌, ℕ, ◌+◌, ◌<◌, ◌≤◌, Bool, true, false, List, [], ◌∷◌, ◌++◌, length, take, drop, slice_index, get_or, All, le_refl, suc-le-suc, refl, subst, sym, ap, ◌∙◌, arith, add-one}
 use Rattle.std.specs.List.{slice_split, join_with_byte}
 use Rattle.std.proofs.lemmas.Bool.{false_from_ne_true, eqb-true}
 use Rattle.std.proofs.lemmas.List.{take-append-drop, drop-drop, take_all, length-take, get_or-take, get_or-drop, length-drop}
@@ -39,13 +39,10 @@ first_byte byte end bytes = NoneBefore (Passes (is_byte byte) bytes) 0 (length b
 uncut : (byte : ℕ) (bytes : List ℕ) → no_byte byte bytes → slice_split (λ b. b == byte) bytes ≡ bytes ∷ []
 uncut byte bytes none = slice_split_none (λ b. b == byte) bytes (subst (All (λ b. (b == byte) ≡ false)) (take_all (length bytes) bytes (le_refl _)) (clear_front byte bytes (length bytes) (le_refl _) none))
 
-suc-add : (n : ℕ) → suc n ≡ n + 1
-suc-add n = omega arith
-
 -- the piece in front of the first one, and the others
 cut_at : (byte : ℕ) (bytes : List ℕ) (end : ℕ) → first_byte byte end bytes → slice_split (λ b. b == byte) bytes ≡ take end bytes ∷ slice_split (λ b. b == byte) (drop (end + 1) bytes)
 cut_at byte bytes end first =
-    let parts : bytes ≡ take end bytes ++ slice_index bytes end ∷ drop (end + 1) bytes = sym (take-append-drop end bytes) ∙ ap (λ l. take end bytes ++ l) (drop-cons bytes end 0 first.0.high ∙ ap (λ n. slice_index bytes end ∷ drop n bytes) (suc-add end)) in
+    let parts : bytes ≡ take end bytes ++ slice_index bytes end ∷ drop (end + 1) bytes = sym (take-append-drop end bytes) ∙ ap (λ l. take end bytes ++ l) (drop-cons bytes end 0 first.0.high ∙ ap (λ n. slice_index bytes end ∷ drop n bytes) (sym (add-one end))) in
     ap (slice_split (λ b. b == byte)) parts
     ∙ slice_split_at (λ b. b == byte) (take end bytes) (slice_index bytes end) (drop (end + 1) bytes) (clear_front byte bytes end (omega (arith, first.0.high)) first.0.before) first.1
 

@@ -1,11 +1,12 @@
 -- Where a byte stands first among those that are compared at once.
-use Rattle.std.proofs.Common.{◌≡◌, ℕ, zero, suc, ◌+◌, ◌<◌, ◌≤◌, ◌^◌, Bool, true, false, cond, eqb, List, [], ◌∷◌, length, get_or, map, Some, refl, sym, subst, ap, ◌∙◌, arith, w64}
+use Rattle.std.proofs.Common.{◌≡◌, ℕ, ◌+◌, ◌<◌, ◌≤◌, ◌^◌, Bool, true, false, cond, eqb, List, length, get_or, map, Some, refl, sym, subst, ap, ◌∙◌, arith, w64}
 use Rattle.std.specs.Int.{bit_at, trailing_zeros}
 use Rattle.std.specs.Simd.Lanes.{chunk, mask_l}
 use Rattle.std.proofs.lemmas.Bool.{false≢true}
 use Rattle.std.proofs.lemmas.List.{get_or-map, length-map}
 use Rattle.std.proofs.lemmas.Nat.Bits.{bit_at-trailing_zeros}
 use Rattle.std.proofs.lemmas.Simd.{bit_mask_l, mask_l-lt, get_or-chunk, length-chunk}
+use Rattle.std.proofs.Math.ListN.{get_or-eq_default}
 use Rattle.std.proofs.Math.Nat.{pow-le-pow_right}
 use Rattle.memchr.specs.Find.{IsFirstByte, is_byte}
 
@@ -18,9 +19,7 @@ clear_tells true is = absurd (omega (arith, is))
 clear_tells false is = refl
 
 inside_of_set : (marks : List Bool) (k : ℕ) → get_or marks k false ≡ true → k < length marks
-inside_of_set [] k set = absurd (false≢true set)
-inside_of_set (m ∷ marks) zero set = omega arith
-inside_of_set (m ∷ marks) (suc k) set = let inside = inside_of_set marks k set in omega (arith, inside)
+inside_of_set marks k set = grind (arith, get_or-eq_default)
 
 module _ (n byte : ℕ) (bytes : List ℕ) (mask : ℕ) (few : n ≤ 32) (room : n ≤ length bytes) (is : mask ≡ mask_l (map (λ b. eqb b byte) (chunk 0 n bytes))) (some : 0 < mask) where
   abbrev lanes : List Bool

@@ -1,5 +1,5 @@
 -- Numbers as words.
-use Rattle.std.proofs.Common.{◌≡◌, ℕ, zero, suc, ◌^◌, ◌<◌, ◌≤◌, List, [], ◌∷◌, length, get_or, Some, None, Bool, true, false, cond, eqb, refl, sym, ap, ◌∙◌, subst, arith}
+use Rattle.std.proofs.Common.{◌≡◌, ℕ, zero, suc, ◌^◌, ◌<◌, ◌≤◌, List, [], ◌∷◌, length, get_or, Some, None, Bool, true, false, eqb, refl, sym, ap, ◌∙◌, subst, arith}
 use Rattle.std.specs.Prelude.{ℤ, pos, negsuc, neg_ℤ, ◌&&◌, ◌||◌, nat_eq, nat_le}
 use Rattle.std.specs.Int.{w64}
 use Rattle.std.specs.Fmt.{decimal, signed_decimal}
@@ -8,6 +8,7 @@ use Rattle.std.proofs.lemmas.Fmt.{decimal_is_IsNumeral, first_decimal, decimal_d
 use Rattle.std.proofs.lemmas.Str.Parse.{IsNumeralModel, numerals_by_value, tells_digits, digit_from_value}
 use Rattle.std.proofs.lemmas.Slice.Eq.{bytes_eq-Decides}
 use Rattle.std.proofs.lemmas.Bool.{ne_eqb, lt-ltb, ltb-true, cond-false, false_from_ne_true, and_from, and_parts, or_left, or_right, le-leb, leb-true, false≢true}
+use Rattle.std.proofs.lemmas.Option.{cond_some}
 use Rattle.std.specs.Prelude.{FitsSigned}
 use Rattle.std.specs.Str.{bytes_eq}
 use Rattle.std.specs.Prelude.{◌≤ℤ◌}
@@ -114,14 +115,10 @@ pub number_is : (word : List ℕ) (n : ℤ) → number_of word ≡ Some n → Is
 unfolding number_of
 number_is word n e =
     let m : ℤ = signed_digits_value 10 word in
-    let c = guard_some (fits_signed m && bytes_eq (signed_decimal m) word) m n e in
+    let c = cond_some (fits_signed m && bytes_eq (signed_decimal m) word) m n e in
     let p = and_parts _ _ c.0 in
     let same : signed_decimal m ≡ word = (bytes_eq-Decides (signed_decimal m) word).0 p.1 in
     subst (IsNumber word) c.1 (fits_from_test m p.0, sym same)
-  where
-    guard_some : {A : Type 0} (t : Bool) (x y : A) → cond t (Some x) None ≡ Some y → (t ≡ true) × (x ≡ y)
-    guard_some true x y e = (refl, cc)
-    guard_some false x y e = absurd cc
 
 -- The numbers of 64 bits are those from the lowest to the highest.
 pub fits_bounds : (n : ℤ) → FitsSigned w64 n → (lowest ≤ℤ n) × (n ≤ℤ highest)

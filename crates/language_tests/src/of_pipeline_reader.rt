@@ -18,18 +18,19 @@ fn told(alloc: Global, file: &[u8]) -> Result<String, AllocError> {
     }
 }
 
-/// The first of the rows, each with the lines behind the first one, that is told otherwise, by its place.
-fn first_wrong(
+/// The first of the rows, each of the lines behind the first one and of what is told behind `-> `, that is told otherwise.
+fn first_wrong<'a>(
     alloc: Global,
     first_line: &[u8],
-    rows: &[(&[u8], &str)],
-) -> Result<Option<usize>, AllocError> {
-    for (index, (lines, wanted)) in rows.iter().enumerate() {
+    rows: &[&'a str],
+) -> Result<Option<&'a str>, AllocError> {
+    for row in rows {
+        let (lines, wanted) = row.split_once("-> ").unwrap_or((*row, ""));
         let mut file = Vec::new(alloc);
         file.extend_from_slice(first_line)?;
-        file.extend_from_slice(lines)?;
-        if told(alloc, file.as_slice())?.as_str() != *wanted {
-            return Ok(Some(index));
+        file.extend_from_slice(lines.as_bytes())?;
+        if told(alloc, file.as_slice())?.as_str() != wanted {
+            return Ok(Some(*row));
         }
     }
     Ok(None)

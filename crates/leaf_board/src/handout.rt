@@ -103,6 +103,11 @@ pub trait Handout {
         ensures falls { cut seat.new ≤ cut seat.old }
         ensures skips { SkipsLeaf (status seat.old) (leaf_of pass) (cut seat.new) result leaf_of (status seat.new) };
 
+    /// Whether the run is to end with no value. No answer depends on it but the one that memory was refused.
+    fn is_halted(&self) -> bool {
+        false
+    }
+
     /// Spends the pass of a leaf that was refused memory, which stays without a count.
     fn give_up(&self, seat: &mut Self::Seat, pass: Self::Pass)
         requires of { is_of self.now seat.old }

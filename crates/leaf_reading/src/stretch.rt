@@ -15,6 +15,7 @@ const STRETCH: u64 = 1024;
 const ROUND: u64 = 16;
 
 /// Feeds one of the source's items to a sink. Says whether it did: nothing is left, or no item makes a difference any more.
+#[inline(always)]
 fn feed_one<S: Spliterator, G: Stage<In = S::Item>, K: Sink<G::Out>>(
     stage: &G,
     source: &mut S,
@@ -65,6 +66,7 @@ fn feed_some<S: Spliterator, G: Stage<In = S::Item>, K: Sink<G::Out>>(
 /// may make a difference.
 ///
 /// The loop keeps one number, the source's own. Where it is at least a round's, that each item of a round is there follows from it.
+#[inline(always)]
 fn feed_rounds<S: Spliterator, G: Stage<In = S::Item>, K: Sink<G::Out>>(
     stage: &G,
     source: &mut S,
@@ -91,6 +93,7 @@ fn feed_rounds<S: Spliterator, G: Stage<In = S::Item>, K: Sink<G::Out>>(
 /// Feeds a source's items to a sink until it tells that no more than so many are left. Says whether more may make a difference.
 ///
 /// It feeds rounds as long as one fits, and then single items.
+#[inline(always)]
 fn feed_counted<S: Spliterator, G: Stage<In = S::Item>, K: Sink<G::Out>>(
     stage: &G,
     source: &mut S,
@@ -121,6 +124,7 @@ fn feed_counted<S: Spliterator, G: Stage<In = S::Item>, K: Sink<G::Out>>(
 }
 
 /// Feeds a stretch of what the source covers to a sink, item by item. Says whether more may make a difference.
+#[inline(always)]
 fn feed_items<S: Spliterator, G: Stage<In = S::Item>, K: Sink<G::Out>>(
     stage: &G,
     source: &mut S,
@@ -140,6 +144,7 @@ fn feed_items<S: Spliterator, G: Stage<In = S::Item>, K: Sink<G::Out>>(
 }
 
 /// Feeds a block of at most so many of a source's items to a sink. Says whether more may make a difference.
+#[inline(always)]
 fn feed_block<S: Spliterator, G: Stage<In = S::Item>, K: Sink<G::Out>>(
     stage: &G,
     source: &mut S,
@@ -167,6 +172,7 @@ fn feed_block<S: Spliterator, G: Stage<In = S::Item>, K: Sink<G::Out>>(
 
 /// Feeds a stretch of a source's items to a sink in blocks that grow: each is as long as those before it, and 64 at least. Says whether more may
 /// make a difference.
+#[inline(always)]
 fn feed_growing<S: Spliterator, G: Stage<In = S::Item>, K: Sink<G::Out>>(
     stage: &G,
     source: &mut S,
@@ -194,6 +200,7 @@ fn feed_growing<S: Spliterator, G: Stage<In = S::Item>, K: Sink<G::Out>>(
 
 /// Feeds a block of a source's items to a sink where they lie, and says whether more may make a difference: nothing where the source, the
 /// stage or the sink can't do so, and then all is as it was.
+#[inline(always)]
 fn feed_lent<S: Spliterator, G: Stage<In = S::Item>, K: Sink<G::Out>>(
     stage: &G,
     source: &mut S,
@@ -223,6 +230,7 @@ fn feed_lent<S: Spliterator, G: Stage<In = S::Item>, K: Sink<G::Out>>(
 }
 
 /// Feeds a stretch of what the source covers to a sink, as the stage prefers it. Says whether more may make a difference.
+#[inline(always)]
 fn feed_stretch<S: Spliterator, G: Stage<In = S::Item>, K: Sink<G::Out>>(
     stage: &G,
     source: &mut S,
@@ -277,6 +285,9 @@ pub(crate) fn feed_until_cut<B: Handout, S: Spliterator, G: Stage<In = S::Item>,
         }
         if board.is_cut(seat, leaf) {
             return Ok(false);
+        }
+        if board.is_halted() {
+            return Err(NoMemory);
         }
     }
 }

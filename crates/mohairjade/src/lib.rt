@@ -1,38 +1,189 @@
 //! All that a program needs of this library, under one name.
 //!
 //! ```text
-//! use mohairjade::{Even, RangeSplit, Run, Stream, Times, WrapAdd, of};
+//! use mohairjade::{Engine, Even, Numbers, RangeSplit, Run, Stream, Times, of};
 //!
 //! let numbers = of(RangeSplit::range(0, 100)?).filter(Even).map(Times(3));
-//! let sum = numbers.reduce(&rt, rt.alloc(), &Run::new(4), 0, &WrapAdd::new())?;
+//! let engine = Engine::new(&rt, rt.alloc(), &Run::new(4))?;
+//! let sum = numbers.sum(&engine)?;
 //! ```
 #![tactic(auto)]
 
-pub mod collecting;
-pub mod concatenating;
-pub mod more_sources;
-pub mod sorting;
-pub mod terminals;
-
-pub use collectors::{
-    Collector, CollectorDefinition, CollectorOf, Counting, DuplicateKey, FilteringTo, First,
-    GroupingBy, Joining, MappingTo, Pairing, Partition, PartitioningBy, Reducing, SummingLong,
-    Teeing, ToList, ToMap, ToMapStrict,
-};
-pub use derived_collectors::{BestByKey, CollectingAndThen, Finisher, FlatMappingTo, ToSet};
-pub use parallel_streams::{MapError, Run, Stream, StreamError, container_of, fold_into, of};
-pub use parts::{
-    Above, And, Below, Cloned, Composed, Divisible, Equal, Even, Itself, Length, Modulo, Negated,
-    Not, OnFirst, OnSecond, Or, Plus, StartsWith, Times, mapping, operator, test,
-};
-pub use sources::{
-    Concat, DequeSplit, LentSplit, LinesSplit, RangeSplit, RangeTooLong, SliceSplit, Windowed,
-};
-pub use spliterator::{NoMemory, OrderedValue, Spliterator, Text, Value};
-pub use stages::{
-    Filter, FirstOf, FromFn, LastOf, ListValue, Map, Mapping, MappingDefinition, Max, Min, Nothing,
-    Operator, OperatorDefinition, OperatorFn, Sink, Stage, Test, TestDefinition, TestFn, Then,
-    WrapAdd, WrapMul,
-};
-pub use stealing_pool::{Gate, NoGate, RunEntry, RunReport};
-pub use summaries::{Summarizing, Summary};
+pub use barriers::Distinct;
+pub use barriers::DropWhile;
+pub use barriers::Limit;
+pub use barriers::Skip;
+pub use barriers::TakeWhile;
+pub use collectors::Collector;
+pub use collectors::CollectorDefinition;
+pub use collectors::CollectorOf;
+pub use collectors::Counting;
+pub use collectors::DuplicateKey;
+pub use collectors::FilteringTo;
+pub use collectors::First;
+pub use collectors::GroupingBy;
+pub use collectors::Joining;
+pub use collectors::MappingTo;
+pub use collectors::Pairing;
+pub use collectors::Partition;
+pub use collectors::PartitioningBy;
+pub use collectors::Reducing;
+pub use collectors::SummingLong;
+pub use collectors::Teeing;
+pub use collectors::ToList;
+pub use collectors::ToMap;
+pub use collectors::ToMapStrict;
+pub use derived_collectors::BestByKey;
+pub use derived_collectors::CollectingAndThen;
+pub use derived_collectors::Deciding;
+pub use derived_collectors::Finisher;
+pub use derived_collectors::FlatMappingTo;
+pub use derived_collectors::Fraction;
+pub use derived_collectors::IntoDeque;
+pub use derived_collectors::IntoFraction;
+pub use derived_collectors::IntoLong;
+pub use derived_collectors::Scanning;
+pub use derived_collectors::Summarizing;
+pub use derived_collectors::Summary;
+pub use derived_collectors::SummingExact;
+pub use derived_collectors::ToSet;
+pub use derived_collectors::Trying;
+pub use derived_collectors::Whole;
+pub use derived_collectors::averaging;
+pub use derived_collectors::grouping_by;
+pub use derived_collectors::partitioning_by;
+pub use derived_collectors::summing_checked;
+pub use derived_collectors::to_deque;
+pub use gates::Deadline;
+pub use gates::Ended;
+pub use gates::Halt;
+pub use gates::Looks;
+pub use gates::Meter;
+pub use gates::Stop;
+pub use gates::Until;
+pub use line_blocks::LinesError;
+pub use line_readers::LineFunction;
+pub use line_readers::LineStream;
+pub use line_readers::LinesOf;
+pub use line_readers::OwnLine;
+pub use line_readers::ReadLines;
+pub use line_readers::lines_of;
+pub use parallel_streams::Barred;
+pub use parallel_streams::Engine;
+pub use parallel_streams::MapError;
+pub use parallel_streams::Plumbing;
+pub use parallel_streams::Run;
+pub use parallel_streams::Source;
+pub use parallel_streams::Staged;
+pub use parallel_streams::Stream;
+pub use parallel_streams::StreamError;
+pub use parallel_streams::container_of;
+pub use parallel_streams::container_until;
+pub use parallel_streams::fold_into;
+pub use parallel_streams::of;
+pub use parallel_streams::rows;
+pub use placed_sources::Chunks;
+pub use placed_sources::ChunksOf;
+pub use placed_sources::Reversed;
+pub use placed_sources::StepBy;
+pub use placed_sources::Windows;
+pub use placed_sources::WindowsOf;
+pub use placed_sources::Zip;
+pub use placed_sources::indexed;
+pub use placed_sources::take_last;
+pub use sources::Concat;
+pub use sources::CopiesSplit;
+pub use sources::DequeSplit;
+pub use sources::EntriesSplit;
+pub use sources::Iterated;
+pub use sources::KeysSplit;
+pub use sources::LentSplit;
+pub use sources::LinesSplit;
+pub use sources::RangeSplit;
+pub use sources::RangeTooLong;
+pub use sources::RowsSplit;
+pub use sources::SliceSplit;
+pub use sources::SortedSplit;
+pub use sources::Step;
+pub use sources::Windowed;
+pub use spliterator::Bounded;
+pub use spliterator::EqualValue;
+pub use spliterator::NoMemory;
+pub use spliterator::OrderedValue;
+pub use spliterator::Row;
+pub use spliterator::SortedValue;
+pub use spliterator::Spliterator;
+pub use spliterator::Text;
+pub use spliterator::Value;
+pub use stages::Filter;
+pub use stages::FirstOf;
+pub use stages::FromFn;
+pub use stages::LastOf;
+pub use stages::ListValue;
+pub use stages::Map;
+pub use stages::Mapping;
+pub use stages::MappingDefinition;
+pub use stages::Max;
+pub use stages::Min;
+pub use stages::Nothing;
+pub use stages::Operator;
+pub use stages::OperatorDefinition;
+pub use stages::OperatorFn;
+pub use stages::Sink;
+pub use stages::Stage;
+pub use stages::Test;
+pub use stages::TestDefinition;
+pub use stages::TestFn;
+pub use stages::Then;
+pub use stages::WrapAdd;
+pub use stages::WrapMul;
+pub use stealing_pool::Gate;
+pub use stealing_pool::NoGate;
+pub use stealing_pool::RunEntry;
+pub use stealing_pool::RunReport;
+pub use stream_functions::Above;
+pub use stream_functions::And;
+pub use stream_functions::AsLong;
+pub use stream_functions::Below;
+pub use stream_functions::Cloned;
+pub use stream_functions::Composed;
+pub use stream_functions::Contains;
+pub use stream_functions::Divisible;
+pub use stream_functions::EndsWith;
+pub use stream_functions::Equal;
+pub use stream_functions::Even;
+pub use stream_functions::Gives;
+pub use stream_functions::Itself;
+pub use stream_functions::JoinedBy;
+pub use stream_functions::Joins;
+pub use stream_functions::Length;
+pub use stream_functions::LowerCase;
+pub use stream_functions::MadeBy;
+pub use stream_functions::Modulo;
+pub use stream_functions::Negated;
+pub use stream_functions::Not;
+pub use stream_functions::Number;
+pub use stream_functions::NumberOr;
+pub use stream_functions::OnFirst;
+pub use stream_functions::OnSecond;
+pub use stream_functions::Or;
+pub use stream_functions::Piece;
+pub use stream_functions::PlainMapping;
+pub use stream_functions::Plus;
+pub use stream_functions::StartsWith;
+pub use stream_functions::SuchThat;
+pub use stream_functions::Tells;
+pub use stream_functions::Times;
+pub use stream_functions::Trimmed;
+pub use stream_functions::joined_by;
+pub use stream_functions::made_by;
+pub use stream_functions::piece_of;
+pub use stream_functions::such;
+pub use terminals::Descending;
+pub use terminals::FirstSorted;
+pub use terminals::Numbers;
+pub use terminals::Sorting;
+pub use terminals::SortingBy;
+pub use terminals::Terminals;
+pub use terminals::to_sorted_list;
+pub use terminals::to_sorted_list_by_key;

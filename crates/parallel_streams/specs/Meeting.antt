@@ -28,7 +28,7 @@ module _ {C : Type 0} (p : C → Bool) where
   met-at true n rest enough later = refl
   met-at false n rest enough later = later (omega arith)
 
-  met-of : (l : List C) → 1 ≤ count_by p l → any_meets p l ≡ true
+  pub met-of : (l : List C) → 1 ≤ count_by p l → any_meets p l ≡ true
   met-of [] enough = absurd (omega arith)
   met-of (x ∷ l) enough =
       let count = sum_by-cons (λ x. cond (p x) 1 0) x l in

@@ -4,7 +4,7 @@ ghost use Rattle.parallel_streams.specs.Leaves.{IsCutList};
 ghost use Rattle.parallel_streams.specs.Reports.{IsBarrierReport};
 ghost use Rattle.stages.specs.Flags.{after};
 
-use crate::Stream;
+use crate::Plumbing;
 use crate::part::{BarredProgress, Listed, Part, end_before, end_own};
 use crate::places::Places;
 use barriers::{Barrier, Behind, Demand, Need};
@@ -21,13 +21,16 @@ use stealing_pool::RunEntry;
 /// A stream's items through a barrier. A clone of an item must have the item's content: that is part of what the stream relies on.
 ///
 /// The type asks nothing of the stream before it, since a bound here would bind that stream's lifetimes in every call of a stream that borrows.
-#[derive(Drop)]
+#[derive(Clone, Copy, Drop)]
 pub struct Barred<U, B> {
     pub upstream: U,
     pub barrier: B,
 }
 
-impl<U: Stream, B: Barrier<U::Item>> Stream for Barred<U, B> {
+impl<U: Plumbing, B: Barrier<U::Item> + Sync> Plumbing for Barred<U, B>
+where
+    B::State: Send + Sync,
+{
     ghost use Rattle.std.specs.Prelude.{◌⊎◌, true};
     ghost use Rattle.barriers.specs.Needs.{IsEnough};
     ghost use Rattle.parallel_streams.specs.Reading.{ReadsBarred, StandsBehind};
@@ -196,15 +199,10 @@ impl<U: Stream, B: Barrier<U::Item>> Stream for Barred<U, B> {
         })
     }
 
-    fn segment_size(
-        &self,
-        progress: &BarredProgress<U::Progress, B::State, U::Item>,
-    ) -> Option<u64> {
-        let size = self.upstream.segment_size(&progress.before);
-        if progress.passes {
-            size
-        } else {
-            self.barrier.size_after(size)
+    fn estimate(&self, progress: &BarredProgress<U::Progress, B::State, U::Item>) -> u64 {
+        match &progress.listed {
+            Some(listed) => listed.items.len() as u64,
+            None => self.upstream.estimate(&progress.before),
         }
     }
 

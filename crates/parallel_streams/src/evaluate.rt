@@ -5,10 +5,9 @@ ghost use Rattle.leaf_reading.specs.Fronts.{folding};
 ghost use Rattle.stealing_pool.specs.Spans.{work_of, joined};
 ghost use Rattle.leaf_board.specs.Closing.{Outcome};
 ghost use Rattle.parallel_streams.specs.Reports.{IsReport, IsRunOver};
-ghost use Rattle.parallel_streams.specs.Runs.{IsLawfulRun};
 
 use crate::handover::{hand_over, list_over};
-use crate::{Run, Stream};
+use crate::{Engine, Plumbing};
 use barriers::{Demand, Need, Whole};
 use collectors::{Collector, combine_containers};
 use leaf_board::Handout;
@@ -17,17 +16,18 @@ use spliterator::NoMemory;
 use stages::Nothing;
 use std::alloc::Global;
 use std::thread::Threads;
+use std::time::Clock;
 use stealing_pool::{Gate, LeafJob, RunEntry, run_job};
 
 // The run of the next barrier.
 #[derive(Drop)]
-struct BarrierRun<'a, 'b, X: Stream> {
+struct BarrierRun<'a, 'b, X: Plumbing> {
     alloc: Global,
     stream: &'a X,
     progress: &'b X::Progress,
 }
 
-impl<X: Stream> LeafJob for BarrierRun<'_, '_, X> {
+impl<X: Plumbing> LeafJob for BarrierRun<'_, '_, X> {
     type Kept = X::Part;
 
     ghost ready = { λ j. X.ready j.stream.now × X.holds j.stream.now j.progress.now × (X.done j.stream.now j.progress.now ≡ false) };
@@ -40,6 +40,10 @@ impl<X: Stream> LeafJob for BarrierRun<'_, '_, X> {
 
     fn need(&self) -> Need {
         self.stream.need(self.progress)
+    }
+
+    fn estimate(&self) -> u64 {
+        self.stream.estimate(self.progress)
     }
 
     fn run_leaf<B: Handout>(
@@ -59,7 +63,7 @@ impl<X: Stream> LeafJob for BarrierRun<'_, '_, X> {
 
 // The last run.
 #[derive(Drop)]
-struct LastRun<'a, 'b, 'c, 'd, X: Stream, D, C> {
+struct LastRun<'a, 'b, 'c, 'd, X: Plumbing, D, C> {
     alloc: Global,
     stream: &'a X,
     progress: &'b X::Progress,
@@ -67,7 +71,7 @@ struct LastRun<'a, 'b, 'c, 'd, X: Stream, D, C> {
     collector: &'d C,
 }
 
-impl<X: Stream, D: Demand<X::Item>, C: Collector<Item = X::Item>> LeafJob
+impl<X: Plumbing, D: Demand<X::Item>, C: Collector<Item = X::Item>> LeafJob
     for LastRun<'_, '_, '_, '_, X, D, C> {
     type Kept = C::Acc;
 
@@ -81,6 +85,10 @@ impl<X: Stream, D: Demand<X::Item>, C: Collector<Item = X::Item>> LeafJob
 
     fn need(&self) -> Need {
         self.demand.need()
+    }
+
+    fn estimate(&self) -> u64 {
+        self.stream.estimate(self.progress)
     }
 
     fn run_leaf<B: Handout>(
@@ -109,7 +117,7 @@ impl<X: Stream, D: Demand<X::Item>, C: Collector<Item = X::Item>> LeafJob
 
 // Promises of the lists of the last run's leaves that they are the segment's items, end to end, which are read then; and where the segment is the
 // whole, that they are the stream's, how they are cut, and that the entries so far are all.
-fn promise_whole<X: Stream>(_stream: &X, _progress: &X::Progress)
+fn promise_whole<X: Plumbing>(_stream: &X, _progress: &X::Progress)
     requires holds { X.holds _stream.now _progress.now }
     requires done { X.done _stream.now _progress.now ≡ true }
     ensures left { X.left _stream.now _progress.now
@@ -134,19 +142,12 @@ pub struct Evaluated<A> {
 }
 
 // Runs the next barrier. Answers how far the stream has come, and the entry of the run.
-fn run_barrier<R: Threads + Sync, X: Stream + Sync, H: Gate + Sync>(
-    rt: &R,
-    alloc: Global,
+fn run_barrier<R: Threads + Clock + Sync, X: Plumbing, H: Gate + Sync>(
+    engine: &Engine<'_, R, H>,
     stream: &X,
-    run: &Run<'_, H>,
     progress: X::Progress,
 ) -> Result<(X::Progress, RunEntry), NoMemory>
-where
-    X::Item: Send + Sync,
-    X::Progress: Send + Sync,
-    X::Part: Send,
     requires stream { X.ready stream.now }
-    requires settings { IsLawfulRun run.now.workers run.now.target }
     requires holds { X.holds stream.now progress }
     requires waits { X.done stream.now progress ≡ false }
     ensures holds { IfOk result (λ r. X.holds stream.now r.0) }
@@ -154,46 +155,46 @@ where
     ensures still { IfOk result (λ r. X.still stream.now r.0 ≡ X.still stream.now progress) }
     ensures reads { (from to : ℕ) → X.reads stream.now progress from to
         → IfOk result (λ r. X.reads stream.now r.0 from to) }
-    ensures planned { let planned = X.planned stream.now run.now.workers run.now.target in
+    ensures planned { let planned = X.planned stream.now engine.now.run.workers engine.now.run.target in
         planned progress → IfOk result (λ r. planned r.0) }
-    ensures entries { let planned = X.planned stream.now run.now.workers run.now.target in
-        let told = X.told_so_far stream.now run.now.workers run.now.target in
+    ensures entries { let planned = X.planned stream.now engine.now.run.workers engine.now.run.target in
+        let told = X.told_so_far stream.now engine.now.run.workers engine.now.run.target in
         planned progress → (entries : List Outcome) → told progress entries
         → IfOk result (λ r. told r.0 (entries ++ r.1 ∷ [])) }
     ensures fewer { IfOk result (λ r. X.waiting stream.now r.0 < X.waiting stream.now progress) }
 {
     let job = BarrierRun {
-        alloc,
+        alloc: engine.alloc,
         stream,
         progress: &progress,
     };
     let tree = stream.tree(&progress);
-    let gathered = run_job(rt, alloc, tree, &job, run.workers, run.gate)?;
+    let gathered = run_job(
+        engine.rt,
+        engine.alloc,
+        tree,
+        &job,
+        engine.run.workers,
+        engine.run.gate,
+    )?;
     let after = stream.gather(
-        alloc,
+        engine.alloc,
         progress,
         gathered.acc,
         &gathered.entry,
-        run.workers,
-        run.target,
+        engine.run.workers,
+        engine.run.target,
     )?;
     Ok((after, gathered.entry))
 }
 
 /// Runs the barriers over the present segment, one after another. Answers how far the stream has come, and the entries of the runs.
-pub fn run_barriers<R: Threads + Sync, X: Stream + Sync, H: Gate + Sync>(
-    rt: &R,
-    alloc: Global,
+pub fn run_barriers<R: Threads + Clock + Sync, X: Plumbing, H: Gate + Sync>(
+    engine: &Engine<'_, R, H>,
     stream: &X,
-    run: &Run<'_, H>,
     progress: X::Progress,
 ) -> Result<(X::Progress, Vec<RunEntry>), NoMemory>
-where
-    X::Item: Send + Sync,
-    X::Progress: Send + Sync,
-    X::Part: Send,
     requires stream { X.ready stream.now }
-    requires settings { IsLawfulRun run.now.workers run.now.target }
     requires holds { X.holds stream.now progress }
     ensures holds { IfOk result (λ r. X.holds stream.now r.0) }
     ensures done { IfOk result (λ r. X.done stream.now r.0 ≡ true) }
@@ -203,19 +204,19 @@ where
     ensures read { let front = X.front stream.now in
         (from to : ℕ) → X.reads stream.now progress from to → IfOk result (λ r. X.read stream.now r.0 to
         × (front to ≡ front from ++ joined (X.parts stream.now r.0))) }
-    ensures whole { X.planned stream.now run.now.workers run.now.target progress
+    ensures whole { X.planned stream.now engine.now.run.workers engine.now.run.target progress
         → IfOk result (λ r. joined (X.parts stream.now r.0) ≡ X.value stream.now) }
-    ensures cut { let cut_into = X.cut_into stream.now run.now.workers run.now.target in
-        X.planned stream.now run.now.workers run.now.target progress
+    ensures cut { let cut_into = X.cut_into stream.now engine.now.run.workers engine.now.run.target in
+        X.planned stream.now engine.now.run.workers engine.now.run.target progress
         → IfOk result (λ r. cut_into (X.parts stream.now r.0)) }
-    ensures entries { X.planned stream.now run.now.workers run.now.target progress
-        → X.told_so_far stream.now run.now.workers run.now.target progress []
-        → IfOk result (λ r. X.reported stream.now run.now.workers run.now.target r.1.items) }
+    ensures entries { X.planned stream.now engine.now.run.workers engine.now.run.target progress
+        → X.told_so_far stream.now engine.now.run.workers engine.now.run.target progress []
+        → IfOk result (λ r. X.reported stream.now engine.now.run.workers engine.now.run.target r.1.items) }
 {
-    let mut entries = Vec::new(alloc);
+    let mut entries = Vec::new(engine.alloc);
     let mut progress = progress;
     while !stream.is_gathered(&progress) {
-        let (after, entry) = run_barrier(rt, alloc, stream, run, progress)?;
+        let (after, entry) = run_barrier(engine, stream, progress)?;
         progress = after;
         entries.push(entry)?;
     }
@@ -225,30 +226,24 @@ where
 
 /// Runs the leaves of the last run into a collector, as far as the demand asks.
 pub fn run_last<
-    R: Threads + Sync,
-    X: Stream + Sync,
+    R: Threads + Clock + Sync,
+    X: Plumbing,
     D: Demand<X::Item> + Sync,
     C: Collector<Item = X::Item> + Sync,
     H: Gate + Sync,
 >(
-    rt: &R,
-    alloc: Global,
+    engine: &Engine<'_, R, H>,
     stream: &X,
-    run: &Run<'_, H>,
     progress: &X::Progress,
     demand: &D,
     collector: &C,
 ) -> Result<(C::Acc, RunEntry), NoMemory>
 where
-    X::Item: Send + Sync,
-    X::Progress: Send + Sync,
-    X::Part: Send,
     C::Acc: Send,
     C::Out: Send,
     requires stream { X.ready stream.now }
     requires demand { D.ready demand.now }
     requires collector { C.ready collector.now }
-    requires settings { IsLawfulRun run.now.workers run.now.target }
     requires holds { X.holds stream.now progress.now }
     requires done { X.done stream.now progress.now ≡ true }
     ensures { let needs = folding (D.needed demand.now) (D.counted demand.now) X.Item.is_value in
@@ -256,40 +251,41 @@ where
         IfOk result (λ r. IsRunOver fold (C.content collector.now r.0) (X.parts stream.now progress.now) r.1) }
 {
     let job = LastRun {
-        alloc,
+        alloc: engine.alloc,
         stream,
         progress,
         demand,
         collector,
     };
     let tree = stream.tree(progress);
-    let last = run_job(rt, alloc, tree, &job, run.workers, run.gate)?;
+    let last = run_job(
+        engine.rt,
+        engine.alloc,
+        tree,
+        &job,
+        engine.run.workers,
+        engine.run.gate,
+    )?;
     Ok((last.acc, last.entry))
 }
 
 /// Runs all the leaves of the last run into a collector, or hands it the list that the last barrier left, where it keeps that as it stands.
 pub fn run_whole<
-    R: Threads + Sync,
-    X: Stream + Sync,
+    R: Threads + Clock + Sync,
+    X: Plumbing,
     C: Collector<Item = X::Item> + Sync,
     H: Gate + Sync,
 >(
-    rt: &R,
-    alloc: Global,
+    engine: &Engine<'_, R, H>,
     stream: &X,
-    run: &Run<'_, H>,
     progress: &mut X::Progress,
     collector: &C,
 ) -> Result<(C::Acc, RunEntry), NoMemory>
 where
-    X::Item: Send + Sync,
-    X::Progress: Send + Sync,
-    X::Part: Send,
     C::Acc: Send,
     C::Out: Send,
     requires stream { X.ready stream.now }
     requires collector { C.ready collector.now }
-    requires settings { IsLawfulRun run.now.workers run.now.target }
     requires holds { X.holds stream.now progress.old }
     requires done { X.done stream.now progress.old ≡ true }
     ensures run { let all = folding None no_item X.Item.is_value (C.empty collector.now) (C.add collector.now) in
@@ -301,47 +297,37 @@ where
     ensures read { (n : ℕ) → X.read stream.now progress.old n → X.read stream.now progress.new n }
 {
     if !collector.keeps_lists() {
-        return run_last(rt, alloc, stream, run, progress, &Whole, collector);
+        return run_last(engine, stream, progress, &Whole, collector);
     }
     match stream.take_listed(progress) {
-        Some(listed) => hand_over(rt, alloc, run.gate, listed, collector),
-        None if run.workers == 1 => { list_over(rt, alloc, stream, run.gate, progress, collector) }
-        None => run_last(rt, alloc, stream, run, progress, &Whole, collector),
+        Some(listed) => hand_over(engine, listed, collector),
+        None if engine.run.workers == 1 => list_over(engine, stream, progress, collector),
+        None => run_last(engine, stream, progress, &Whole, collector),
     }
 }
 
 /// Runs the barriers over the whole source, one after another, and then all that they leave into a collector.
 pub fn evaluate<
-    R: Threads + Sync,
-    X: Stream + Sync,
+    R: Threads + Clock + Sync,
+    X: Plumbing,
     C: Collector<Item = X::Item> + Sync,
     H: Gate + Sync,
->(
-    rt: &R,
-    alloc: Global,
-    stream: &X,
-    run: &Run<'_, H>,
-    collector: &C,
-) -> Result<Evaluated<C::Acc>, NoMemory>
+>(engine: &Engine<'_, R, H>, stream: &X, collector: &C) -> Result<Evaluated<C::Acc>, NoMemory>
 where
-    X::Item: Send + Sync,
-    X::Progress: Send + Sync,
-    X::Part: Send,
     C::Acc: Send,
     C::Out: Send,
     requires stream { X.ready stream.now }
     requires collector { C.ready collector.now }
-    requires settings { IsLawfulRun run.now.workers run.now.target }
-    ensures { let workers = run.now.workers in
-        let target = run.now.target in
+    ensures { let workers = engine.now.run.workers in
+        let target = engine.now.run.target in
         let all = folding None no_item X.Item.is_value (C.empty collector.now) (C.add collector.now) in
         IfOk result (λ e. IsReport (X.cut_into stream.now workers target) (X.value stream.now)
         (X.reported stream.now workers target) (IsRunOver all (C.content collector.now e.acc))
         e.entries.items) }
 {
-    let whole = stream.start(alloc, run.workers, run.target, None)?;
-    let (mut progress, mut entries) = run_barriers(rt, alloc, stream, run, whole)?;
-    let (acc, entry) = run_whole(rt, alloc, stream, run, &mut progress, collector)?;
+    let whole = stream.start(engine.alloc, engine.run.workers, engine.run.target, None)?;
+    let (mut progress, mut entries) = run_barriers(engine, stream, whole)?;
+    let (acc, entry) = run_whole(engine, stream, &mut progress, collector)?;
     entries.push(entry)?;
     Ok(Evaluated { acc, entries })
 }

@@ -8,9 +8,9 @@ ghost use Rattle.stealing_pool.specs.Reports.{Reports};
 ghost use Rattle.parallel_streams.specs.Ends.{ends_of};
 ghost use Rattle.parallel_streams.specs.Sources.{idle_work};
 
-use crate::Stream;
 use crate::part::Listed;
 use crate::places::Places;
+use crate::{Engine, Plumbing};
 use barriers::Need;
 use collectors::{Collector, fold_owned};
 use leaf_board::Handout;
@@ -20,6 +20,7 @@ use spliterator::NoMemory;
 use stages::Nothing;
 use std::alloc::Global;
 use std::thread::Threads;
+use std::time::Clock;
 use stealing_pool::{Gate, LeafJob, NoGate, RunEntry, run_job};
 
 // The run of so many leaves that read nothing.
@@ -56,7 +57,7 @@ impl LeafJob for IdleRun {
 }
 
 // The entry of a run whose leaves read nothing, in this thread.
-fn run_idle<R: Threads + Sync, H: Gate + Sync>(
+fn run_idle<R: Threads + Clock + Sync, H: Gate + Sync>(
     rt: &R,
     alloc: Global,
     tree: &Tree,
@@ -73,10 +74,8 @@ fn run_idle<R: Threads + Sync, H: Gate + Sync>(
 }
 
 /// Hands a barrier's list over to a collector. Its leaves are run in this thread, and none of them reads an item.
-pub fn hand_over<R: Threads + Sync, C: Collector, H: Gate + Sync>(
-    rt: &R,
-    alloc: Global,
-    gate: &H,
+pub fn hand_over<R: Threads + Clock + Sync, C: Collector, H: Gate + Sync>(
+    engine: &Engine<'_, R, H>,
     listed: Listed<C::Item>,
     collector: &C,
 ) -> Result<(C::Acc, RunEntry), NoMemory>
@@ -89,7 +88,14 @@ where
         IfOk result (λ r. Reports None leaves (λ _. 0) r.1.leaves (count_of r.1) (cut_of r.1)) }
 {
     let Listed { items, places } = listed;
-    let entry = run_idle(rt, alloc, places.tree(), places.leaves(), gate)?;
+    let gate = engine.run.gate;
+    let entry = run_idle(
+        engine.rt,
+        engine.alloc,
+        places.tree(),
+        places.leaves(),
+        gate,
+    )?;
     let acc = fold_owned(collector, items)?;
     Ok((acc, entry))
 }
@@ -106,10 +112,9 @@ fn list_for<T: Drop>(alloc: Global, size: Option<u64>) -> Vec<T>
 }
 
 // Lists all that the leaves of the last run give, one leaf after another in this thread.
-fn list_leaves<X: Stream, H: Gate>(
-    alloc: Global,
+fn list_leaves<R, X: Plumbing, H: Gate>(
+    engine: &Engine<'_, R, H>,
     stream: &X,
-    gate: &H,
     progress: &X::Progress,
 ) -> Result<Vec<X::Item>, NoMemory>
     requires stream { X.ready stream.now }
@@ -119,10 +124,18 @@ fn list_leaves<X: Stream, H: Gate>(
     ensures leaves { X.leaves_next stream.now progress.now ≡ length (X.parts stream.now progress.now) }
 {
     let nothing = Nothing::new();
-    let mut list = list_for::<X::Item>(alloc, stream.known_size());
+    let gate = engine.run.gate;
+    let mut list = list_for::<X::Item>(engine.alloc, stream.known_size());
+    if gate.is_halted() {
+        return Err(NoMemory);
+    }
+    gate.before_run(stream.leaves(progress));
     for leaf in 0..stream.leaves(progress) {
+        if gate.is_halted() {
+            return Err(NoMemory);
+        }
         gate.before_leaf(0, leaf);
-        let fed = stream.feed_last_leaf(alloc, progress, &nothing, leaf, &mut list);
+        let fed = stream.feed_last_leaf(engine.alloc, progress, &nothing, leaf, &mut list);
         gate.after_leaf(0, leaf);
         fed?;
     }
@@ -130,11 +143,9 @@ fn list_leaves<X: Stream, H: Gate>(
 }
 
 /// Lists all the rest of the stream in this thread, and hands the list over to a collector. The gate is told of each leaf.
-pub fn list_over<R: Threads + Sync, X: Stream, C: Collector<Item = X::Item>, H: Gate>(
-    rt: &R,
-    alloc: Global,
+pub fn list_over<R: Threads + Clock + Sync, X: Plumbing, C: Collector<Item = X::Item>, H: Gate>(
+    engine: &Engine<'_, R, H>,
     stream: &X,
-    gate: &H,
     progress: &X::Progress,
     collector: &C,
 ) -> Result<(C::Acc, RunEntry), NoMemory>
@@ -147,9 +158,15 @@ pub fn list_over<R: Threads + Sync, X: Stream, C: Collector<Item = X::Item>, H: 
     ensures entry { let leaves = length (X.parts stream.now progress.now) in
         IfOk result (λ r. Reports None leaves (λ _. 0) r.1.leaves (count_of r.1) (cut_of r.1)) }
 {
-    let list = list_leaves(alloc, stream, gate, progress)?;
+    let list = list_leaves(engine, stream, progress)?;
     let tree = stream.tree(progress);
-    let entry = run_idle(rt, alloc, tree, stream.leaves(progress), &NoGate)?;
+    let entry = run_idle(
+        engine.rt,
+        engine.alloc,
+        tree,
+        stream.leaves(progress),
+        &NoGate,
+    )?;
     let acc = fold_owned(collector, list)?;
     Ok((acc, entry))
 }

@@ -3,22 +3,25 @@
 
 mod barred;
 mod contrary;
+mod engine;
 mod evaluate;
 mod handover;
 mod part;
 mod places;
+mod plumbing;
 mod run;
 mod segments;
-mod settings;
 mod source;
 mod staged;
 mod stream;
 
 pub use barred::Barred;
+pub use engine::Engine;
 pub use part::{BarredProgress, Listed, Part, end_before, end_own};
 pub use places::Places;
+pub use plumbing::Plumbing;
 pub use run::{MapError, Run, StreamError};
-pub use segments::{container_of, fold_into};
-pub use source::{Source, SourceProgress, of};
+pub use segments::{container_of, container_until, fold_into};
+pub use source::{Source, SourceProgress, of, rows};
 pub use staged::Staged;
 pub use stream::Stream;

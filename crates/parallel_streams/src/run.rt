@@ -16,6 +16,20 @@ pub struct Run<'a, H> {
     pub gate: &'a H,
 }
 
+impl<H> Run<'_, H> {
+    /// The same, and another gate is told of each leaf.
+    pub fn with_gate<'g, G>(&self, gate: &'g G) -> Run<'g, G>
+        ensures workers { result.workers ≡ self.now.workers }
+        ensures target { result.target ≡ self.now.target }
+    {
+        Run {
+            workers: self.workers,
+            target: self.target,
+            gate,
+        }
+    }
+}
+
 impl Run<'static, NoGate> {
     /// On so many workers, 1 to 64, with four leaves a worker, and nobody is told of a leaf.
     pub fn new(workers: u32) -> Run<'static, NoGate>

@@ -3,20 +3,20 @@ ghost use Rattle.std.specs.Prelude.{◌≡◌, ◌≢◌, ◌++◌, ℕ, List, N
 ghost use Rattle.collectors.specs.Laws.{IsContainerOf};
 ghost use Rattle.collectors.specs.Reductions.{first};
 ghost use Rattle.spliterator.specs.Clones.{ClonesAlike};
+ghost use Rattle.stealing_pool.specs.Spans.{joined};
 ghost use Rattle.parallel_streams.specs.Reading.{ReadsLittle};
-ghost use Rattle.parallel_streams.specs.Runs.{AnswersUnder, IsLawfulRun};
 ghost use Rattle.parallel_streams.specs.Searches.{DecidesOrHits, IsFound};
 ghost use Rattle.parallel_streams.specs.Terminals.{any_meets};
 
 use crate::evaluate::{run_barriers, run_last, run_whole};
-use crate::settings::allow;
 use crate::source::FIRST;
-use crate::{Run, Stream, StreamError};
+use crate::{Engine, Plumbing, Run};
 use barriers::{Demand, Total};
 use collectors::{Collector, Counting, First, combine_containers, finish_container};
 use spliterator::NoMemory;
 use std::alloc::Global;
 use std::thread::Threads;
+use std::time::Clock;
 use stealing_pool::Gate;
 
 // How many times as many items the next segment may have as the one before it. A source halves, so what stands next has about as many as all before it.
@@ -37,7 +37,7 @@ struct Extent {
 
 impl Extent {
     // That of a stream's first segment: it has no bound where no operation looks at more than one item.
-    fn first<X: Stream>(stream: &X) -> Extent
+    fn first<X: Plumbing>(stream: &X) -> Extent
         ensures undecided { result.most ≡ None → (n : ℕ) → X.decided stream.now n → ⊥ }
         ensures bounded { X.barred stream.now ≡ true → result.most ≢ None }
     {
@@ -78,41 +78,37 @@ impl Extent {
     }
 }
 
-// How a segment runs.
-fn run_of<'r, H>(run: &Run<'r, H>, extent: &Extent) -> Run<'r, H>
-    requires { IsLawfulRun run.now.workers run.now.target }
-    ensures { IsLawfulRun result.workers result.target }
-{
-    Run {
-        workers: if extent.is_short() { 1 } else { run.workers },
-        target: run.target,
-        gate: run.gate,
+// What a segment runs on.
+fn engine_of<'e, R, H>(engine: &Engine<'e, R, H>, extent: &Extent) -> Engine<'e, R, H> {
+    let run = &engine.run;
+    Engine {
+        rt: engine.rt,
+        alloc: engine.alloc,
+        run: Run {
+            workers: if extent.is_short() { 1 } else { run.workers },
+            target: run.target,
+            gate: run.gate,
+        },
     }
 }
 
 // The container of the present segment's items.
 fn collect_segment<
-    R: Threads + Sync,
-    X: Stream + Sync,
+    R: Threads + Clock + Sync,
+    X: Plumbing,
     C: Collector<Item = X::Item> + Sync,
     H: Gate + Sync,
 >(
-    rt: &R,
-    alloc: Global,
+    engine: &Engine<'_, R, H>,
     stream: &X,
-    run: &Run<'_, H>,
     progress: X::Progress,
     collector: &C,
 ) -> Result<(X::Progress, C::Acc), NoMemory>
 where
-    X::Item: Send + Sync,
-    X::Progress: Send + Sync,
-    X::Part: Send,
     C::Acc: Send,
     C::Out: Send,
     requires stream { X.ready stream.now }
     requires collector { C.ready collector.now }
-    requires settings { IsLawfulRun run.now.workers run.now.target }
     requires holds { X.holds stream.now progress }
     ensures holds { IfOk result (λ r. X.holds stream.now r.0) }
     ensures still { IfOk result (λ r. X.still stream.now r.0 ≡ X.still stream.now progress) }
@@ -123,34 +119,24 @@ where
         IfOk result (λ r. (items : List X.Item.Content)
         × (X.left stream.now progress ≡ items ++ X.behind stream.now r.0) × made items r.1) }
 {
-    let (mut progress, _) = run_barriers(rt, alloc, stream, run, progress)?;
-    let (acc, _) = run_whole(rt, alloc, stream, run, &mut progress, collector)?;
+    let (mut progress, _) = run_barriers(engine, stream, progress)?;
+    let (acc, _) = run_whole(engine, stream, &mut progress, collector)?;
     Ok((progress, acc))
 }
 
 // The container of a stream's items, one segment after another. Segments grow, and end where nothing matters that is still to come: of a source that
 // splits finely, little more is read than decides.
 fn collect_segments<
-    R: Threads + Sync,
-    X: Stream + Sync,
+    R: Threads + Clock + Sync,
+    X: Plumbing,
     C: Collector<Item = X::Item> + Sync,
     H: Gate + Sync,
->(
-    rt: &R,
-    alloc: Global,
-    stream: &X,
-    run: &Run<'_, H>,
-    collector: &C,
-) -> Result<(X::Progress, C::Acc), NoMemory>
+>(engine: &Engine<'_, R, H>, stream: &X, collector: &C) -> Result<(X::Progress, C::Acc), NoMemory>
 where
-    X::Item: Send + Sync,
-    X::Progress: Send + Sync,
-    X::Part: Send,
     C::Acc: Send,
     C::Out: Send,
     requires stream { X.ready stream.now }
     requires collector { C.ready collector.now }
-    requires settings { IsLawfulRun run.now.workers run.now.target }
     ensures made { let it = collector.now in
         let made = IsContainerOf X.Item.is_value (C.content it) (C.empty it) (C.add it) in
         IfOk result (λ r. made (X.value stream.now) r.1) }
@@ -158,16 +144,22 @@ where
         × (X.fine stream.now → ReadsLittle (X.decided stream.now) read)) }
 {
     let mut extent = Extent::first(stream);
-    let own = run_of(run, &extent);
-    let begun = stream.start(alloc, own.workers, own.target, extent.most)?;
-    let (mut progress, mut whole) = collect_segment(rt, alloc, stream, &own, begun, collector)?;
+    let own = engine_of(engine, &extent);
+    let begun = stream.start(engine.alloc, own.run.workers, own.run.target, extent.most)?;
+    let (mut progress, mut whole) = collect_segment(&own, stream, begun, collector)?;
     while !stream.is_last(&progress) {
         let gathered = stream.gathered(&progress);
         let most = extent.next_size(gathered);
         extent = extent.next(most, gathered);
-        let own = run_of(run, &extent);
-        let next = stream.go_on(alloc, progress, own.workers, own.target, most)?;
-        let (after, acc) = collect_segment(rt, alloc, stream, &own, next, collector)?;
+        let own = engine_of(engine, &extent);
+        let next = stream.go_on(
+            engine.alloc,
+            progress,
+            own.run.workers,
+            own.run.target,
+            most,
+        )?;
+        let (after, acc) = collect_segment(&own, stream, next, collector)?;
         progress = after;
         combine_containers(collector, &mut whole, acc)?;
     }
@@ -176,168 +168,204 @@ where
 
 /// The container of a stream's items, into which more may go before it is finished.
 pub fn container_of<
-    R: Threads + Sync,
-    X: Stream + Sync,
+    R: Threads + Clock + Sync,
+    X: Plumbing,
     C: Collector<Item = X::Item> + Sync,
     H: Gate + Sync,
->(rt: &R, alloc: Global, run: &Run<'_, H>, stream: &X, collector: &C) -> Result<C::Acc, StreamError>
+>(engine: &Engine<'_, R, H>, stream: &X, collector: &C) -> Result<C::Acc, NoMemory>
 where
-    X::Item: Send + Sync,
-    X::Progress: Send + Sync,
-    X::Part: Send,
     C::Acc: Send,
     C::Out: Send,
     requires stream { X.ready stream.now }
     requires collector { C.ready collector.now }
-    ensures settings { AnswersUnder run.now.workers run.now.target result }
     ensures made { let it = collector.now in
         let made = IsContainerOf X.Item.is_value (C.content it) (C.empty it) (C.add it) in
         IfOk result (made (X.value stream.now)) }
 {
-    allow(run.workers, run.target)?;
-    let (_, acc) = collect_segments(rt, alloc, stream, run, collector)?;
+    let (_, acc) = collect_segments(engine, stream, collector)?;
     Ok(acc)
 }
 
-/// Takes a stream's items into a container, behind those that are in it. Unlawful settings leave the container as it was; after want of memory it is
-/// only to be dropped.
+/// Takes a stream's items into a container, behind those that are in it. After want of memory the container is only to be dropped.
 ///
 /// ```text
 /// let list = ToList::new(alloc);
-/// let mut all = container_of(&rt, alloc, &run, &of(RangeSplit::range(0, 2)?), &list)?;
-/// fold_into(&rt, alloc, &run, &of(RangeSplit::range(7, 9)?), &list, &mut all)?;    // 0, 1, 7, 8
+/// let mut all = container_of(&engine, &of(RangeSplit::range(0, 2)?), &list)?;
+/// fold_into(&engine, &of(RangeSplit::range(7, 9)?), &list, &mut all)?;    // 0, 1, 7, 8
 /// ```
 pub fn fold_into<
-    R: Threads + Sync,
-    X: Stream + Sync,
+    R: Threads + Clock + Sync,
+    X: Plumbing,
     C: Collector<Item = X::Item> + Sync,
     H: Gate + Sync,
->(
-    rt: &R,
-    alloc: Global,
-    run: &Run<'_, H>,
-    stream: &X,
-    collector: &C,
-    whole: &mut C::Acc,
-) -> Result<(), StreamError>
+>(engine: &Engine<'_, R, H>, stream: &X, collector: &C, whole: &mut C::Acc) -> Result<(), NoMemory>
 where
-    X::Item: Send + Sync,
-    X::Progress: Send + Sync,
-    X::Part: Send,
     C::Acc: Send,
     C::Out: Send,
     requires stream { X.ready stream.now }
     requires collector { C.ready collector.now }
-    ensures settings { AnswersUnder run.now.workers run.now.target result }
-    ensures untouched { ¬ IsLawfulRun run.now.workers run.now.target → whole.new ≡ whole.old }
     ensures folded { let it = collector.now in
         let made = IsContainerOf X.Item.is_value (C.content it) (C.empty it) (C.add it) in
         (before : List X.Item.Content) → made before whole.old
         → OnOk result (made (before ++ X.value stream.now) whole.new) }
 {
-    let behind = container_of(rt, alloc, run, stream, collector)?;
-    combine_containers(collector, whole, behind)?;
-    Ok(())
+    let behind = container_of(engine, stream, collector)?;
+    combine_containers(collector, whole, behind)
 }
 
-// The container of the first segment that has a hit: an item that counts, where one is enough for the demand. Of that segment's items it has all, or a
-// front with a hit. The segments behind it are not read: of a source that splits finely, and where
-// some operation looks at more than one item, little more is read than decides, or has a hit.
-fn search<
-    R: Threads + Sync,
-    X: Stream + Sync,
+// The container of the present segment's items, and whether it has a hit: an item that counts, where one is enough for the demand. It has all items then,
+// or a front with a hit.
+fn search_segment<
+    R: Threads + Clock + Sync,
+    X: Plumbing,
     D: Demand<X::Item> + Sync,
     C: Collector<Item = X::Item> + Sync,
     H: Gate + Sync,
 >(
-    rt: &R,
-    alloc: Global,
+    engine: &Engine<'_, R, H>,
     stream: &X,
-    run: &Run<'_, H>,
+    progress: X::Progress,
     demand: &D,
     collector: &C,
-) -> Result<(X::Progress, Option<C::Acc>), NoMemory>
+) -> Result<(X::Progress, C::Acc, bool), NoMemory>
 where
-    X::Item: Send + Sync,
-    X::Progress: Send + Sync,
-    X::Part: Send,
     C::Acc: Send,
     C::Out: Send,
     requires stream { X.ready stream.now }
     requires demand { D.ready demand.now }
     requires collector { C.ready collector.now }
     requires one { D.needed demand.now ≡ Some 1 }
-    requires settings { IsLawfulRun run.now.workers run.now.target }
+    requires holds { X.holds stream.now progress }
+    ensures holds { IfOk result (λ r. X.holds stream.now r.0) }
+    ensures still { IfOk result (λ r. X.still stream.now r.0 ≡ X.still stream.now progress) }
+    ensures left { IfOk result (λ r. X.left stream.now progress
+        ≡ joined (X.parts stream.now r.0) ++ X.behind stream.now r.0) }
+    ensures read { let front = X.front stream.now in
+        (from to : ℕ) → X.reads stream.now progress from to → IfOk result (λ r. X.read stream.now r.0 to
+        × (front to ≡ front from ++ joined (X.parts stream.now r.0))) }
     ensures found { let it = collector.now in
         let made = IsContainerOf X.Item.is_value (C.content it) (C.empty it) (C.add it) in
-        IfOk result (λ r. IsFound (D.counted demand.now) made (X.value stream.now) r.1) }
+        let found = IsFound (D.counted demand.now) made in
+        IfOk result (λ r. found (joined (X.parts stream.now r.0)) r.1 r.2) }
+{
+    let (progress, _) = run_barriers(engine, stream, progress)?;
+    let (acc, entry) = run_last(engine, stream, &progress, demand, collector)?;
+    Ok((progress, acc, entry.cut().is_some()))
+}
+
+// The container of a stream's items up to those of the first segment that has a hit, and whether one has. The segments behind it are not read: of a source
+// that splits finely, and where some operation looks at more than one item, little more is read than decides, or has a hit.
+fn search<
+    R: Threads + Clock + Sync,
+    X: Plumbing,
+    D: Demand<X::Item> + Sync,
+    C: Collector<Item = X::Item> + Sync,
+    H: Gate + Sync,
+>(
+    engine: &Engine<'_, R, H>,
+    stream: &X,
+    demand: &D,
+    collector: &C,
+) -> Result<(X::Progress, C::Acc, bool), NoMemory>
+where
+    C::Acc: Send,
+    C::Out: Send,
+    requires stream { X.ready stream.now }
+    requires demand { D.ready demand.now }
+    requires collector { C.ready collector.now }
+    requires one { D.needed demand.now ≡ Some 1 }
+    ensures found { let it = collector.now in
+        let made = IsContainerOf X.Item.is_value (C.content it) (C.empty it) (C.add it) in
+        IfOk result (λ r. IsFound (D.counted demand.now) made (X.value stream.now) r.1 r.2) }
     ensures read { let ends = DecidesOrHits (X.decided stream.now) (D.counted demand.now) (X.front stream.now) in
         IfOk result (λ r. (read : ℕ) × X.read stream.now r.0 read
         × (X.fine stream.now → X.barred stream.now ≡ true → ReadsLittle ends read)) }
 {
     let mut extent = Extent::first(stream);
-    let mut own = run_of(run, &extent);
-    let mut progress = stream.start(alloc, own.workers, own.target, extent.most)?;
-    loop {
-        let (gathered, _) = run_barriers(rt, alloc, stream, &own, progress)?;
-        let (acc, entry) = run_last(rt, alloc, stream, &own, &gathered, demand, collector)?;
-        if entry.cut().is_some() {
-            return Ok((gathered, Some(acc)));
+    let own = engine_of(engine, &extent);
+    let begun = stream.start(engine.alloc, own.run.workers, own.run.target, extent.most)?;
+    let (mut progress, mut whole, mut is_hit) = search_segment(
+        &own, stream, begun, demand, collector,
+    )?;
+    while !is_hit {
+        if stream.is_last(&progress) {
+            return Ok((progress, whole, false));
         }
-        if stream.is_last(&gathered) {
-            return Ok((gathered, None));
-        }
-        let listed = stream.gathered(&gathered);
-        let most = extent.next_size(listed);
-        extent = extent.next(most, listed);
-        own = run_of(run, &extent);
-        progress = stream.go_on(alloc, gathered, own.workers, own.target, most)?;
+        let gathered = stream.gathered(&progress);
+        let most = extent.next_size(gathered);
+        extent = extent.next(most, gathered);
+        let own = engine_of(engine, &extent);
+        let next = stream.go_on(
+            engine.alloc,
+            progress,
+            own.run.workers,
+            own.run.target,
+            most,
+        )?;
+        let (after, acc, met) = search_segment(&own, stream, next, demand, collector)?;
+        progress = after;
+        is_hit = met;
+        combine_containers(collector, &mut whole, acc)?;
     }
+    Ok((progress, whole, true))
+}
+
+/// The container of a stream's items, or of a front with a hit: an item that counts, where one is enough for the demand; and whether there is a hit. What
+/// stands behind the first one may stay unread.
+pub fn container_until<
+    R: Threads + Clock + Sync,
+    X: Plumbing,
+    D: Demand<X::Item> + Sync,
+    C: Collector<Item = X::Item> + Sync,
+    H: Gate + Sync,
+>(
+    engine: &Engine<'_, R, H>,
+    stream: &X,
+    demand: &D,
+    collector: &C,
+) -> Result<(C::Acc, bool), NoMemory>
+where
+    C::Acc: Send,
+    C::Out: Send,
+    requires stream { X.ready stream.now }
+    requires demand { D.ready demand.now }
+    requires collector { C.ready collector.now }
+    requires one { D.needed demand.now ≡ Some 1 }
+    ensures found { let it = collector.now in
+        let made = IsContainerOf X.Item.is_value (C.content it) (C.empty it) (C.add it) in
+        IfOk result (λ r. IsFound (D.counted demand.now) made (X.value stream.now) r.0 r.1) }
+{
+    let (_, acc, is_hit) = search(engine, stream, demand, collector)?;
+    Ok((acc, is_hit))
 }
 
 /// The first of a stream's items, or none. The segments behind it are not read.
-pub fn first_item<R: Threads + Sync, X: Stream + Sync, H: Gate + Sync>(
-    rt: &R,
-    alloc: Global,
+pub fn first_item<R: Threads + Clock + Sync, X: Plumbing, H: Gate + Sync>(
+    engine: &Engine<'_, R, H>,
     stream: &X,
-    run: &Run<'_, H>,
 ) -> Result<Option<X::Item>, NoMemory>
-where
-    X::Item: Send + Sync,
-    X::Progress: Send + Sync,
-    X::Part: Send,
     requires stream { X.ready stream.now }
     requires clones { ClonesAlike X.Item.is_clone X.Item.content }
-    requires settings { IsLawfulRun run.now.workers run.now.target }
     ensures { IfOk result (λ found. option_map X.Item.content found ≡ first (X.value stream.now)) }
 {
     let first = First::<X::Item>::new();
-    let (_, found) = search(rt, alloc, stream, run, &Total::new(1), &first)?;
-    match found {
-        Some(acc) => finish_container(&first, acc),
-        None => Ok(None),
-    }
+    let (_, acc, _) = search(engine, stream, &Total::new(1), &first)?;
+    finish_container(&first, acc)
 }
 
 /// Whether some item counts, where one is enough for the demand: whether the run of a segment was cut. Each item is asked once at most, and the
 /// segments behind it are not read.
-pub fn some_counts<R: Threads + Sync, X: Stream + Sync, D: Demand<X::Item> + Sync, H: Gate + Sync>(
-    rt: &R,
-    alloc: Global,
-    stream: &X,
-    run: &Run<'_, H>,
-    demand: &D,
-) -> Result<bool, NoMemory>
-where
-    X::Item: Send + Sync,
-    X::Progress: Send + Sync,
-    X::Part: Send,
+pub fn some_counts<
+    R: Threads + Clock + Sync,
+    X: Plumbing,
+    D: Demand<X::Item> + Sync,
+    H: Gate + Sync,
+>(engine: &Engine<'_, R, H>, stream: &X, demand: &D) -> Result<bool, NoMemory>
     requires stream { X.ready stream.now }
     requires demand { D.ready demand.now }
     requires one { D.needed demand.now ≡ Some 1 }
-    requires settings { IsLawfulRun run.now.workers run.now.target }
     ensures { IfOk result (λ met. met ≡ any_meets (D.counted demand.now) (X.value stream.now)) }
 {
-    let (_, found) = search(rt, alloc, stream, run, demand, &Counting::new())?;
-    Ok(found.is_some())
+    let (_, _, is_hit) = search(engine, stream, demand, &Counting::new())?;
+    Ok(is_hit)
 }

@@ -7,11 +7,12 @@ ghost use Rattle.parallel_streams.specs.Reading.{Each, SplitsFinely, first_segme
 ghost use Rattle.parallel_streams.specs.Runs.{IsLawfulRun};
 ghost use Rattle.parallel_streams.specs.Sources.{items_behind, weight_behind};
 
-use crate::Stream;
+use crate::Plumbing;
 use barriers::{Demand, Need};
 use collectors::Collector;
 use leaf_board::Handout;
 use leaf_reading::{LeafEnd, Portion, Reading, feed_whole, read_leaf};
+use sources::RowsSplit;
 use split_tree::{Plan, PlanError, Tree};
 use spliterator::{NoMemory, Spliterator};
 use stages::{Sink, Stage, StreamFlags};
@@ -19,7 +20,7 @@ use std::alloc::Global;
 use stealing_pool::RunEntry;
 
 /// The items of a source.
-#[derive(Drop)]
+#[derive(Clone, Copy, Drop)]
 pub struct Source<S> {
     split: S,
 }
@@ -36,14 +37,27 @@ pub fn of<S: Spliterator>(split: S) -> Source<S>
     Source { split }
 }
 
+/// The stream of a slice's items of any type, each lent as a row. Nothing is asked of the type, and nothing is cloned.
+///
+/// ```text
+/// let dear = rows(&orders).filter(such(CostsMore(1000), |o: &Row<Order>| o.0.cents > 1000));
+/// ```
+// java.util.Arrays, stream
+pub fn rows<'a, T>(items: &'a [T]) -> Source<RowsSplit<'a, T>>
+    ensures { ⟦<RowsSplit<'a, T> as Spliterator>⟧.items result.split ≡ items.now }
+{
+    of(RowsSplit::new(items))
+}
+
 /// The most items of the first segment. Those behind it grow by what was read.
 pub const FIRST: u64 = 1 << 12;
 
-/// How far a source has come: the present segment, cut into leaves, and the parts of the source behind it, of which the last stands next. And how
-/// many items the segments up to the present one have, where that is known.
+/// How far a source has come: the present segment, cut into leaves, its estimate, and the parts of the source behind it, of which the last stands
+/// next. And how many items the segments up to the present one have, where that is known.
 #[derive(Drop)]
 pub struct SourceProgress<S> {
     plan: Plan<S>,
+    size: u64,
     rest: Vec<S>,
     read: Option<u64>,
 }
@@ -125,9 +139,9 @@ fn plan_segment<S: Spliterator>(
     }
 }
 
-impl<S: Spliterator + Drop> Stream for Source<S>
+impl<S: Spliterator + Drop + Send + Sync> Plumbing for Source<S>
 where
-    S::Item: Clone,
+    S::Item: Clone + Send + Sync,
 {
     ghost use Rattle.parallel_streams.specs.Leaves.{IsCutSource};
     ghost use Rattle.parallel_streams.specs.LeafCutLaws.{cut-leaves};
@@ -229,9 +243,15 @@ where
     ) -> Result<SourceProgress<S>, NoMemory> {
         let mut rest = Vec::new(alloc);
         let first = first_of(self.split, most, &mut rest)?;
+        let size = first.estimate_size();
         let read = read_with(Some(0), &first);
         let plan = plan_segment(alloc, first, workers, target)?;
-        Ok(SourceProgress { plan, rest, read })
+        Ok(SourceProgress {
+            plan,
+            size,
+            rest,
+            read,
+        })
     }
 
     fn is_last(&self, progress: &SourceProgress<S>) -> bool {
@@ -251,17 +271,19 @@ where
             unreachable!()
         };
         let first = split_front(next, most_behind(progress.read, most), &mut rest)?;
+        let size = first.estimate_size();
         let read = read_with(progress.read, &first);
         let plan = plan_segment(alloc, first, workers, target)?;
-        Ok(SourceProgress { plan, rest, read })
+        Ok(SourceProgress {
+            plan,
+            size,
+            rest,
+            read,
+        })
     }
 
-    fn segment_size(&self, progress: &SourceProgress<S>) -> Option<u64> {
-        let mut size: u64 = 0;
-        for leaf in 0..progress.plan.leaves() {
-            size = size.saturating_add(progress.plan.leaf(leaf).exact_size()?);
-        }
-        Some(size)
+    fn estimate(&self, progress: &SourceProgress<S>) -> u64 {
+        progress.size
     }
 
     fn is_gathered(&self, _progress: &SourceProgress<S>) -> bool {

@@ -5,7 +5,7 @@ ghost use Rattle.parallel_streams.specs.LeafLaws.{joined-through, left-through, 
 ghost use Rattle.parallel_streams.specs.ReadingLaws.{front-through};
 ghost use Rattle.stages.specs.Flags.{after};
 
-use crate::Stream;
+use crate::Plumbing;
 use barriers::{Demand, Need};
 use collectors::Collector;
 use leaf_board::Handout;
@@ -17,15 +17,15 @@ use std::alloc::Global;
 use stealing_pool::RunEntry;
 
 /// A stream's items through a stateless stage.
-#[derive(Drop)]
+#[derive(Clone, Copy, Drop)]
 pub struct Staged<U, A> {
     pub upstream: U,
     pub stage: A,
 }
 
-impl<U: Stream, A: Stage<In = U::Item>> Stream for Staged<U, A>
+impl<U: Plumbing, A: Stage<In = U::Item> + Sync> Plumbing for Staged<U, A>
 where
-    A::Out: Clone,
+    A::Out: Clone + Send + Sync,
 {
     type Item = A::Out;
 
@@ -138,8 +138,9 @@ where
         self.upstream.go_on(alloc, progress, workers, target, most)
     }
 
-    fn segment_size(&self, progress: &U::Progress) -> Option<u64> {
-        self.stage.size_after(self.upstream.segment_size(progress))
+    fn estimate(&self, progress: &U::Progress) -> u64 {
+        let items = self.upstream.estimate(progress);
+        items.saturating_mul(self.stage.growth())
     }
 
     fn gathered(&self, progress: &U::Progress) -> u64 {

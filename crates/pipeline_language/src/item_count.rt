@@ -1,6 +1,6 @@
 //! Numbers of items.
 
-ghost use Rattle.std.specs.Prelude.{◌≡◌, ◌<◌, ◌+◌, ◌*◌, ◌^◌, min, IfSome};
+ghost use Rattle.std.specs.Prelude.{◌≡◌, ◌≢◌, ◌<◌, ◌≤◌, ◌+◌, ◌*◌, ◌^◌, ℕ, min, IfNone, IfSome};
 
 /// A number of items: below 2^63.
 #[derive(Clone, Copy, PartialEq)]
@@ -14,7 +14,8 @@ impl ItemCount {
     ///
     /// `ItemCount::of(3)` has 3 items; of 2^63 there is none.
     pub fn of(number: u64) -> Option<ItemCount>
-        ensures { IfSome result (λ count. count.number ≡ number) }
+        ensures number { IfSome result (λ count. count.number ≡ number) }
+        ensures none { IfNone result (2 ^ 63 ≤ number) }
     {
         if number < 1 << 63 {
             Some(ItemCount { number })
@@ -42,7 +43,8 @@ impl ItemCount {
 
     /// Both together, if they are below 2^63.
     pub fn plus(self, other: ItemCount) -> Option<ItemCount>
-        ensures { IfSome result (λ sum. sum.number ≡ self.number + other.number) }
+        ensures sum { IfSome result (λ sum. sum.number ≡ self.number + other.number) }
+        ensures none { IfNone result (2 ^ 63 ≤ self.number + other.number) }
     {
         ItemCount::of(self.number + other.number)
     }
@@ -51,12 +53,16 @@ impl ItemCount {
     ///
     /// A third of 6 is 2; of 7 there is none, and there are no parts by 0.
     pub fn part(self, parts: u64) -> Option<ItemCount>
-        ensures { IfSome result (λ part. self.number ≡ parts * part.number) }
+        ensures part { IfSome result (λ part. self.number ≡ parts * part.number) }
+        ensures none { IfNone result (1 ≤ parts → (part : ℕ) → self.number ≢ parts * part) }
     {
-        if parts >= 1 && self.number % parts == 0 {
-            ItemCount::of(self.number / parts)
-        } else {
-            None
+        if parts == 0 {
+            return None;
         }
+        if self.number % parts != 0 {
+            return None;
+        }
+        let number = self.number / parts;
+        Some(ItemCount { number })
     }
 }

@@ -1,6 +1,6 @@
 -- Steps with a stage more behind them. Copies are made last, so a map or a filter moves before them.
-use Rattle.std.specs.Prelude.{◌≡◌, ℕ, zero, suc, ℤ, Bool, true, false, cond, List, [], ◌∷◌, ◌++◌, ◌&&◌, flat_map, refl}
-use Rattle.std.proofs.Common.{ap, ap₂, ◌∙◌, sym, subst, append-nil}
+use Rattle.std.specs.Prelude.{◌≡◌, ℕ, ℤ, Bool, true, false, cond, List, [], ◌∷◌, ◌++◌, ◌&&◌, flat_map, refl}
+use Rattle.std.proofs.Common.{ap, ap₂, ◌∙◌, sym, subst}
 use Rattle.std.proofs.Math.ListN.{replicate}
 use Rattle.std.specs.List.{list_all}
 use Rattle.std.proofs.Math.Bool.{and-true, and-false, and_assoc}
@@ -14,65 +14,36 @@ use Rattle.pipeline_meaning.specs.Functions.{number_image, number_holds}
 use Rattle.pipeline_meaning.specs.Prepared.{mapping_image, check_holds}
 use Rattle.pipeline_meaning.specs.Stages.{number_stage, is_map_stage}
 use Rattle.pipeline_meaning.specs.NumberSteps.{number_step_images, steps_images, copies, images_of, number_images, is_map_step, is_none, are_maps, only_maps, Follows}
-use Rattle.parts.specs.Lists.{map-flat_map, filter-flat_map}
-use Rattle.pipeline_meaning.specs.WalkLaws.{flat_map-same, all-one-more}
+use Rattle.stream_functions.specs.Lists.{map-flat_map, filter-flat_map}
+use Rattle.pipeline_meaning.specs.WalkLaws.{all-one-more}
+use Rattle.pipeline_meaning.proofs.Copies.{copies-map, copies-filter}
 use Rattle.pipeline_meaning.specs.declared.functions.NumberMapping.{NumberMapping}
 use Rattle.pipeline_meaning.specs.declared.functions.NumberCheck.{NumberCheck}
 use Rattle.pipeline_meaning.specs.declared.number_steps.NumberStep.{NumberStep}
 use Rattle.pipeline_meaning.specs.declared.number_steps.NumberStep.TheVariants.{Map, Filter}
 use Rattle.pipeline_meaning.specs.declared.number_steps.NumberSteps.{NumberSteps}
 
--- What comes of copies are copies of what comes, where one number comes or none.
-module _ (f : ℤ → List ℤ) (image : ℤ → ℤ) (keeps : ℤ → Bool) (one : (x : ℤ) → f x ≡ cond (keeps x) (image x ∷ []) []) where
-  of-copies : (b : Bool) (n : ℕ) (x : ℤ) → f x ≡ cond b (image x ∷ []) [] → flat_map f (replicate n x) ≡ flat_map (replicate n) (cond b (image x ∷ []) [])
-  of-copies true n x h = kept n ∙ sym (append-nil (replicate n (image x)))
-    where
-      kept : (n : ℕ) → flat_map f (replicate n x) ≡ replicate n (image x)
-      kept zero = refl
-      kept (suc n) = ap₂ (λ a b. a ++ b) h (kept n)
-  of-copies false n x h = dropped n
-    where
-      dropped : (n : ℕ) → flat_map f (replicate n x) ≡ []
-      dropped zero = refl
-      dropped (suc n) = ap₂ (λ a b. a ++ b) h (dropped n)
+-- What a step makes of copies are copies of what it makes.
+step-past : (step : NumberStep) (n : ℕ) (l : List ℤ) → flat_map (number_step_images step) (flat_map (replicate n) l) ≡ flat_map (replicate n) (flat_map (number_step_images step) l)
+step-past (Map f) n l =
+    sym (map-flat_map (mapping_image f) (flat_map (replicate n) l)) ∙ copies-map (mapping_image f) n l ∙ ap (flat_map (replicate n)) (map-flat_map (mapping_image f) l)
+step-past (Filter p) n l =
+    sym (filter-flat_map (check_holds p) (flat_map (replicate n) l)) ∙ copies-filter (check_holds p) n l ∙ ap (flat_map (replicate n)) (filter-flat_map (check_holds p) l)
 
-  of-repeated : (n : ℕ) (x : ℤ) → flat_map f (replicate n x) ≡ flat_map (replicate n) (f x)
-  of-repeated n x = of-copies (keeps x) n x (one x) ∙ ap (flat_map (replicate n)) (sym (one x))
-
-  of-all-copies : (repeats : List ℕ) (x : ℤ) → flat_map f (copies repeats x) ≡ flat_map (copies repeats) (f x)
-  of-all-copies [] x = append-nil (f x) ∙ sym (flat_map-one (f x))
-  of-all-copies (n ∷ repeats) x =
-      flat_map-flat_map (copies repeats) f (replicate n x)
-      ∙ flat_map-same (λ y. flat_map f (copies repeats y)) (λ y. flat_map (copies repeats) (f y)) (of-all-copies repeats) (replicate n x)
-      ∙ sym (flat_map-flat_map f (copies repeats) (replicate n x))
-      ∙ ap (flat_map (copies repeats)) (of-repeated n x)
-      ∙ flat_map-flat_map (replicate n) (copies repeats) (f x)
-
-  copies-last : (repeats : List ℕ) (l : List ℤ) → flat_map f (flat_map (copies repeats) l) ≡ flat_map (copies repeats) (flat_map f l)
-  copies-last repeats l =
-      flat_map-flat_map (copies repeats) f l
-      ∙ flat_map-same (λ x. flat_map f (copies repeats x)) (λ x. flat_map (copies repeats) (f x)) (of-all-copies repeats) l
-      ∙ sym (flat_map-flat_map f (copies repeats) l)
-
--- a step's number, and whether there is one
-abbrev step_image : NumberStep → ℤ → ℤ
-step_image (Map f) x = mapping_image f x
-step_image (Filter p) x = x
-
-abbrev step_keeps : NumberStep → ℤ → Bool
-step_keeps (Map f) x = true
-step_keeps (Filter p) x = check_holds p x
-
-step-one : (step : NumberStep) (x : ℤ) → number_step_images step x ≡ cond (step_keeps step x) (step_image step x ∷ []) []
-step-one (Map f) x = refl
-step-one (Filter p) x = refl
+copies-last : (step : NumberStep) (repeats : List ℕ) (l : List ℤ) → flat_map (number_step_images step) (flat_map (copies repeats) l) ≡ flat_map (copies repeats) (flat_map (number_step_images step) l)
+copies-last step [] l = ap (flat_map (number_step_images step)) (flat_map-one l) ∙ sym (flat_map-one (flat_map (number_step_images step) l))
+copies-last step (n ∷ repeats) l =
+    ap (flat_map (number_step_images step)) (sym (flat_map-flat_map (replicate n) (copies repeats) l))
+    ∙ copies-last step repeats (flat_map (replicate n) l)
+    ∙ ap (flat_map (copies repeats)) (step-past step n l)
+    ∙ flat_map-flat_map (replicate n) (copies repeats) (flat_map (number_step_images step) l)
 
 step-behind : (steps : List NumberStep) (repeats : List ℕ) (step : NumberStep) (l : List ℤ)
     → flat_map (images_of (steps ++ step ∷ []) repeats) l ≡ flat_map (number_step_images step) (flat_map (images_of steps repeats) l)
 step-behind steps repeats step l =
     sym (flat_map-flat_map (steps_images (steps ++ step ∷ [])) (copies repeats) l)
     ∙ ap (flat_map (copies repeats)) (all-one-more number_step_images steps step l)
-    ∙ sym (copies-last (number_step_images step) (step_image step) (step_keeps step) (step-one step) repeats (flat_map (steps_images steps) l))
+    ∙ sym (copies-last step repeats (flat_map (steps_images steps) l))
     ∙ ap (flat_map (number_step_images step)) (flat_map-flat_map (steps_images steps) (copies repeats) l)
 
 pub repeat-behind : (steps : List NumberStep) (repeats : List ℕ) (n : ℕ) (l : List ℤ)

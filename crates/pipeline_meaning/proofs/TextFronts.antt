@@ -2,6 +2,7 @@
 use Rattle.std.specs.Prelude.{◌≡◌, ◌≤◌, ◌+◌, ◌==◌, ◌&&◌, true, ⊤, ℕ, List, [], ◌∷◌, ◌++◌, Option, Some, None, MatchOption, filter, flat_map, length, refl}
 use Rattle.std.proofs.Common.{Bor, arith, lit<, ap, ap₂, sym, subst, ◌∙◌, length-append}
 use Rattle.std.proofs.Math.Bool.{and-true}
+use Rattle.std.proofs.lemmas.List.{map-id}
 use Rattle.std.proofs.lemmas.List.Folds.{list_all-append}
 use Rattle.std.proofs.lemmas.List.Splits.{slice_split_first, slice_split_none}
 use Rattle.std.proofs.lemmas.List.Sums.{fails_before_first}
@@ -14,7 +15,7 @@ use Rattle.pipeline_meaning.specs.Functions.{text_holds}
 use Rattle.pipeline_meaning.specs.Stages.{text_stage, is_map_stage}
 use Rattle.pipeline_meaning.specs.TextSteps.{text_images, text_step_images, is_map_step, only_maps, Follows}
 use Rattle.stages.specs.Passing.{flat_map-one}
-use Rattle.parts.specs.Lists.{filter-flat_map}
+use Rattle.stream_functions.specs.Lists.{filter-flat_map}
 use Rattle.pipeline_meaning.specs.WalkLaws.{IsStep, all-one-more}
 use Rattle.pipeline_meaning.specs.declared.functions.TextCheck.{TextCheck}
 use Rattle.pipeline_meaning.specs.declared.text_steps.TextStep.{TextStep}
@@ -43,7 +44,7 @@ later-shorter bs (Some x) h =
 pub itself-step : (stage : TextStage) → stage ≡ stages.Map tt → IsStep text_step_images text_stage is_map_step is_map_stage Itself stage
 itself-step stage is =
     let P : TextStage → Type 0 = λ s. IsStep text_step_images text_stage is_map_step is_map_stage Itself s in
-    subst P (sym is) (flat_map-one, refl)
+    subst P (sym is) ((λ l. flat_map-one l ∙ sym (map-id l)), refl)
 
 pub filter-step : (stage : TextStage) (p : TextTest) (k : TextCheck) → stage ≡ stages.Filter p → k.test ≡ p
     → IsStep text_step_images text_stage is_map_step is_map_stage (Filter k) stage

@@ -7,7 +7,7 @@ use Rattle.spliterator.specs.Values.{IsI64, int_cmp-total}
 use Rattle.stages.specs.Operators.{IsAssociative}
 use Rattle.stages.specs.Choices.{either-value}
 use Rattle.stages.specs.Wrapping.{wrapped-value, wrapped_sum_assoc}
-use Rattle.parts.specs.Remainders.{remainder-value}
+use Rattle.stream_functions.specs.Remainders.{remainder-value}
 use Rattle.pipeline_language.specs.declared.pipeline.TextMerge.{TextMerge}
 use Rattle.pipeline_language.specs.declared.pipeline.TextMerge.TheVariants as texts
 use Rattle.pipeline_meaning.specs.Functions.{text_join}

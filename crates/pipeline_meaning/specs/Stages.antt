@@ -1,19 +1,32 @@
--- What the language's stages make of a list.
+-- What the language's stages make of a list, once for all kinds of items.
 use Rattle.std.specs.Prelude.{ℕ, ℤ, Bool, true, false, List, map, filter, flat_map, take, drop, take_while, bytes_eq}
 use Rattle.std.proofs.Math.ListN.{replicate}
 use Rattle.std.specs.Ordering.{int_eq}
+use Rattle.spliterator.specs.Values.{DecidesEquality, int_eq-decides, bytes_eq-decides}
 use Rattle.stages.specs.Distinct.{distinct}
 use Rattle.barriers.specs.Whiles.{drop_while}
 use Rattle.file_words.specs.Words.{words_of}
 use Rattle.pipeline_language.specs.declared.grammar.Barrier as barriers
 use Rattle.pipeline_language.specs.declared.grammar.Barrier.TheVariants.{Distinct, Limit, Skip, TakeWhile, DropWhile}
+use Rattle.pipeline_language.specs.declared.grammar.Expansion.{Expansion}
 use Rattle.pipeline_language.specs.declared.grammar.Expansion.TheVariants.{Repeat, Words}
 use Rattle.pipeline_language.specs.declared.grammar.Stage.{Stage}
 use Rattle.pipeline_language.specs.declared.grammar.Stage.TheVariants.{Map, Filter, FlatMap, Barrier}
 use Rattle.pipeline_language.specs.declared.item_count.ItemCount.{ItemCount}
+use Rattle.pipeline_language.specs.declared.pipeline.NumberFunction.{NumberFunction}
+use Rattle.pipeline_language.specs.declared.pipeline.NumberTest.{NumberTest}
+use Rattle.pipeline_language.specs.declared.pipeline.TextTest.{TextTest}
 use Rattle.pipeline_language.specs.Typed.{NumberStage, TextStage}
 use Rattle.pipeline_meaning.specs.Functions.{number_image, number_holds, text_holds}
 use Rattle.pipeline_meaning.specs.Walks.{one_after_other}
+
+-- What functions, tests and expansions do with items, and when two items are one.
+pub record Meaning (F P E X : Type 0) : Type 0 where
+  pub same : X → X → Bool
+  pub image : F → X → X
+  pub holds : P → X → Bool
+  pub expand : E → X → List X
+  pub decides : DecidesEquality same
 
 -- The stages are those of java.util.stream.Stream: map, filter, flatMap, distinct, limit, skip, takeWhile, dropWhile.
 -- A barrier goes by when items are the same, and by what its test holds of.
@@ -24,25 +37,40 @@ barrier_list same holds (Skip n) items = drop n.number items
 barrier_list same holds (TakeWhile p) items = take_while (holds p) items
 barrier_list same holds (DropWhile p) items = drop_while (holds p) items
 
-abbrev pub number_stage : NumberStage → List ℤ → List ℤ
-number_stage (Map f) items = map (number_image f) items
-number_stage (Filter p) items = filter (number_holds p) items
-number_stage (FlatMap n) items = flat_map (replicate n) items
-number_stage (Barrier b) items = barrier_list int_eq number_holds b items
+abbrev pub StageOf : Type 0 → Type 0 → Type 0 → Type 0
+StageOf F P E = Stage F P E ItemCount
+
+abbrev pub stage_list : {F P E X : Type 0} → Meaning F P E X → StageOf F P E → List X → List X
+stage_list m (Map f) items = map (m.image f) items
+stage_list m (Filter p) items = filter (m.holds p) items
+stage_list m (FlatMap e) items = flat_map (m.expand e) items
+stage_list m (Barrier b) items = barrier_list m.same m.holds b items
 
 -- one stage after the other
+abbrev pub stages_list : {F P E X : Type 0} → Meaning F P E X → List (StageOf F P E) → List X → List X
+stages_list m stages items = one_after_other (stage_list m) stages items
+
+abbrev pub number_meaning : Meaning NumberFunction NumberTest ℕ ℤ
+number_meaning = record { same = int_eq; image = number_image; holds = number_holds; expand = replicate; decides = int_eq-decides }
+
+abbrev pub text_expanded : Expansion → List ℕ → List (List ℕ)
+text_expanded (Repeat n) text = replicate n text
+text_expanded Words text = words_of text
+
+abbrev pub text_meaning : Meaning (Unit {0}) TextTest Expansion (List ℕ)
+text_meaning = record { same = bytes_eq; image = λ f text. text; holds = text_holds; expand = text_expanded; decides = bytes_eq-decides }
+
+abbrev pub number_stage : NumberStage → List ℤ → List ℤ
+number_stage stage items = stage_list number_meaning stage items
+
 abbrev pub number_stages : List NumberStage → List ℤ → List ℤ
-number_stages stages items = one_after_other number_stage stages items
+number_stages stages items = stages_list number_meaning stages items
 
 abbrev pub text_stage : TextStage → List (List ℕ) → List (List ℕ)
-text_stage (Map x) items = items
-text_stage (Filter p) items = filter (text_holds p) items
-text_stage (FlatMap (Repeat n)) items = flat_map (replicate n) items
-text_stage (FlatMap Words) items = flat_map words_of items
-text_stage (Barrier b) items = barrier_list bytes_eq text_holds b items
+text_stage stage items = stage_list text_meaning stage items
 
 abbrev pub text_stages : List TextStage → List (List ℕ) → List (List ℕ)
-text_stages stages items = one_after_other text_stage stages items
+text_stages stages items = stages_list text_meaning stages items
 
 -- a map gives one item for each
 abbrev pub is_map_stage : {F P E N : Type 0} → Stage F P E N → Bool

@@ -3,7 +3,7 @@ use Rattle.std.specs.Prelude.{ℕ, ℤ, List, None, ⊤}
 use Rattle.spliterator.specs.Values.{IsI64}
 use Rattle.collectors.specs.Laws.{CollectorLaws}
 use Rattle.collectors.specs.Reductions.{reduce_add, reduce_merge, reduce_laws}
-use Rattle.parts.specs.declared.itself.Itself.{Itself}
+use Rattle.stream_functions.specs.declared.itself.Itself.{Itself}
 use Rattle.pipeline_meaning.specs.Adapting.{adapted_add, adapted_items, adapted_laws}
 use Rattle.pipeline_meaning.specs.Functions.{text_holds}
 use Rattle.pipeline_meaning.specs.Prepared.{mapping_image, check_holds, merging_join}

@@ -3,10 +3,10 @@ ghost use Rattle.std.specs.Prelude.{◌≡◌, OnOk, [], ◌∷◌, cond, flat_m
 ghost use Rattle.pipeline_meaning.specs.Prepared.{check_holds, mapping_image};
 
 use crate::functions::{NumberChange, NumberCheck, NumberComparison, NumberMapping};
-use parts::{
+use spliterator::NoMemory;
+use stream_functions::{
     Above, Below, Divisible, Equal, Negated, Plus, Times, keep_all, keep_runs, map_all, remainders,
 };
-use spliterator::NoMemory;
 
 /// Puts each number's image in its place.
 pub(crate) fn map_block(mapping: NumberMapping, items: &mut Vec<i64>) -> Result<(), NoMemory>

@@ -6,10 +6,10 @@ ghost use Rattle.pipeline_meaning.specs.Functions.{number_image, number_holds, n
 ghost use Rattle.pipeline_meaning.specs.Prepared.{change_image, mapping_image, comparison_holds, check_holds, joining_join, merging_join};
 ghost use Rattle.pipeline_meaning.specs.PreparedLaws.{mapping_image-value, merging_join-value, text_join-value};
 
-use parts::{Above, Below, Divisible, Divisor, Equal};
 use pipeline_language::{Merge, NumberFunction, NumberTest, TextMerge, TextTest};
 use spliterator::{NoMemory, Text, Value};
 use stages::{Mapping, Operator, Test};
+use stream_functions::{Above, Below, Divisible, Divisor, Equal};
 
 /// A sum, a product or the number's negative, each wrapped.
 #[derive(Clone, Copy)]

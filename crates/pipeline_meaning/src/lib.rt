@@ -10,7 +10,6 @@ mod number_steps;
 mod number_summaries;
 mod seeded_hashes;
 mod text_bases;
-mod text_inners;
 mod text_steps;
 mod text_summaries;
 
@@ -27,10 +26,7 @@ pub use number_summaries::{
 };
 pub use seeded_hashes::{Seed, SeededHashes};
 pub use text_bases::{TextBaseCollector, TextBaseContainer, TextBaseResult, text_base};
-pub use text_inners::{
-    TextInnerCollector, TextInnerContainer, TextInnerResult, text_inner, text_lengths,
-};
 pub use text_steps::TextSteps;
 pub use text_summaries::{
-    TextSummaryCollector, TextSummaryContainer, TextSummaryResult, text_summary,
+    TextInnerCollector, TextSummaryCollector, TextSummaryContainer, TextSummaryResult, text_summary,
 };

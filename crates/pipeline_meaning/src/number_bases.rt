@@ -14,10 +14,10 @@ ghost use Rattle.value_text.specs.SummaryLaws.{optional_tells, either_tells, joi
 use crate::NumberMerging;
 use collectors::{Collector, Counting, Reducing, SummingLong};
 use either::{Either, Left, Right};
-use parts::Itself;
 use pipeline_language::{Merge, NumberBase, NumberOnly};
 use spliterator::NoMemory;
 use std::alloc::Global;
+use stream_functions::Itself;
 use value_text::{ListText, Summarizes, Written};
 
 // What is made of numbers at once, as is chosen at run time.

@@ -1,12 +1,12 @@
 //! Copies of a block's numbers, a room at a time.
-ghost use Rattle.std.specs.Prelude.{◌≤◌, OnOk, OnErr, flat_map};
+ghost use Rattle.std.specs.Prelude.{OnOk, OnErr, flat_map};
 ghost use Rattle.std.proofs.Math.ListN.{replicate};
 ghost use Rattle.pipeline_meaning.specs.NumberSteps.{copies};
 
-use parts::copy_each;
 use spliterator::NoMemory;
 use stages::Sink;
 use std::alloc::Global;
+use stream_functions::copy_each;
 
 /// How many copies a sink is given at once.
 const ROOM: usize = 1024;

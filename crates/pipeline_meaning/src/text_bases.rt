@@ -1,28 +1,37 @@
-//! The collector of a base of texts, chosen at run time.
+//! The collector of a base of texts or of their lengths, chosen at run time.
 ghost use Rattle.std.proofs.Common.{ap};
-ghost use Rattle.std.specs.Prelude.{◌≡◌, ⊤, ℕ, pos, refl, List};
+ghost use Rattle.std.specs.Prelude.{◌≡◌, ⊤, ℕ, pos, refl, List, map};
 ghost use Rattle.std.specs.Fmt.{signed_decimal};
+ghost use Rattle.spliterator.specs.Values.{IsI64};
+ghost use Rattle.stages.specs.Wrapping.{wrapped-value};
 ghost use Rattle.collectors.specs.Either.{either_laws};
+ghost use Rattle.collectors.specs.NestedLaws.{mapping_laws};
 ghost use Rattle.collectors.specs.Reductions.{first, first_laws};
 ghost use Rattle.collectors.specs.Sums.{sum_laws};
 ghost use Rattle.value_text.specs.Texts.{itself};
-ghost use Rattle.pipeline_meaning.specs.Summaries.{text_base_text};
+ghost use Rattle.pipeline_meaning.specs.Functions.{text_length};
+ghost use Rattle.pipeline_meaning.specs.StepLaws.{numbers_behind, numbers_behind_laws};
+ghost use Rattle.pipeline_meaning.specs.Summaries.{number_inner_text, text_base_text};
+ghost use Rattle.pipeline_meaning.specs.contracts.number_bases.NumberBaseCollectorCollector.TheImpl.Laws as numbers;
+ghost use Rattle.pipeline_meaning.specs.contracts.number_bases.NumberBaseCollectorSummarizes.TheImpl.Laws as numbers_told;
 ghost use Rattle.value_text.specs.SummaryLaws.{optional_tells, either_tells, joined_text_laws};
 
-use collectors::{Collector, Counting, First};
+use crate::number_summaries::{NumberInnerCollector, number_inner};
+use collectors::{Collector, Counting, First, MappingTo};
 use either::{Either, Left, Right};
-use pipeline_language::TextBase;
+use pipeline_language::{NumberInner, TextBase};
 use spliterator::NoMemory;
 use std::alloc::Global;
+use stream_functions::Length;
 use value_text::{JoinedText, Summarizes, Written};
 
-// What is made of texts at once, as is chosen at run time.
+// What is made of texts at once, or of their lengths, as is chosen at run time.
 type TextBaseChoice<'a> = Either<
     Either<Counting<&'a str>, First<&'a str>>,
-    JoinedText<'a, &'a str>,
+    Either<JoinedText<'a, &'a str>, MappingTo<&'a str, Length, NumberInnerCollector>>,
 >;
 
-/// What is made of texts at once.
+/// What is made of texts at once, or of their lengths.
 #[derive(Drop)]
 pub struct TextBaseCollector<'a> {
     chosen: TextBaseChoice<'a>,
@@ -71,7 +80,9 @@ impl<'a> Collector for TextBaseCollector<'a> {
 
     ghost laws = { λ c. either_laws (λ _. ⊤) _ _ _ _ _ _
         (either_laws (λ _. ⊤) _ _ _ _ _ _ (λ _. sum_laws (λ _. pos 1) (λ _. ⊤)) (λ _. first_laws (λ _. ⊤)))
+        (either_laws (λ _. ⊤) _ _ _ _ _ _
         (λ joined. joined_text_laws (λ text. text) joined.between.now (λ _. ⊤))
+        (λ m. mapping_laws text_length _ _ (λ _. ⊤) IsI64 (λ _ _. wrapped-value _) _ (numbers_behind_laws (numbers.laws-law m.downstream.downstream) m.downstream.step)))
         c.chosen };
 
     fn supply(&self) -> Result<TextBaseContainer<'a>, NoMemory> {
@@ -115,7 +126,8 @@ impl<'a> Summarizes for TextBaseCollector<'a> {
 
     ghost tells = { λ c l result. either_tells
         (either_tells (λ _ _ _ h. ap signed_decimal h) (λ _ l made. optional_tells (λ text. text.now) (λ text. text.now) itself (λ _. refl) made (first l)))
-        (λ _ _ _ h. h)
+        (either_tells (λ _ _ _ h. h)
+        (λ m l. numbers_told.tells-law m.downstream.downstream (numbers_behind m.downstream.step (map text_length l))))
         c.chosen l result.made };
 }
 
@@ -128,8 +140,18 @@ pub fn text_base<'a>(alloc: Global, base: TextBase<'a>) -> TextBaseCollector<'a>
     let chosen = match base {
         TextBase::Count => Left(Left(Counting::new())),
         TextBase::First => Left(Right(First::new())),
-        TextBase::ToList => Right(JoinedText::list(alloc)),
-        TextBase::Own(delimiter) => Right(JoinedText::new(alloc, delimiter)),
+        TextBase::ToList => Right(Left(JoinedText::list(alloc))),
+        TextBase::Own(delimiter) => Right(Left(JoinedText::new(alloc, delimiter))),
     };
+    TextBaseCollector { chosen }
+}
+
+/// The collector of the lengths of texts.
+pub(crate) fn text_lengths<'a>(alloc: Global, inner: NumberInner) -> TextBaseCollector<'a>
+    ensures ready { ⟦<TextBaseCollector<'a> as Collector>⟧.ready result }
+    ensures summary { (l : List (List ℕ)) → ⟦<TextBaseCollector<'a> as Summarizes>⟧.summary result l
+        ≡ number_inner_text inner (map text_length l) }
+{
+    let chosen = Right(Right(MappingTo::new(Length, number_inner(alloc, inner))));
     TextBaseCollector { chosen }
 }

@@ -1,6 +1,5 @@
 //! The stages over texts that look at one item at a time, as one stage that walks them.
 ghost use Rattle.std.specs.Prelude.{◌≡◌, ◌≤◌, ◌<◌, ℕ, IsTrue, IfOk, OnOk, OnErr, List, ◌∷◌, Option, true, MatchBool, MatchOption, flat_map, length};
-ghost use Rattle.std.specs.List.{list_all};
 ghost use Rattle.std.specs.Ordering.{nat_cmp};
 ghost use Rattle.std.specs.Cmp.Lexicographic.{slice_cmp};
 ghost use Rattle.std.proofs.Math.ListN.{replicate};

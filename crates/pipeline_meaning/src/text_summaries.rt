@@ -10,19 +10,22 @@ ghost use Rattle.pipeline_meaning.specs.StepLaws.{texts_behind, texts_behind_law
 ghost use Rattle.value_text.specs.Texts.{itself};
 ghost use Rattle.pipeline_meaning.specs.Summaries.{text_inner_text, text_summary_text, text_groups_text};
 ghost use Rattle.value_text.specs.SummaryLaws.{either_tells, groups_tell};
-ghost use Rattle.pipeline_meaning.specs.contracts.text_inners.TextInnerCollectorCollector.TheImpl.Laws as inner;
-ghost use Rattle.pipeline_meaning.specs.contracts.text_inners.TextInnerCollectorSummarizes.TheImpl.Laws as told;
+ghost use Rattle.pipeline_meaning.specs.contracts.text_bases.TextBaseCollectorCollector.TheImpl.Laws as base;
+ghost use Rattle.pipeline_meaning.specs.contracts.text_bases.TextBaseCollectorSummarizes.TheImpl.Laws as told;
 
 use crate::seeded_hashes::SeededHashes;
-use crate::text_inners::{TextInnerCollector, text_inner, text_lengths};
+use crate::text_bases::{TextBaseCollector, text_base, text_lengths};
 use crate::{Adapted, Adapting, TextCheck};
 use collectors::{Collector, GroupingBy};
 use either::{Either, Left, Right};
-use parts::{Itself, Length};
-use pipeline_language::{Mapped, TextFunction, TextInner, TextSummary};
+use pipeline_language::{Mapped, NumberInner, TextFunction, TextInner, TextSummary};
 use spliterator::NoMemory;
 use std::alloc::Global;
+use stream_functions::{Itself, Length};
 use value_text::{Summarizes, Written, grouped};
+
+/// What is made of texts inside another collector.
+pub type TextInnerCollector<'a> = Adapted<Itself, TextCheck<'a>, TextBaseCollector<'a>>;
 
 // The groups of texts by their lengths.
 type TextsByLength<'a> = GroupingBy<Length, TextInnerCollector<'a>, SeededHashes>;
@@ -87,10 +90,10 @@ impl<'a> Collector for TextSummaryCollector<'a> {
     ghost gives = { λ c l result. ⟦<TextSummaryChoice<'a> as Collector>⟧.gives c.chosen l result.made };
 
     ghost laws = { λ c. either_laws (λ _. ⊤) _ _ _ _ _ _
-        (λ a. texts_behind_laws (inner.laws-law a.downstream) a.step)
+        (λ a. texts_behind_laws (texts_behind_laws (base.laws-law a.downstream.downstream) a.downstream.step) a.step)
         (either_laws (λ _. ⊤) _ _ _ _ _ _
-        (λ g. grouping_laws int_eq int_eq-decides text_length (λ _. ⊤) _ _ _ (inner.laws-law g.downstream))
-        (λ g. grouping_laws bytes_eq bytes_eq-decides itself (λ _. ⊤) _ _ _ (inner.laws-law g.downstream)))
+        (λ g. grouping_laws int_eq int_eq-decides text_length (λ _. ⊤) _ _ _ (texts_behind_laws (base.laws-law g.downstream.downstream) g.downstream.step))
+        (λ g. grouping_laws bytes_eq bytes_eq-decides itself (λ _. ⊤) _ _ _ (texts_behind_laws (base.laws-law g.downstream.downstream) g.downstream.step)))
         c.chosen };
 
     fn supply(&self) -> Result<TextSummaryContainer<'a>, NoMemory> {
@@ -132,11 +135,33 @@ impl<'a> Summarizes for TextSummaryCollector<'a> {
     ghost summary = { λ c. ⟦<TextSummaryChoice<'a> as Summarizes>⟧.summary c.chosen };
 
     ghost tells = { λ c l result. either_tells
-        (λ a l. told.tells-law a.downstream (texts_behind a.step l))
+        (λ a l. told.tells-law a.downstream.downstream (texts_behind a.downstream.step (texts_behind a.step l)))
         (either_tells
-        (λ g l made. groups_tell signed_decimal (λ n. n) signed_decimal (λ _. refl) int_eq text_length _ _ _ (told.tells-law g.downstream) l made.entries)
-        (λ g l made. groups_tell (λ text. text.now) (λ text. text.now) itself (λ _. refl) bytes_eq itself _ _ _ (told.tells-law g.downstream) l made.entries))
+        (λ g l made. groups_tell signed_decimal (λ n. n) signed_decimal (λ _. refl) int_eq text_length _ _ _
+        (λ l. told.tells-law g.downstream.downstream (texts_behind g.downstream.step l)) l made.entries)
+        (λ g l made. groups_tell (λ text. text.now) (λ text. text.now) itself (λ _. refl) bytes_eq itself _ _ _
+        (λ l. told.tells-law g.downstream.downstream (texts_behind g.downstream.step l)) l made.entries))
         c.chosen l result.made };
+}
+
+/// The collector of texts inside another.
+fn text_inner<'a>(alloc: Global, inner: TextInner<'a>) -> TextInnerCollector<'a>
+    ensures ready { ⟦<TextInnerCollector<'a> as Collector>⟧.ready result }
+    ensures summary { (l : List (List ℕ)) → ⟦<TextInnerCollector<'a> as Summarizes>⟧.summary result l
+        ≡ text_inner_text inner.entry l }
+{
+    let (step, base) = match inner {
+        TextInner::Base(base) | TextInner::Mapping(Mapped::Itself(base)) => (
+            Adapting::Nothing,
+            base,
+        ),
+        TextInner::Mapping(Mapped::Length(base)) => {
+            let lengths = text_lengths(alloc, NumberInner::Base(base));
+            return Adapted::new(Adapting::Nothing, lengths);
+        }
+        TextInner::Filtering(test, base) => (Adapting::Filtering(TextCheck::of(test)), base),
+    };
+    Adapted::new(step, text_base(alloc, base))
 }
 
 // The collector of groups of texts.
@@ -175,7 +200,7 @@ pub fn text_summary<'a>(
         ),
         TextSummary::Mapping(Mapped::Length(inner)) => (
             Adapting::Nothing,
-            text_lengths(alloc, inner),
+            Adapted::new(Adapting::Nothing, text_lengths(alloc, inner)),
         ),
         TextSummary::Filtering(test, inner) => {
             let step = Adapting::Filtering(TextCheck::of(test));

@@ -1,10 +1,9 @@
 -- Copies of each member of a list, and what moves past them.
-use Rattle.std.specs.Prelude.{◌≡◌, ◌≤◌, ◌+◌, ◌*◌, ◌||◌, ℕ, zero, suc, Bool, true, false, cond, List, [], ◌∷◌, ◌++◌, map, filter, flat_map, take, drop, take_while, refl}
+use Rattle.std.specs.Prelude.{◌≡◌, ◌≤◌, ◌+◌, ◌*◌, ◌||◌, ℕ, zero, suc, Bool, true, false, cond, List, [], ◌∷◌, ◌++◌, flat_map, take, drop, take_while, refl}
 use Rattle.std.specs.List.{list_any, prefix_len}
 use Rattle.std.proofs.Common.{ap, ap₂, sym, ◌∙◌, arith}
 use Rattle.std.proofs.Math.ListN.{replicate}
-use Rattle.std.proofs.lemmas.List.{drop_all, map-append}
-use Rattle.std.proofs.lemmas.List.Elements.{filter-append}
+use Rattle.std.proofs.lemmas.List.{drop_all}
 use Rattle.std.proofs.lemmas.List.Folds.{list_any-append}
 use Rattle.barriers.specs.Whiles.{drop_while}
 use Rattle.spliterator.specs.Values.{DecidesEquality}
@@ -12,16 +11,6 @@ use Rattle.stages.specs.Distinct.{distinct, distinct_after}
 use Rattle.stages.specs.Tests.{either, same-itself}
 
 -- ---- one member's copies
-
-pub map-copy : {X Y : Type 0} (f : X → Y) (k : ℕ) (x : X) → map f (replicate k x) ≡ replicate k (f x)
-map-copy f zero x = refl
-map-copy f (suc k) x = ap (λ l. f x ∷ l) (map-copy f k x)
-
-filter-copy : {X : Type 0} (p : X → Bool) (k : ℕ) (x : X) (b : Bool) → p x ≡ b → filter p (replicate k x) ≡ cond b (replicate k x) []
-filter-copy p zero x true is = refl
-filter-copy p zero x false is = refl
-filter-copy p (suc k) x true is = ap (λ b. cond b (x ∷ filter p (replicate k x)) (filter p (replicate k x))) is ∙ ap (λ l. x ∷ l) (filter-copy p k x true is)
-filter-copy p (suc k) x false is = ap (λ b. cond b (x ∷ filter p (replicate k x)) (filter p (replicate k x))) is ∙ filter-copy p k x false is
 
 take-past : {X : Type 0} (k n : ℕ) (x : X) (l : List X) → take (k + n) (replicate k x ++ l) ≡ replicate k x ++ take n l
 take-past zero n x l = let e : zero + n ≡ n = omega arith in ap (λ i. take i l) e
@@ -36,21 +25,6 @@ prefix-past p zero x l is = omega arith
 prefix-past p (suc k) x l is = ap (λ b. cond b (1 + prefix_len p (replicate k x ++ l)) 0) is ∙ (let e = prefix-past p k x l is in omega arith)
 
 -- ---- what moves past the copies of all
-
-pub copies-map : {X Y : Type 0} (f : X → Y) (k : ℕ) (l : List X) → map f (flat_map (replicate k) l) ≡ flat_map (replicate k) (map f l)
-copies-map f k [] = refl
-copies-map f k (x ∷ l) = map-append f (replicate k x) (flat_map (replicate k) l) ∙ ap₂ (λ a b. a ++ b) (map-copy f k x) (copies-map f k l)
-
-pub copies-filter : {X : Type 0} (p : X → Bool) (k : ℕ) (l : List X) → filter p (flat_map (replicate k) l) ≡ flat_map (replicate k) (filter p l)
-copies-filter p k [] = refl
-copies-filter {X} p k (x ∷ l) = filter-append p (replicate k x) (flat_map (replicate k) l) ∙ ap (λ r. filter p (replicate k x) ++ r) (copies-filter p k l) ∙ first (p x) refl
-  where
-    kept : List X
-    kept = filter p l
-
-    first : (b : Bool) → p x ≡ b → filter p (replicate k x) ++ flat_map (replicate k) (filter p l) ≡ flat_map (replicate k) (cond b (x ∷ filter p l) (filter p l))
-    first true is = ap (λ r. r ++ flat_map (replicate k) (filter p l)) (filter-copy p k x true is)
-    first false is = ap (λ r. r ++ flat_map (replicate k) (filter p l)) (filter-copy p k x false is)
 
 times-next : (k n : ℕ) → k * suc n ≡ k + k * n
 times-next k n = omega arith

@@ -1,5 +1,3 @@
-pub mod Meanings
-pub mod Agreement
 pub mod Better
 pub mod Copies
 pub mod Neighbours

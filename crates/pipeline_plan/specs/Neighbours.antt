@@ -4,8 +4,9 @@ use Rattle.std.proofs.Common.{ap, sym, ◌∙◌, arith, true≢false}
 use Rattle.std.proofs.Math.ListN.{replicate}
 use Rattle.std.proofs.lemmas.List.{drop-map, take-map}
 use Rattle.pipeline_plan.specs.Better.{Betters, weight}
-use Rattle.pipeline_plan.specs.Copies.{copies-drop, copies-map, copies-filter, copies-take, copies-take_while, copies-drop_while, distinct-copies}
-use Rattle.pipeline_plan.specs.Meanings.{Meaning, StageOf, stage_list}
+use Rattle.pipeline_meaning.proofs.Copies.{copies-map, copies-filter}
+use Rattle.pipeline_plan.specs.Copies.{copies-drop, copies-take, copies-take_while, copies-drop_while, distinct-copies}
+use Rattle.pipeline_meaning.specs.Stages.{Meaning, StageOf, stage_list}
 use Rattle.pipeline_language.specs.declared.grammar.Barrier.TheVariants.{Distinct, Limit, Skip, TakeWhile, DropWhile}
 use Rattle.pipeline_language.specs.declared.grammar.Stage.TheVariants.{Map, Filter, FlatMap, Barrier}
 
@@ -41,9 +42,6 @@ module _ {F P E X : Type 0} (m : Meaning F P E X) where
   window-first (Map f) (Barrier (Limit n)) is = record { same = λ l. sym (take-map (m.image f) n.number l); less = λ rest. omega arith }
   window-first (Map f) (Barrier (Skip n)) is = record { same = λ l. sym (drop-map (m.image f) n.number l); less = λ rest. omega arith }
   window-first _ _ is = absurd (true≢false (sym is))
-
-  pub repeats-expansion : (e : E) (k : ℕ) → ((x : X) → m.expand e x ≡ replicate k x) → Repeats m (FlatMap e) k
-  repeats-expansion e k h = record { copies = λ l i. flat_map (λ x. h x i) l; light = refl }
 
   pub weighs : (s : StageOf F P E) → 1 ≤ weight s
   weighs (FlatMap e) = omega arith

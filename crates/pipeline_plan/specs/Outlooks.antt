@@ -12,7 +12,7 @@ use Rattle.stages.specs.declared.flags.Operation.{Operation}
 use Rattle.stages.specs.declared.flags.StreamFlags.{StreamFlags}
 use Rattle.stages.specs.declared.flags.Operation.TheVariants as operations
 use Rattle.barriers.specs.BarrierFlags.{KeepsSound-distinct, KeepsSound-drop, KeepsSound-drop_while, KeepsSound-take, KeepsSound-take_while}
-use Rattle.pipeline_plan.specs.Meanings.{Meaning, StageOf, stage_list}
+use Rattle.pipeline_meaning.specs.Stages.{Meaning, StageOf, stage_list}
 use Rattle.pipeline_plan.specs.declared.outlook.Outlook.{Outlook}
 use Rattle.pipeline_language.specs.declared.grammar.Barrier.TheVariants.{Distinct, Limit, Skip, TakeWhile, DropWhile}
 use Rattle.pipeline_language.specs.declared.grammar.Stage.TheVariants.{Map, Filter, FlatMap, Barrier}

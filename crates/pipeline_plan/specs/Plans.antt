@@ -8,7 +8,7 @@ use Rattle.pipeline_plan.specs.Neighbours.{is_distinct, weighs}
 use Rattle.pipeline_language.specs.declared.grammar.Barrier.TheVariants.{Distinct}
 use Rattle.pipeline_language.specs.declared.grammar.Stage.TheVariants.{Barrier}
 use Rattle.pipeline_plan.specs.Better.{Betters, work}
-use Rattle.pipeline_plan.specs.Meanings.{Meaning, StageOf, stage_list, stages_list}
+use Rattle.pipeline_meaning.specs.Stages.{Meaning, StageOf, stage_list, stages_list}
 
 module _ {F P E X : Type 0} (m : Meaning F P E X) where
   pub stages-append : (a b : List (StageOf F P E)) (l : List X) → stages_list m (a ++ b) l ≡ stages_list m b (stages_list m a l)

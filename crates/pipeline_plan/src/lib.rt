@@ -10,7 +10,6 @@ mod sums;
 mod windows;
 
 pub use kind::{Kind, Numbers, StageOf, Texts};
-pub use neighbours::Instead;
 pub use numbers::NumberRange;
 pub use outlook::Outlook;
 pub use plan::{Plan, PlanSource, optimised, outlook_of};

@@ -1,7 +1,7 @@
 //! Two stages, one behind the other, that are put more simply.
 
 ghost use Rattle.std.specs.Prelude.{◌≡◌, ◌≤◌, ◌+◌, IfSome, List, [], ◌++◌, drop, length, take, true};
-ghost use Rattle.pipeline_plan.specs.Meanings.{stage_list};
+ghost use Rattle.pipeline_meaning.specs.Stages.{stage_list};
 ghost use Rattle.pipeline_plan.specs.Better.{Betters, IsBetter, instead_list};
 ghost use Rattle.pipeline_plan.specs.Neighbours.{IsWindowOver, Repeats, is_distinct, is_window_behind_map, passes_copies};
 

@@ -1,7 +1,7 @@
 //! What is known of items before anything runs: the library's flags, and the number of the items.
 
 ghost use Rattle.std.specs.Prelude.{◌≡◌, IfSome, List, length, map};
-ghost use Rattle.pipeline_plan.specs.Meanings.{stage_list, stages_list};
+ghost use Rattle.pipeline_meaning.specs.Stages.{stage_list, stages_list};
 ghost use Rattle.pipeline_plan.specs.Outlooks.{IsOutlook, operation_of, size_behind};
 
 use crate::{Kind, StageOf};

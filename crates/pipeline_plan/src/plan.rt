@@ -1,8 +1,8 @@
 //! A pipeline's plan, and the loop that makes it simpler.
 
-ghost use Rattle.std.specs.Prelude.{◌≡◌, ◌<◌, IfSome, IsTrue, List, drop, length, remove, true};
+ghost use Rattle.std.specs.Prelude.{◌≡◌, ◌<◌, IfSome, List, length, remove, true};
 ghost use Rattle.pipeline_plan.specs.Better.{work};
-ghost use Rattle.pipeline_plan.specs.Meanings.{stage_list, stages_list};
+ghost use Rattle.pipeline_meaning.specs.Stages.{stage_list, stages_list};
 ghost use Rattle.pipeline_plan.specs.Outlooks.{IsOutlook};
 
 use crate::neighbours::{better_neighbours, is_distinct, makes_none, put};

@@ -1,7 +1,7 @@
 //! The sum of numbers by one step, known before anything runs.
 
 ghost use Rattle.std.specs.Prelude.{◌≡◌, ◌≤◌, ◌^◌, ◌-ℤ◌, IfSome, fold, pos, suc};
-ghost use Rattle.pipeline_plan.specs.Meanings.{number_meaning, stages_list};
+ghost use Rattle.pipeline_meaning.specs.Stages.{number_meaning, stages_list};
 ghost use Rattle.pipeline_plan.specs.Numbers.{range_items};
 ghost use Rattle.stages.specs.Products.{wrapped_product};
 ghost use Rattle.stages.specs.Wrapping.{wrapped, wrapped_sum};

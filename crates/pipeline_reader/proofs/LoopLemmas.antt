@@ -20,11 +20,7 @@ use Rattle.pipeline_language.specs.declared.grammar.Function.TheVariants.{Length
 use Rattle.pipeline_language.specs.declared.grammar.Stage.TheVariants.{Map}
 use Rattle.pipeline_language.specs.Syntax.{Stage, BodyLine, Kind, NumberKind, TextKind, Coming, comes, kind_after, value_kind, after_stage}
 use Rattle.pipeline_language.specs.FileReading.{Reads, Texts, texts_from, first_text, in_front, going_on, body_from, first_of}
-use Rattle.pipeline_language.proofs.BodyLemmas.{body_by_first, in_front_none, in_front_twice, in_front_of_none}
-
--- before the first line
-pub no_stages : (coming : Coming) (n m : ℕ) (lines : List (List ℕ)) → m ≡ n → body_from coming n lines ≡ in_front [] (body_from coming m lines)
-no_stages coming n m lines same = ap (λ k. body_from coming k lines) (sym same) ∙ sym (in_front_none (body_from coming m lines))
+use Rattle.pipeline_language.proofs.BodyLemmas.{body_by_first, in_front_twice, in_front_of_none}
 
 -- Behind k stages that were read stands the line with the number k more: places tells what comes to it.
 pub first_behind : (stages : List Stage) (places : ℕ → Coming) (number k n : ℕ) → k ≡ n → (lines : List (List ℕ)) (whole : Result Body FileFault) (r : Result BodyLine FileFault) → whole ≡ in_front stages (body_from (places n) (number + n) lines) → first_of (places k) (number + k) lines ≡ r → whole ≡ in_front stages (r >>= λ b. going_on b (λ stage. body_from (after_stage (places n) stage) ((number + n) + 1) (drop 1 lines)))

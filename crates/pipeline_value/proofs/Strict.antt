@@ -26,13 +26,6 @@ module _ {K : Type 0} (same : K → K → Bool) (decides : DecidesEquality same)
       let new = apart-before earlier k ks apart in
       simp new (none-repeats (earlier ++ k ∷ []) ks (subst (AllApart same) (sym (append_assoc earlier (k ∷ []) ks)) apart))
 
-  AllApart-front : (front back : List K) → AllApart same (front ++ back) → AllApart same front
-  AllApart-front [] back apart = tt
-  AllApart-front (j ∷ front) back apart = (
-    or-false_left (list_any (same j) front) (list_any (same j) back) (sym (list_any-append (same j) front back) ∙ apart.0),
-    AllApart-front front back apart.1,
-  )
-
   pub one-repeats : (earlier front : List K) (k : K) (back : List K) → AllApart same (earlier ++ front) → list_any (same k) (earlier ++ front) ≡ true
       → first_repeat same earlier (front ++ k ∷ back) ≡ Some k
   one-repeats earlier [] k back apart there =

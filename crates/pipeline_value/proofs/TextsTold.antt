@@ -1,7 +1,7 @@
 -- What is told of texts is told of the items that they are.
 use Rattle.std.specs.Prelude.{◌≡◌, ℕ, not, List, [], ◌∷◌, map, filter, Ok, refl}
 use Rattle.std.proofs.Math.ListN.{replicate}
-use Rattle.std.proofs.Common.{ap, ap₂, ◌∙◌}
+use Rattle.std.proofs.Common.{ap, ap₂, map-id, ◌∙◌}
 use Rattle.file_words.specs.Words.{words_of}
 use Rattle.pipeline_language.specs.Typed.{TextBase, TextInner, TextStage, TextSummary, TextTerminal, TextValue}
 use Rattle.pipeline_language.specs.Content.{text_base, text_function, text_inner, text_merge, text_stage, text_summary, text_terminal, text_test, text_value}
@@ -43,10 +43,6 @@ texts-back : (l : List (List ℕ)) → map item_text (map Text l) ≡ l
 texts-back [] = refl
 texts-back (x ∷ l) = ap (λ r. x ∷ r) (texts-back l)
 
-kept : (l : List Item) → map (λ x. x) l ≡ l
-kept [] = refl
-kept (x ∷ l) = ap (λ r. x ∷ r) (kept l)
-
 -- the lengths of texts, as items
 pub lengths : (l : List (List ℕ)) → map (image Length) (map Text l) ≡ map Number (map text_length l)
 lengths l = map-both Text Number (image Length) text_length (λ x. refl) l
@@ -55,7 +51,7 @@ passed : (p : TextTest) (l : List (List ℕ)) → filter (holds (text_test p)) (
 passed p l = filter-both Text (holds (text_test p)) (text_holds p) (holds-text p) l
 
 pub stage-text : (stage : TextStage) (l : List (List ℕ)) → stage_items (text_stage stage) (map Text l) ≡ map Text (meaning.text_stage stage l)
-stage-text (stages.Map x) l = kept (map Text l)
+stage-text (stages.Map x) l = map-both Text Text (λ t. t) (λ t. t) (λ t. refl) l
 stage-text (stages.Filter p) l = passed p l
 stage-text (stages.FlatMap (Repeat n)) l = flat_map-both Text (replicate n) (replicate n) (replicate-both Text n) l
 stage-text (stages.FlatMap Words) l = flat_map-both Text (expanded Words) words_of (λ x. refl) l
@@ -70,7 +66,7 @@ base-text (bases.Own between) l = ap (text_base_text (bases.Own between)) (texts
 inner-text : (inner : TextInner) (l : List (List ℕ)) → inner_text (text_inner inner) (map Text l) ≡ text_inner_text inner l
 inner-text (inners.Base base) l = base-text base l
 inner-text (inners.Mapping (values.Length base)) l = ap (base_text _) (lengths l) ∙ base-number base (map text_length l)
-inner-text (inners.Mapping (values.Itself base)) l = ap (base_text (text_base base)) (kept (map Text l)) ∙ base-text base l
+inner-text (inners.Mapping (values.Itself base)) l = ap (base_text (text_base base)) (map-id (map Text l)) ∙ base-text base l
 inner-text (inners.Filtering p base) l = ap (base_text (text_base base)) (passed p l) ∙ base-text base _
 
 module _ (kept_text : List Item → List ℕ) (told : List (List ℕ) → List ℕ) (same : (l : List (List ℕ)) → kept_text (map Text l) ≡ told l) where
@@ -81,7 +77,7 @@ module _ (kept_text : List Item → List ℕ) (told : List (List ℕ) → List �
 summary-text : (summary : TextSummary) (l : List (List ℕ)) → summary_text (text_summary summary) (map Text l) ≡ text_summary_text summary l
 summary-text (summaries.Base base) l = base-text base l
 summary-text (summaries.Mapping (values.Length inner)) l = ap (inner_text _) (lengths l) ∙ inner-number inner (map text_length l)
-summary-text (summaries.Mapping (values.Itself inner)) l = ap (inner_text (text_inner inner)) (kept (map Text l)) ∙ inner-text inner l
+summary-text (summaries.Mapping (values.Itself inner)) l = ap (inner_text (text_inner inner)) (map-id (map Text l)) ∙ inner-text inner l
 summary-text (summaries.Filtering p inner) l = ap (inner_text (text_inner inner)) (passed p l) ∙ inner-text inner _
 summary-text (summaries.GroupBy f inner) l = groups-text (inner_text (text_inner inner)) (text_inner_text inner) (inner-text inner) f l
 

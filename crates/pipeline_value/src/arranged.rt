@@ -11,10 +11,12 @@ use crate::engine::Engine;
 use crate::nested::{paired, parted};
 use crate::told::ValueError;
 use collectors::{Collector, Counting};
-use parallel_streams::Stream;
+use parallel_streams::Plumbing;
+use spliterator::EqualValue;
 use stages::{Mapping, Test};
 use std::hash::Hash;
 use std::thread::Threads;
+use std::time::Clock;
 use stealing_pool::Gate;
 use value_text::{Rope, Spelled, Summarizes, Written, grouped};
 
@@ -25,13 +27,10 @@ pub(crate) fn arranged_value<R, X, K, P, B, D, H>(
     arrangement: Arrangement<K, P, B, D>,
 ) -> Result<Rope, ValueError>
 where
-    R: Threads + Sync,
-    X: Stream + Sync,
-    X::Item: Send + Sync,
-    X::Progress: Send + Sync,
-    X::Part: Send,
+    R: Threads + Clock + Sync,
+    X: Plumbing,
     K: Mapping<X::Item> + Drop + Sync,
-    K::Out: Spelled + Hash + Drop + Send,
+    K::Out: EqualValue + Spelled + Hash + Drop + Send,
     P: Test<X::Item> + Drop + Sync,
     B: Summarizes + Collector<Item = X::Item> + Drop + Sync,
     B::Acc: Send,
@@ -61,13 +60,10 @@ pub(crate) fn grouped_value<R, X, K, D, H>(
     downstream: D,
 ) -> Result<Rope, ValueError>
 where
-    R: Threads + Sync,
-    X: Stream + Sync,
-    X::Item: Send + Sync,
-    X::Progress: Send + Sync,
-    X::Part: Send,
+    R: Threads + Clock + Sync,
+    X: Plumbing,
     K: Mapping<X::Item> + Drop + Sync,
-    K::Out: Spelled + Hash + Drop + Send,
+    K::Out: EqualValue + Spelled + Hash + Drop + Send,
     D: Summarizes + Collector<Item = X::Item> + Drop + Sync,
     D::Acc: Send,
     D::Out: Written + Send,
@@ -89,11 +85,8 @@ pub(crate) fn parted_value<R, X, P, D, H>(
     downstream: D,
 ) -> Result<Rope, ValueError>
 where
-    R: Threads + Sync,
-    X: Stream + Sync,
-    X::Item: Send + Sync,
-    X::Progress: Send + Sync,
-    X::Part: Send,
+    R: Threads + Clock + Sync,
+    X: Plumbing,
     P: Test<X::Item> + Drop + Sync,
     D: Summarizes + Collector<Item = X::Item> + Drop + Sync,
     D::Acc: Send,
@@ -116,11 +109,8 @@ pub(crate) fn paired_value<R, X, D, H>(
     second: D,
 ) -> Result<Rope, ValueError>
 where
-    R: Threads + Sync,
-    X: Stream + Sync,
-    X::Item: Send + Sync,
-    X::Progress: Send + Sync,
-    X::Part: Send,
+    R: Threads + Clock + Sync,
+    X: Plumbing,
     D: Summarizes + Collector<Item = X::Item> + Drop + Sync,
     D::Acc: Send,
     D::Out: Written + Send,

@@ -6,9 +6,10 @@ ghost use Rattle.pipeline_value.specs.Value.{Tells};
 use crate::engine::Engine;
 use crate::told::{ValueError, ran};
 use collectors::Collector;
-use parallel_streams::Stream;
+use parallel_streams::{Plumbing, Stream};
 use std::alloc::Global;
 use std::thread::Threads;
+use std::time::Clock;
 use stealing_pool::Gate;
 use value_text::{Rope, Summarizes, Written, write_result};
 
@@ -19,11 +20,8 @@ pub(crate) fn collected<R, X, C, H>(
     collector: &C,
 ) -> Result<Rope, ValueError>
 where
-    R: Threads + Sync,
-    X: Stream + Sync,
-    X::Item: Send + Sync,
-    X::Progress: Send + Sync,
-    X::Part: Send,
+    R: Threads + Clock + Sync,
+    X: Plumbing,
     C: Summarizes + Collector<Item = X::Item> + Sync,
     C::Acc: Send,
     C::Out: Written + Send,

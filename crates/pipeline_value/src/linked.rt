@@ -1,6 +1,6 @@
 //! Stages, as the links of a chain and the steps behind them.
 
-ghost use Rattle.std.specs.Prelude.{◌≡◌, ⊤, All, IfOk, List, flat_map};
+ghost use Rattle.std.specs.Prelude.{◌≡◌, All, IfOk, List, flat_map};
 ghost use Rattle.spliterator.specs.Clones.{ClonesAlike};
 ghost use Rattle.chained_streams.specs.Chains.{link_value, through_links};
 ghost use Rattle.pipeline_meaning.specs.Walks.{one_after_other};
@@ -11,7 +11,7 @@ use barriers::{AnyBarrier, Barrier, Demand, Distinct, DropWhile, Limit, Skip, Ta
 use chained_streams::Link;
 use pipeline_language::Barrier as Line;
 use pipeline_meaning::SeededHashes;
-use spliterator::{NoMemory, OrderedValue};
+use spliterator::{EqualValue, NoMemory, OrderedValue};
 use stages::Test;
 use std::alloc::Global;
 use std::hash::Hash;
@@ -29,7 +29,7 @@ pub(crate) struct LinkedStages<A, B> {
 /// A barrier of the language as one of the library's.
 fn language_barrier<T, K>(hashes: SeededHashes, barrier: Line<K>) -> LanguageBarrier<K>
 where
-    T: OrderedValue + Hash + Clone + Drop,
+    T: OrderedValue + EqualValue + Hash + Clone + Drop,
     K: Test<T>,
     requires ready { IsReady K.ready barrier }
     requires clones { ClonesAlike T.is_clone T.content }
@@ -53,7 +53,7 @@ pub(crate) fn linked<T, G>(
     stages: &[G],
 ) -> Result<LinkedStages<G::Steps, LanguageBarrier<G::Check>>, NoMemory>
 where
-    T: OrderedValue + Hash + Clone + Drop,
+    T: OrderedValue + EqualValue + Hash + Clone + Drop,
     G: LanguageStage<T>,
     requires clones { ClonesAlike T.is_clone T.content }
     ensures means { let value = link_value G.Steps.expand ⟦<LanguageBarrier<G::Check> as Barrier<T>>⟧.value in

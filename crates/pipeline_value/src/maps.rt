@@ -11,13 +11,14 @@ use crate::nested::merged;
 use crate::told::{ValueError, ran, told};
 use collectors::{Collector, DuplicateKey, ToMapStrict};
 use indexmap::IndexMap;
-use parallel_streams::Stream;
+use parallel_streams::{Plumbing, Stream};
 use pipeline_meaning::SeededHashes;
-use spliterator::Value;
+use spliterator::{EqualValue, Value};
 use stages::{Mapping, Operator};
 use std::alloc::Global;
 use std::hash::Hash;
 use std::thread::Threads;
+use std::time::Clock;
 use stealing_pool::Gate;
 use value_text::{Rope, Spelled, text_of};
 
@@ -30,16 +31,13 @@ pub(crate) fn merged_value<R, X, U, K, V, M, H>(
     merge: M,
 ) -> Result<Rope, ValueError>
 where
-    R: Threads + Sync,
-    X: Stream + Sync,
-    X::Item: Send + Sync,
-    X::Progress: Send + Sync,
-    X::Part: Send,
+    R: Threads + Clock + Sync,
+    X: Plumbing,
     U: Spelled + Drop + Send + Sync,
     K: Mapping<X::Item> + Drop + Sync,
     V: Mapping<X::Item, Out = U> + Drop + Sync,
     M: Operator<U> + Drop + Sync,
-    K::Out: Spelled + Hash + Drop + Send,
+    K::Out: EqualValue + Spelled + Hash + Drop + Send,
     H: Gate + Sync,
     requires stream { X.ready stream.now }
     requires keys { K.ready key }
@@ -60,14 +58,11 @@ pub(crate) fn strict_value<R, X, K, V, H>(
     value: V,
 ) -> Result<Rope, ValueError>
 where
-    R: Threads + Sync,
-    X: Stream + Sync,
-    X::Item: Send + Sync,
-    X::Progress: Send + Sync,
-    X::Part: Send,
+    R: Threads + Clock + Sync,
+    X: Plumbing,
     K: Mapping<X::Item> + Drop + Sync,
     V: Mapping<X::Item> + Drop + Sync,
-    K::Out: Spelled + Hash + Drop + Send,
+    K::Out: EqualValue + Spelled + Hash + Drop + Send,
     V::Out: Spelled + Drop + Send,
     H: Gate + Sync,
     requires stream { X.ready stream.now }
@@ -90,7 +85,7 @@ fn told_strict<T: Value, K: Mapping<T>, V: Mapping<T>>(
     made: &Result<IndexMap<K::Out, V::Out, SeededHashes>, DuplicateKey<K::Out>>,
 ) -> Result<Rope, ValueError>
 where
-    K::Out: Spelled + Hash + Drop,
+    K::Out: EqualValue + Spelled + Hash + Drop,
     V::Out: Spelled + Drop,
     ensures { (l : List T.Content) → ⟦<ToMapStrict<T, K, V, SeededHashes> as Collector>⟧.gives _strict.now l made.now → Tells (strict_told K.Out.spelling V.Out.spelling K.Out.same (K.image _strict.now.key) (V.image _strict.now.value) l) result }
 {

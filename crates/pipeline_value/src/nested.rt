@@ -6,7 +6,7 @@ ghost use Rattle.value_text.specs.Texts.{merged_text, parts_text, pair_text};
 
 use collectors::{Collector, PartitioningBy, Teeing, ToMap};
 use pipeline_meaning::SeededHashes;
-use spliterator::Value;
+use spliterator::{EqualValue, Value};
 use stages::{Mapping, Operator, Test};
 use std::alloc::Global;
 use std::hash::Hash;
@@ -56,7 +56,7 @@ pub(crate) fn merged<
     merge: M,
 ) -> ToMap<T, U, K, V, M, SeededHashes>
 where
-    K::Out: Spelled + Hash + Drop,
+    K::Out: EqualValue + Spelled + Hash + Drop,
     requires { IsAssociative U.is_value (M.join merge) }
     ensures key { result.key ≡ key }
     ensures value { result.value ≡ value }

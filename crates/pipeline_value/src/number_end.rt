@@ -1,6 +1,5 @@
 //! What the terminals make of numbers.
 
-ghost use Rattle.std.specs.Prelude.{◌≡◌};
 ghost use Rattle.pipeline_value.specs.Typed.{number_told};
 ghost use Rattle.pipeline_value.specs.Value.{Tells};
 
@@ -10,10 +9,11 @@ use crate::maps::{merged_value, strict_value};
 use crate::number_groups::number_arrangement;
 use crate::told::{ValueError, ran_optional, ran_text, ran_told};
 use crate::totals::total_value;
-use parallel_streams::Stream;
+use parallel_streams::{Plumbing, Stream};
 use pipeline_language::NumberTerminal;
 use pipeline_meaning::{NumberCheck as Check, NumberMapping as Mapping, NumberMerging};
 use std::thread::Threads;
+use std::time::Clock;
 use stealing_pool::Gate;
 use value_text::{JoinedText, Rope};
 
@@ -24,10 +24,8 @@ pub(crate) fn number_end<R, X, H>(
     terminal: &NumberTerminal,
 ) -> Result<Rope, ValueError>
 where
-    R: Threads + Sync,
-    X: Stream<Item = i64> + Sync,
-    X::Progress: Send + Sync,
-    X::Part: Send,
+    R: Threads + Clock + Sync,
+    X: Plumbing<Item = i64>,
     H: Gate + Sync,
     requires stream { X.ready stream.now }
     ensures { Tells (number_told terminal.now (X.value stream.now)) result }

@@ -1,6 +1,5 @@
 //! The value of stages over numbers and a terminal.
 
-ghost use Rattle.std.specs.Prelude.{◌≡◌};
 ghost use Rattle.pipeline_meaning.specs.Stages.{number_stages};
 ghost use Rattle.pipeline_value.specs.Typed.{number_told};
 ghost use Rattle.pipeline_value.specs.Value.{Tells};
@@ -10,9 +9,10 @@ use crate::linked::linked;
 use crate::number_end::number_end;
 use crate::told::ValueError;
 use chained_streams::Chain;
-use parallel_streams::Stream;
+use parallel_streams::{Plumbing, Stream};
 use pipeline_language::{NumberStage, NumberTerminal};
 use std::thread::Threads;
+use std::time::Clock;
 use stealing_pool::Gate;
 use value_text::Rope;
 
@@ -24,10 +24,8 @@ pub(crate) fn number_value<R, X, H>(
     terminal: &NumberTerminal,
 ) -> Result<Rope, ValueError>
 where
-    R: Threads + Sync,
-    X: Stream<Item = i64> + Drop + Sync,
-    X::Progress: Send + Sync,
-    X::Part: Send,
+    R: Threads + Clock + Sync,
+    X: Plumbing<Item = i64> + Drop,
     H: Gate + Sync,
     requires stream { X.ready stream }
     ensures { Tells (number_told terminal.now (number_stages stages.now (X.value stream))) result }

@@ -14,14 +14,15 @@ use crate::text_maps::{text_map, text_strict_map};
 use crate::text_parts::text_arranged_value;
 use crate::told::{ValueError, ran_optional, ran_text, ran_told};
 use chained_streams::Chain;
-use parallel_streams::{Source, Staged, Stream};
+use parallel_streams::{Plumbing, Source, Staged, Stream};
 use pipeline_language::TextFunction::{Itself, Length};
 use pipeline_language::{Joint, TextTerminal};
 use pipeline_meaning::{TextCheck, TextSteps};
 use sources::SliceSplit;
-use spliterator::{OrderedValue, Text};
+use spliterator::{SortedValue, Text};
 use std::hash::Hash;
 use std::thread::Threads;
+use std::time::Clock;
 use stealing_pool::Gate;
 use value_text::{JoinedText, Rope, Spelled};
 
@@ -36,13 +37,13 @@ pub(crate) type TextChain<'s, 'a> = Chain<
 pub(crate) type Texts<'s, 'a> = Staged<TextChain<'s, 'a>, TextSteps<'a>>;
 
 /// The text of a terminal's value on a stream of texts.
-pub(crate) fn text_end<'s, 'a, R: Threads + Sync, H: Gate + Sync>(
+pub(crate) fn text_end<'s, 'a, R: Threads + Clock + Sync, H: Gate + Sync>(
     engine: &Engine<'_, R, H>,
     stream: &Texts<'s, 'a>,
     terminal: &TextTerminal<'a>,
 ) -> Result<Rope, ValueError>
-    requires stream { ⟦<Texts<'s, 'a> as Stream>⟧.ready stream.now }
-    ensures { Tells (text_told terminal.now (⟦<Texts<'s, 'a> as Stream>⟧.value stream.now)) result }
+    requires stream { ⟦<Texts<'s, 'a> as Plumbing>⟧.ready stream.now }
+    ensures { Tells (text_told terminal.now (⟦<Texts<'s, 'a> as Plumbing>⟧.value stream.now)) result }
 {
     match text_arrangement(engine, terminal) {
         Some(arrangement) => text_arranged_value(engine, stream, arrangement),
@@ -57,11 +58,9 @@ fn plain_end<T, R, X, H>(
     terminal: &TextTerminal<'_>,
 ) -> Result<Rope, ValueError>
 where
-    T: Text + OrderedValue + Spelled + Hash + Clone + Copy + Drop + Send + Sync,
-    R: Threads + Sync,
-    X: Stream<Item = T> + Sync,
-    X::Progress: Send + Sync,
-    X::Part: Send,
+    T: Text + SortedValue + Spelled + Hash + Clone + Copy + Drop + Send + Sync,
+    R: Threads + Clock + Sync,
+    X: Plumbing<Item = T>,
     H: Gate + Sync,
     requires stream { X.ready stream.now }
     requires plain { arranges terminal.now ≡ false }
@@ -98,13 +97,23 @@ where
             let joining = JoinedText::within(alloc, between, front, back);
             ran_text(engine, stream.collect(rt, alloc, run, &joining))
         }
-        TextTerminal::ToMap(Length, value) => text_map(engine, stream, parts::Length, value),
-        TextTerminal::ToMap(Itself, value) => text_map(engine, stream, parts::Itself, value),
+        TextTerminal::ToMap(Length, value) => text_map(
+            engine,
+            stream,
+            stream_functions::Length,
+            value,
+        ),
+        TextTerminal::ToMap(Itself, value) => text_map(
+            engine,
+            stream,
+            stream_functions::Itself,
+            value,
+        ),
         TextTerminal::ToMapStrict(Length, value) => {
-            text_strict_map(engine, stream, parts::Length, value)
+            text_strict_map(engine, stream, stream_functions::Length, value)
         }
         TextTerminal::ToMapStrict(Itself, value) => {
-            text_strict_map(engine, stream, parts::Itself, value)
+            text_strict_map(engine, stream, stream_functions::Itself, value)
         }
         TextTerminal::GroupBy(_, _) | TextTerminal::Partition(_, _) | TextTerminal::Teeing(_, _) =>
             unreachable!(),

@@ -1,23 +1,23 @@
 //! The maps whose values are texts or their lengths.
 
-ghost use Rattle.std.specs.Prelude.{◌≡◌, Ok, bytes_eq};
+ghost use Rattle.std.specs.Prelude.{◌≡◌, Ok};
 ghost use Rattle.value_text.specs.Texts.{itself};
-ghost use Rattle.pipeline_language.specs.declared.grammar.Terminal.TheVariants as terminals;
-ghost use Rattle.pipeline_value.specs.Typed.{text_map_text, text_strict_told, text_told};
+ghost use Rattle.pipeline_value.specs.Typed.{text_map_text, text_strict_told};
 ghost use Rattle.pipeline_value.specs.Value.{Tells};
 
 use crate::engine::Engine;
 use crate::maps::{merged_value, strict_value};
 use crate::told::ValueError;
-use parallel_streams::Stream;
-use parts::{Itself, Length};
+use parallel_streams::Plumbing;
 use pipeline_language::{TextFunction, TextValue};
 use pipeline_meaning::{NumberMerging, TextMerging};
-use spliterator::{OrderedValue, Text};
+use spliterator::{EqualValue, OrderedValue, Text};
 use stages::Mapping;
 use std::hash::Hash;
 use std::thread::Threads;
+use std::time::Clock;
 use stealing_pool::Gate;
+use stream_functions::{Itself, Length};
 use value_text::{Rope, Spelled};
 
 /// The text of the map of a stream's keys and values, where values of one key are merged.
@@ -29,12 +29,10 @@ pub(crate) fn text_map<T, R, X, K, H>(
 ) -> Result<Rope, ValueError>
 where
     T: Text + OrderedValue + Spelled + Copy + Drop + Send + Sync,
-    R: Threads + Sync,
-    X: Stream<Item = T> + Sync,
-    X::Progress: Send + Sync,
-    X::Part: Send,
+    R: Threads + Clock + Sync,
+    X: Plumbing<Item = T>,
     K: Mapping<T> + Drop + Sync,
-    K::Out: Spelled + Hash + Drop + Send,
+    K::Out: EqualValue + Spelled + Hash + Drop + Send,
     H: Gate + Sync,
     requires stream { X.ready stream.now }
     requires keys { K.ready key }
@@ -62,12 +60,10 @@ pub(crate) fn text_strict_map<T, R, X, K, H>(
 ) -> Result<Rope, ValueError>
 where
     T: Text + OrderedValue + Spelled + Copy + Drop + Send + Sync,
-    R: Threads + Sync,
-    X: Stream<Item = T> + Sync,
-    X::Progress: Send + Sync,
-    X::Part: Send,
+    R: Threads + Clock + Sync,
+    X: Plumbing<Item = T>,
     K: Mapping<T> + Drop + Sync,
-    K::Out: Spelled + Hash + Drop + Send,
+    K::Out: EqualValue + Spelled + Hash + Drop + Send,
     H: Gate + Sync,
     requires stream { X.ready stream.now }
     requires keys { K.ready key }

@@ -11,14 +11,15 @@ use crate::arrangements::Arrangement;
 use crate::engine::Engine;
 use crate::told::ValueError;
 use collectors::{Collector, Counting};
-use parallel_streams::Stream;
-use parts::{Itself, Length};
+use parallel_streams::Plumbing;
 use pipeline_language::TextFunction;
-use spliterator::{OrderedValue, Text};
+use spliterator::{SortedValue, Text};
 use stages::Test;
 use std::hash::Hash;
 use std::thread::Threads;
+use std::time::Clock;
 use stealing_pool::Gate;
+use stream_functions::{Itself, Length};
 use value_text::{Rope, Spelled, Summarizes, Written};
 
 /// The text of what an arrangement makes of a stream's texts.
@@ -28,11 +29,9 @@ pub(crate) fn text_arranged_value<T, R, X, P, B, D, H>(
     arrangement: Arrangement<TextFunction, P, B, D>,
 ) -> Result<Rope, ValueError>
 where
-    T: Text + OrderedValue + Spelled + Hash + Copy + Drop + Send + Sync,
-    R: Threads + Sync,
-    X: Stream<Item = T> + Sync,
-    X::Progress: Send + Sync,
-    X::Part: Send,
+    T: Text + SortedValue + Spelled + Hash + Copy + Drop + Send + Sync,
+    R: Threads + Clock + Sync,
+    X: Plumbing<Item = T>,
     P: Test<T> + Drop + Sync,
     B: Summarizes + Collector<Item = T> + Drop + Sync,
     B::Acc: Send,
@@ -64,11 +63,9 @@ fn groups_value<T, R, X, D, H>(
     downstream: D,
 ) -> Result<Rope, ValueError>
 where
-    T: Text + OrderedValue + Spelled + Hash + Copy + Drop + Send + Sync,
-    R: Threads + Sync,
-    X: Stream<Item = T> + Sync,
-    X::Progress: Send + Sync,
-    X::Part: Send,
+    T: Text + SortedValue + Spelled + Hash + Copy + Drop + Send + Sync,
+    R: Threads + Clock + Sync,
+    X: Plumbing<Item = T>,
     D: Summarizes + Collector<Item = T> + Drop + Sync,
     D::Acc: Send,
     D::Out: Written + Send,

@@ -1,6 +1,6 @@
 //! The value of stages over texts and what follows them.
 
-ghost use Rattle.std.specs.Prelude.{◌≡◌, map};
+ghost use Rattle.std.specs.Prelude.{map};
 ghost use Rattle.pipeline_meaning.specs.Functions.{text_length};
 ghost use Rattle.pipeline_value.specs.Typed.{number_body_told, text_body_told, text_end_told};
 ghost use Rattle.pipeline_value.specs.Value.{Tells};
@@ -12,18 +12,19 @@ use crate::numbers::number_value;
 use crate::text_end::{Texts, text_end};
 use crate::told::{ValueError, told};
 use chained_streams::Chain;
-use parallel_streams::{Stream, of};
-use parts::Length;
+use parallel_streams::{Plumbing, Stream, of};
 use pipeline_language::{NumberBody, TextBody, TextEnd};
 use pipeline_plan::{Plan, Texts as OfTexts, Window, optimised, outlook_of};
 use sources::SliceSplit;
 use spliterator::{OrderedValue, Text};
 use std::thread::Threads;
+use std::time::Clock;
 use stealing_pool::Gate;
+use stream_functions::Length;
 use value_text::Rope;
 
 /// The text of the value of a body, over a list of texts.
-pub(crate) fn text_value<'s, 'a, R: Threads + Sync, H: Gate + Sync>(
+pub(crate) fn text_value<'s, 'a, R: Threads + Clock + Sync, H: Gate + Sync>(
     engine: &Engine<'_, R, H>,
     items: &'s [&'a str],
     body: TextBody<'a>,
@@ -48,13 +49,13 @@ pub(crate) fn text_value<'s, 'a, R: Threads + Sync, H: Gate + Sync>(
 }
 
 /// The text of the value of what follows stages over texts, over a stream of texts.
-fn end_value<'s, 'a, R: Threads + Sync, H: Gate + Sync>(
+fn end_value<'s, 'a, R: Threads + Clock + Sync, H: Gate + Sync>(
     engine: &Engine<'_, R, H>,
     texts: Texts<'s, 'a>,
     end: &TextEnd<'a>,
 ) -> Result<Rope, ValueError>
-    requires texts { ⟦<Texts<'s, 'a> as Stream>⟧.ready texts }
-    ensures { Tells (text_end_told end.now (⟦<Texts<'s, 'a> as Stream>⟧.value texts.entry)) result }
+    requires texts { ⟦<Texts<'s, 'a> as Plumbing>⟧.ready texts }
+    ensures { Tells (text_end_told end.now (⟦<Texts<'s, 'a> as Plumbing>⟧.value texts.entry)) result }
 {
     match end {
         TextEnd::Terminal(terminal) => text_end(engine, &texts, terminal),
@@ -70,10 +71,8 @@ fn lengths_value<T, R, X, H>(
 ) -> Result<Rope, ValueError>
 where
     T: Text + OrderedValue + Drop + Send + Sync,
-    R: Threads + Sync,
-    X: Stream<Item = T> + Drop + Sync,
-    X::Progress: Send + Sync,
-    X::Part: Send,
+    R: Threads + Clock + Sync,
+    X: Plumbing<Item = T> + Drop,
     H: Gate + Sync,
     requires texts { X.ready texts }
     ensures { Tells (number_body_told body.now (map text_length (X.value texts))) result }

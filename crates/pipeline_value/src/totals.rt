@@ -1,6 +1,5 @@
 //! The terminals that join all numbers into one.
 
-ghost use Rattle.std.specs.Prelude.{◌≡◌};
 ghost use Rattle.pipeline_language.specs.declared.grammar.Terminal.TheVariants.{Own};
 ghost use Rattle.pipeline_value.specs.Typed.{number_told};
 ghost use Rattle.pipeline_value.specs.Value.{Tells};
@@ -8,12 +7,13 @@ ghost use Rattle.pipeline_value.specs.Value.{Tells};
 use crate::engine::Engine;
 use crate::told::{ValueError, ran_optional, ran_told};
 use collectors::SummingLong;
-use parallel_streams::Stream;
-use parts::Itself;
+use parallel_streams::{Plumbing, Stream};
 use pipeline_language::NumberTotal;
 use stages::{Max, Min, WrapMul};
 use std::thread::Threads;
+use std::time::Clock;
 use stealing_pool::Gate;
+use stream_functions::Itself;
 use value_text::Rope;
 
 /// The text of what joins all numbers of a stream into one.
@@ -23,10 +23,8 @@ pub(crate) fn total_value<R, X, H>(
     total: NumberTotal,
 ) -> Result<Rope, ValueError>
 where
-    R: Threads + Sync,
-    X: Stream<Item = i64> + Sync,
-    X::Progress: Send + Sync,
-    X::Part: Send,
+    R: Threads + Clock + Sync,
+    X: Plumbing<Item = i64>,
     H: Gate + Sync,
     requires stream { X.ready stream.now }
     ensures { Tells (number_told (Own total) (X.value stream.now)) result }

@@ -19,12 +19,13 @@ use sources::{RangeSplit, SliceSplit};
 use spliterator::Spliterator;
 use std::alloc::Global;
 use std::thread::Threads;
+use std::time::Clock;
 use stealing_pool::Gate;
 use value_text::Rope;
 
 /// The text of a pipeline's value. Keys are hashed by `hashes`, since whoever writes a file picks them. A count that is known from the
 /// source's size runs no leaf.
-pub fn pipeline_value<R: Threads + Sync, H: Gate + Sync>(
+pub fn pipeline_value<R: Threads + Clock + Sync, H: Gate + Sync>(
     rt: &R,
     alloc: Global,
     hashes: SeededHashes,
@@ -51,7 +52,7 @@ pub fn pipeline_value<R: Threads + Sync, H: Gate + Sync>(
 }
 
 /// The text of the value of a body, over a source of numbers.
-fn source_value<R: Threads + Sync, H: Gate + Sync>(
+fn source_value<R: Threads + Clock + Sync, H: Gate + Sync>(
     engine: &Engine<'_, R, H>,
     source: NumberSource,
     body: NumberBody,
@@ -66,7 +67,7 @@ fn source_value<R: Threads + Sync, H: Gate + Sync>(
 }
 
 /// The text of the value of a body, over numbers as they stand.
-fn list_value<R: Threads + Sync, H: Gate + Sync>(
+fn list_value<R: Threads + Clock + Sync, H: Gate + Sync>(
     engine: &Engine<'_, R, H>,
     numbers: &[i64],
     body: NumberBody,
@@ -91,7 +92,7 @@ fn list_value<R: Threads + Sync, H: Gate + Sync>(
 }
 
 /// The text of the value of a body, over a range.
-fn range_value<R: Threads + Sync, H: Gate + Sync>(
+fn range_value<R: Threads + Clock + Sync, H: Gate + Sync>(
     engine: &Engine<'_, R, H>,
     range: RangeSplit,
     body: NumberBody,

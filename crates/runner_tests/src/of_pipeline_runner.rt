@@ -10,6 +10,7 @@ use std::process::Abort;
 use std::random::RandomSource;
 use std::test::Fail;
 use std::thread::Threads;
+use std::time::Clock;
 
 mod cuts;
 mod devices;
@@ -131,7 +132,7 @@ fn told(alloc: Global, end: Result<(), RunError>) -> Result<String, AllocError> 
 }
 
 /// What a run tells and writes.
-fn run_with<R: Threads + Abort + Sync>(
+fn run_with<R: Threads + Clock + Abort + Sync>(
     rt: &R,
     alloc: Global,
     case: &Case<'_>,
@@ -141,7 +142,7 @@ fn run_with<R: Threads + Abort + Sync>(
 }
 
 /// The same by a runtime that draws as is told.
-fn run_drawing<R: Threads + Abort + Sync>(
+fn run_drawing<R: Threads + Clock + Abort + Sync>(
     drawing: &Drawing<'_, R>,
     alloc: Global,
     case: &Case<'_>,
@@ -169,7 +170,7 @@ fn run_drawing<R: Threads + Abort + Sync>(
 }
 
 /// Asserts what a run tells and writes.
-fn check<R: Threads + RandomSource + Abort + Sync>(
+fn check<R: Threads + Clock + RandomSource + Abort + Sync>(
     rt: &R,
     alloc: Global,
     case: &Case<'_>,
@@ -180,7 +181,7 @@ fn check<R: Threads + RandomSource + Abort + Sync>(
 }
 
 /// Asserts what a run tells and writes, which the gate watches.
-fn check_watched<R: Threads + RandomSource + Abort + Sync>(
+fn check_watched<R: Threads + Clock + RandomSource + Abort + Sync>(
     rt: &R,
     alloc: Global,
     case: &Case<'_>,

@@ -1,7 +1,13 @@
+mod ascending;
+mod maps;
 mod no_size;
 mod own_items;
+mod records;
 mod rows;
-mod walks;
+mod steps;
+mod told;
+mod values;
+pub mod walks;
 
 use either::Either;
 use sources::{RangeSplit, RangeTooLong, SliceSplit};

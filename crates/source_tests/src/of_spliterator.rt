@@ -1,7 +1,8 @@
+use crate::parcel::Parcel;
 use spliterator::characteristics::{
     CONCURRENT, DISTINCT, IMMUTABLE, NONNULL, ORDERED, SIZED, SORTED, SUBSIZED,
 };
-use spliterator::{MAX_ESTIMATE, NoMemory, OrderedValue, Text, Value};
+use spliterator::{MAX_ESTIMATE, NoMemory, SortedValue, Text, Value};
 use std::alloc::{AllocError, Global};
 use std::cmp::Ordering;
 
@@ -15,7 +16,7 @@ fn characteristics_have_javas_numbers(rt: HostRuntime) {
 }
 
 /// Whether each member is a value that stands below the next one, and equals itself alone, as the bound tells it.
-fn ascends<T: OrderedValue>(members: &[T]) -> bool {
+fn ascends<T: SortedValue>(members: &[T]) -> bool {
     let mut is_ascending = true;
     let mut before: Option<&T> = None;
     for member in members {
@@ -66,6 +67,30 @@ fn lists_of_texts_are_ordered_by_their_contents(rt: HostRuntime) -> Result<(), A
     Ok(())
 }
 
+/// Whether tuples of four parts and more are ordered by the first part that differs.
+fn longer_tuples_ascend() -> bool {
+    let fours = [("", 0, 0, 1), ("", 0, 1, 0), ("", 1, 0, 0), ("a", 0, 0, 0)];
+    let fives = [("", 0, 0, 0, 1), ("", 0, 0, 1, 0), ("a", 0, 0, 0, 0)];
+    let sixes = [
+        ("", 0, 0, 0, 0, 1),
+        ("", 0, 0, 0, 1, 0),
+        ("a", 0, 0, 0, 0, 0),
+    ];
+    let sevens = [
+        ("", 0, 0, 0, 0, 0, 1),
+        ("", 0, 0, 0, 0, 1, 0),
+        ("a", 0, 0, 0, 0, 0, 0),
+    ];
+    let eights = [
+        ("", 0, 0, 0, 0, 0, 0, 1),
+        ("", 0, 0, 0, 0, 0, 1, 0),
+        ("", 1, 0, 0, 0, 0, 0, 0),
+        ("a", 0, 0, 0, 0, 0, 0, 0),
+    ];
+    let some = ascends(&fours) && ascends(&fives) && ascends(&sixes);
+    some && ascends(&sevens) && ascends(&eights)
+}
+
 /// Each part by its own type's order, the first that differs.
 #[test]
 fn tuples_are_ordered_part_by_part(rt: HostRuntime) {
@@ -95,7 +120,35 @@ fn tuples_are_ordered_part_by_part(rt: HostRuntime) {
         (true, None),
     ];
     assert!(rt; ascends(&unsigned) && ascends(&signed) && ascends(&long));
+    assert!(rt; longer_tuples_ascend());
     assert!(rt; ascends(&optional) && !ascends(&[(true, None), (false, Some(""))]));
+}
+
+/// Parcels of these senders, weights and places.
+fn parcels(alloc: Global, rows: &[(&str, i64, i64)]) -> Result<Vec<Parcel>, AllocError> {
+    let mut parcels = Vec::new(alloc);
+    for &(sender, grams, place) in rows {
+        let sender = String::from_str(alloc, sender)?;
+        parcels.push(Parcel {
+            sender,
+            grams,
+            place,
+        })?;
+    }
+    Ok(parcels)
+}
+
+#[test]
+fn records_are_ordered_field_by_field(rt: HostRuntime) -> Result<(), AllocError> {
+    let rows = [
+        ("ann", 2, 9),
+        ("bob", -1, 5),
+        ("bob", 3, i64::MIN),
+        ("bob", 3, 0),
+    ];
+    let parcels = parcels(rt.alloc(), &rows)?;
+    assert!(rt; ascends(parcels.as_slice()));
+    Ok(())
 }
 
 /// The number of bytes of a text.

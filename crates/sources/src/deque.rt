@@ -2,6 +2,7 @@ ghost use Rattle.std.specs.Prelude.{◌≡◌, ⊤, ◌≤◌, length, map};
 ghost use Rattle.spliterator.specs.Clones.{ClonesAlike, TestsClonesAlike};
 ghost use Rattle.sources.specs.Windows.{window};
 
+use crate::Windowed;
 use crate::counted::{capped, told};
 use spliterator::{NoMemory, OrderedValue, Spliterator, Value};
 use std::alloc::AllocError;
@@ -91,11 +92,11 @@ impl<'a, T: OrderedValue + Clone> Spliterator for DequeSplit<'a, T> {
     }
 
     fn estimate_size(&self) -> u64 {
-        capped(self.to - self.from)
+        capped((self.to - self.from) as u64)
     }
 
     fn characteristics(&self) -> u32 {
-        told(self.to - self.from)
+        told((self.to - self.from) as u64)
     }
 
     ghost split_law = { λ s part rest h. IsSplit-halves (λ r. map T.content (window r.from r.to r.items.now.items)) _ _ _ (CountsItems-by_count (λ r. map T.content (window r.from r.to r.items.now.items))) s part rest h };
@@ -103,4 +104,28 @@ impl<'a, T: OrderedValue + Clone> Spliterator for DequeSplit<'a, T> {
     ghost size_law = { λ s. IsEstimate-counts (λ r. map T.content (window r.from r.to r.items.now.items)) _ _ _ (CountsItems-by_count (λ r. map T.content (window r.from r.to r.items.now.items))) s };
 
     ghost flag_law = { λ s. IsSoundFor-by_count T.order (map T.content (window s.from s.to s.items.now.items)) };
+}
+
+impl<'a, T: OrderedValue + Clone> Windowed for DequeSplit<'a, T> {
+    fn count(&self) -> u64 {
+        (self.to - self.from) as u64
+    }
+
+    fn first(self, most: u64) -> DequeSplit<'a, T> {
+        let number = self.count().min(most) as usize;
+        DequeSplit {
+            items: self.items,
+            from: self.from,
+            to: self.from + number,
+        }
+    }
+
+    fn after_first(self, number: u64) -> DequeSplit<'a, T> {
+        let number = self.count().min(number) as usize;
+        DequeSplit {
+            items: self.items,
+            from: self.from + number,
+            to: self.to,
+        }
+    }
 }

@@ -1,6 +1,7 @@
 ghost use Rattle.std.specs.Prelude.{◌≡◌, ⊤, length, map};
 
 use crate::counted::{capped, told};
+use crate::windowed::{Windowed, front_of, rest_of};
 use spliterator::{NoMemory, OrderedValue, Spliterator, Value};
 use std::alloc::AllocError;
 
@@ -69,11 +70,11 @@ impl<'a, T: OrderedValue> Spliterator for LentSplit<'a, T> {
     }
 
     fn estimate_size(&self) -> u64 {
-        capped(self.items.len())
+        capped(self.items.len() as u64)
     }
 
     fn characteristics(&self) -> u32 {
-        told(self.items.len())
+        told(self.items.len() as u64)
     }
 
     ghost split_law = { λ s part rest h. IsSplit-halves (λ r. map T.content r.items.now) _ _ _ (CountsItems-by_count (λ r. map T.content r.items.now)) s part rest h };
@@ -81,4 +82,22 @@ impl<'a, T: OrderedValue> Spliterator for LentSplit<'a, T> {
     ghost size_law = { λ s. IsEstimate-counts (λ r. map T.content r.items.now) _ _ _ (CountsItems-by_count (λ r. map T.content r.items.now)) s };
 
     ghost flag_law = { λ s. IsSoundFor-by_count T.order (map T.content s.items.now) };
+}
+
+impl<'a, T: OrderedValue> Windowed for LentSplit<'a, T> {
+    fn count(&self) -> u64 {
+        self.items.len() as u64
+    }
+
+    fn first(self, most: u64) -> LentSplit<'a, T> {
+        LentSplit {
+            items: front_of(self.items, most),
+        }
+    }
+
+    fn after_first(self, number: u64) -> LentSplit<'a, T> {
+        LentSplit {
+            items: rest_of(self.items, number),
+        }
+    }
 }

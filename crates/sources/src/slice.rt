@@ -1,8 +1,8 @@
-ghost use Rattle.std.specs.Prelude.{◌≡◌, ⊤, length, map, min};
+ghost use Rattle.std.specs.Prelude.{◌≡◌, ⊤, length, map};
 ghost use Rattle.spliterator.specs.Clones.{ClonesAlike, TestsClonesAlike};
 
-use crate::Windowed;
 use crate::counted::{capped, told};
+use crate::windowed::{Windowed, front_of, rest_of};
 use spliterator::{NoMemory, OrderedValue, Spliterator, Value};
 use std::alloc::AllocError;
 
@@ -36,13 +36,6 @@ impl<'a, T: OrderedValue + Clone> SliceSplit<'a, T> {
     {
         SliceSplit { items }
     }
-}
-
-/// The lesser of two numbers of items.
-fn within(number: u64, count: usize) -> usize
-    ensures { result ≡ min number count }
-{
-    (count as u64).min(number) as usize
 }
 
 impl<'a, T: OrderedValue + Clone> Spliterator for SliceSplit<'a, T> {
@@ -96,11 +89,11 @@ impl<'a, T: OrderedValue + Clone> Spliterator for SliceSplit<'a, T> {
     }
 
     fn estimate_size(&self) -> u64 {
-        capped(self.items.len())
+        capped(self.items.len() as u64)
     }
 
     fn characteristics(&self) -> u32 {
-        told(self.items.len())
+        told(self.items.len() as u64)
     }
 
     ghost split_law = { λ s part rest h. IsSplit-halves (λ r. map T.content r.items.now) _ _ _ (CountsItems-by_count (λ r. map T.content r.items.now)) s part rest h };
@@ -116,12 +109,14 @@ impl<'a, T: OrderedValue + Clone> Windowed for SliceSplit<'a, T> {
     }
 
     fn first(self, most: u64) -> SliceSplit<'a, T> {
-        let (part, _) = self.items.split_at(within(most, self.items.len()));
-        SliceSplit { items: part }
+        SliceSplit {
+            items: front_of(self.items, most),
+        }
     }
 
     fn after_first(self, number: u64) -> SliceSplit<'a, T> {
-        let (_, part) = self.items.split_at(within(number, self.items.len()));
-        SliceSplit { items: part }
+        SliceSplit {
+            items: rest_of(self.items, number),
+        }
     }
 }

@@ -27,3 +27,19 @@ pub trait Windowed: Spliterator {
     fn after_first(self, number: u64) -> Self
         ensures { Self.Spliterator.items result ≡ drop number (Self.Spliterator.items self) };
 }
+
+/// At most the first `most` of some items.
+pub fn front_of<T>(items: &[T], most: u64) -> &[T]
+    ensures { result.now ≡ take most items.now }
+{
+    let number = most.min(items.len() as u64);
+    items.split_at(number as usize).0
+}
+
+/// The items after the first `number`.
+pub fn rest_of<T>(items: &[T], number: u64) -> &[T]
+    ensures { result.now ≡ drop number items.now }
+{
+    let number = number.min(items.len() as u64);
+    items.split_at(number as usize).1
+}

@@ -1,5 +1,6 @@
--- Equality and order of pairs and triples, part by part from the first.
-use Rattle.std.specs.Prelude.{◌≡◌, Bool, ◌&&◌}
+-- Equality and order of pairs, part by part from the first, and equality of tuples.
+use Rattle.std.specs.Prelude.{◌≡◌, Bool, ◌&&◌, Decides}
+use Rattle.std.proofs.Common.{ap, sym, ◌∙◌}
 use Rattle.std.specs.Cmp.{IsTotalOrder, then_total, on_total, both_tied}
 use Rattle.std.specs.declared.cmp.Ordering.{Ordering}
 use Rattle.std.specs.Ordering.{is_eq, ordering_then}
@@ -22,20 +23,17 @@ pub by_first-ties : {A B : Type 0} (e : A → A → Bool) (f : B → B → Bool)
     → ((a b : A) → e a b ≡ is_eq (r a b)) → ((a b : B) → f a b ≡ is_eq (s a b)) → (x y : A × B) → both e f x y ≡ is_eq (by_first r s x y)
 by_first-ties e f r s h k x y = both_tied (e x.0 y.0) (f x.1 y.1) (r x.0 y.0) (s x.1 y.1) (h x.0 y.0) (k x.1 y.1)
 
-abbrev pub all_three : {A B C : Type 0} → (A → A → Bool) → (B → B → Bool) → (C → C → Bool) → A × B × C → A × B × C → Bool
-all_three e f g x y = (e x.0 y.0 && f x.1 y.1) && g x.2 y.2
+module _ {K : Type 0} where
+  -- the test answers true exactly at tuples with the same parts
+  abbrev pub DecidesParts : {P : Type 0} → (K → P) → (K → K → Bool) → Type 0
+  DecidesParts parts e = (x y : K) → Decides (e x y) (parts x ≡ parts y)
 
-abbrev pub by_three : {A B C : Type 0} → (A → A → Ordering) → (B → B → Ordering) → (C → C → Ordering) → A × B × C → A × B × C → Ordering
-by_three r s t x y = ordering_then (ordering_then (r x.0 y.0) (s x.1 y.1)) (t x.2 y.2)
+  -- .. and with one part more
+  pub also : {P Q : Type 0} {parts : K → P} {e : K → K → Bool} {f : Q → Q → Bool} → DecidesParts parts e → (part : K → Q) → DecidesEquality f
+      → DecidesParts {P = P × Q} (λ t. (parts t, part t)) (λ x y. e x y && f (part x) (part y))
+  also {e = e} {f = f} d part g x y = Decides-like (e x y && f (part x) (part y)) (λ h i. (h.0 i, h.1 i)) (λ p. ((λ i. (p i).0), (λ i. (p i).1)))
+      (Decides-and (e x y) (f (part x) (part y)) (d x y) (g (part x) (part y)))
 
-pub all_three-decides : {A B C : Type 0} (e : A → A → Bool) (f : B → B → Bool) (g : C → C → Bool) → DecidesEquality e → DecidesEquality f → DecidesEquality g → DecidesEquality (all_three e f g)
-all_three-decides e f g d h k x y = Decides-like (all_three e f g x y) (λ p i. (p.0.0 i, p.0.1 i, p.1 i)) (λ p. (((λ i. (p i).0), (λ i. (p i).1)), (λ i. (p i).2)))
-    (Decides-and (e x.0 y.0 && f x.1 y.1) (g x.2 y.2) (Decides-and (e x.0 y.0) (f x.1 y.1) (d x.0 y.0) (h x.1 y.1)) (k x.2 y.2))
-
-pub by_three-total : {A B C : Type 0} {r : A → A → Ordering} {s : B → B → Ordering} {t : C → C → Ordering} → IsTotalOrder r → IsTotalOrder s → IsTotalOrder t → IsTotalOrder (by_three r s t)
-by_three-total o p q = then_total (then_total (on_total (λ x. x.0) o) (on_total (λ x. x.1) p)) (on_total (λ x. x.2) q)
-
-pub by_three-ties : {A B C : Type 0} (e : A → A → Bool) (f : B → B → Bool) (g : C → C → Bool) (r : A → A → Ordering) (s : B → B → Ordering) (t : C → C → Ordering)
-    → ((a b : A) → e a b ≡ is_eq (r a b)) → ((a b : B) → f a b ≡ is_eq (s a b)) → ((a b : C) → g a b ≡ is_eq (t a b)) → (x y : A × B × C) → all_three e f g x y ≡ is_eq (by_three r s t x y)
-by_three-ties e f g r s t h k m x y =
-    both_tied (e x.0 y.0 && f x.1 y.1) (g x.2 y.2) (ordering_then (r x.0 y.0) (s x.1 y.1)) (t x.2 y.2) (both_tied (e x.0 y.0) (f x.1 y.1) (r x.0 y.0) (s x.1 y.1) (h x.0 y.0) (k x.1 y.1)) (m x.2 y.2)
+  -- .. and at equal tuples, where the parts are all of it
+  pub whole : {P : Type 0} {parts : K → P} {e : K → K → Bool} (made : P → K) → ((t : K) → made (parts t) ≡ t) → DecidesParts parts e → DecidesEquality e
+  whole {parts = parts} {e} made all d x y = Decides-like (e x y) (λ p. sym (all x) ∙ ap made p ∙ all y) (ap parts) (d x y)

@@ -4,7 +4,7 @@ ghost use Rattle.std.specs.Option.{option_eq, option_cmp, option_map};
 ghost use Rattle.std.specs.Cmp.Lexicographic.{options_total};
 ghost use Rattle.spliterator.specs.Options.{option_eq-contents, option_eq-decides, option_cmp-contents, option_cmp-ties};
 
-use crate::{OrderedValue, Value};
+use crate::{EqualValue, OrderedValue, SortedValue, Value};
 
 impl<T: Value> Value for Option<T> {
     type Content = Option<T::Content>;
@@ -17,8 +17,6 @@ impl<T: Value> Value for Option<T> {
 
     ghost same_decides = { option_eq-decides T.same T.same_decides };
 
-    ghost eq_is_same = { option_eq-contents T.content T.PartialEq.eq T.same T.eq_is_same };
-
     fn is_value(&self) -> bool {
         match self {
             Some(value) => value.is_value(),
@@ -27,12 +25,18 @@ impl<T: Value> Value for Option<T> {
     }
 }
 
+impl<T: EqualValue> EqualValue for Option<T> {
+    ghost eq_is_same = { option_eq-contents T.content T.PartialEq.eq T.same T.eq_is_same };
+}
+
 impl<T: OrderedValue> OrderedValue for Option<T> {
     ghost order = { option_cmp T.order };
 
     ghost order_total = { options_total T.order_total };
 
     ghost order_ties = { option_cmp-ties T.same T.order T.order_ties };
+}
 
+impl<T: SortedValue> SortedValue for Option<T> {
     ghost cmp_is_order = { option_cmp-contents T.content T.Ord.cmp T.order T.cmp_is_order };
 }

@@ -7,7 +7,7 @@ ghost use Rattle.std.specs.Ordering.{nat_cmp, int_eq, int_cmp, bool_cmp};
 ghost use Rattle.spliterator.specs.Values.{int_eq-decides, int_cmp-total, int_cmp-ties};
 ghost use Rattle.spliterator.specs.Scalars.{nat_eq-decides, nat_cmp-total, nat_cmp-ties, bool_eq-decides, bool_cmp-total, bool_cmp-ties};
 
-use crate::{OrderedValue, Value};
+use crate::{EqualValue, OrderedValue, SortedValue, Value};
 
 impl Value for u8 {
     type Content = u8;
@@ -20,12 +20,14 @@ impl Value for u8 {
 
     ghost same_decides = { nat_eq-decides };
 
-    ghost eq_is_same = { Prim.search };
-
     fn is_value(&self) -> bool {
         let _value = *self;
         true
     }
+}
+
+impl EqualValue for u8 {
+    ghost eq_is_same = { Prim.search };
 }
 
 impl OrderedValue for u8 {
@@ -34,7 +36,9 @@ impl OrderedValue for u8 {
     ghost order_total = { nat_cmp-total };
 
     ghost order_ties = { nat_cmp-ties };
+}
 
+impl SortedValue for u8 {
     ghost cmp_is_order = { Prim.search };
 }
 
@@ -49,12 +53,14 @@ impl Value for u16 {
 
     ghost same_decides = { nat_eq-decides };
 
-    ghost eq_is_same = { Prim.search };
-
     fn is_value(&self) -> bool {
         let _value = *self;
         true
     }
+}
+
+impl EqualValue for u16 {
+    ghost eq_is_same = { Prim.search };
 }
 
 impl OrderedValue for u16 {
@@ -63,7 +69,9 @@ impl OrderedValue for u16 {
     ghost order_total = { nat_cmp-total };
 
     ghost order_ties = { nat_cmp-ties };
+}
 
+impl SortedValue for u16 {
     ghost cmp_is_order = { Prim.search };
 }
 
@@ -78,12 +86,14 @@ impl Value for u32 {
 
     ghost same_decides = { nat_eq-decides };
 
-    ghost eq_is_same = { Prim.search };
-
     fn is_value(&self) -> bool {
         let _value = *self;
         true
     }
+}
+
+impl EqualValue for u32 {
+    ghost eq_is_same = { Prim.search };
 }
 
 impl OrderedValue for u32 {
@@ -92,7 +102,9 @@ impl OrderedValue for u32 {
     ghost order_total = { nat_cmp-total };
 
     ghost order_ties = { nat_cmp-ties };
+}
 
+impl SortedValue for u32 {
     ghost cmp_is_order = { Prim.search };
 }
 
@@ -107,12 +119,14 @@ impl Value for u64 {
 
     ghost same_decides = { nat_eq-decides };
 
-    ghost eq_is_same = { Prim.search };
-
     fn is_value(&self) -> bool {
         let _value = *self;
         true
     }
+}
+
+impl EqualValue for u64 {
+    ghost eq_is_same = { Prim.search };
 }
 
 impl OrderedValue for u64 {
@@ -121,7 +135,9 @@ impl OrderedValue for u64 {
     ghost order_total = { nat_cmp-total };
 
     ghost order_ties = { nat_cmp-ties };
+}
 
+impl SortedValue for u64 {
     ghost cmp_is_order = { Prim.search };
 }
 
@@ -136,12 +152,14 @@ impl Value for usize {
 
     ghost same_decides = { nat_eq-decides };
 
-    ghost eq_is_same = { Prim.search };
-
     fn is_value(&self) -> bool {
         let _value = *self;
         true
     }
+}
+
+impl EqualValue for usize {
+    ghost eq_is_same = { Prim.search };
 }
 
 impl OrderedValue for usize {
@@ -150,7 +168,9 @@ impl OrderedValue for usize {
     ghost order_total = { nat_cmp-total };
 
     ghost order_ties = { nat_cmp-ties };
+}
 
+impl SortedValue for usize {
     ghost cmp_is_order = { Prim.search };
 }
 
@@ -165,12 +185,14 @@ impl Value for i8 {
 
     ghost same_decides = { int_eq-decides };
 
-    ghost eq_is_same = { Prim.search };
-
     fn is_value(&self) -> bool {
         let _value = *self;
         true
     }
+}
+
+impl EqualValue for i8 {
+    ghost eq_is_same = { Prim.search };
 }
 
 impl OrderedValue for i8 {
@@ -179,7 +201,9 @@ impl OrderedValue for i8 {
     ghost order_total = { int_cmp-total };
 
     ghost order_ties = { int_cmp-ties };
+}
 
+impl SortedValue for i8 {
     ghost cmp_is_order = { Prim.search };
 }
 
@@ -194,12 +218,14 @@ impl Value for i16 {
 
     ghost same_decides = { int_eq-decides };
 
-    ghost eq_is_same = { Prim.search };
-
     fn is_value(&self) -> bool {
         let _value = *self;
         true
     }
+}
+
+impl EqualValue for i16 {
+    ghost eq_is_same = { Prim.search };
 }
 
 impl OrderedValue for i16 {
@@ -208,7 +234,9 @@ impl OrderedValue for i16 {
     ghost order_total = { int_cmp-total };
 
     ghost order_ties = { int_cmp-ties };
+}
 
+impl SortedValue for i16 {
     ghost cmp_is_order = { Prim.search };
 }
 
@@ -223,12 +251,14 @@ impl Value for i32 {
 
     ghost same_decides = { int_eq-decides };
 
-    ghost eq_is_same = { Prim.search };
-
     fn is_value(&self) -> bool {
         let _value = *self;
         true
     }
+}
+
+impl EqualValue for i32 {
+    ghost eq_is_same = { Prim.search };
 }
 
 impl OrderedValue for i32 {
@@ -237,7 +267,9 @@ impl OrderedValue for i32 {
     ghost order_total = { int_cmp-total };
 
     ghost order_ties = { int_cmp-ties };
+}
 
+impl SortedValue for i32 {
     ghost cmp_is_order = { Prim.search };
 }
 
@@ -252,12 +284,14 @@ impl Value for char {
 
     ghost same_decides = { nat_eq-decides };
 
-    ghost eq_is_same = { Prim.search };
-
     fn is_value(&self) -> bool {
         let _value = *self;
         true
     }
+}
+
+impl EqualValue for char {
+    ghost eq_is_same = { Prim.search };
 }
 
 impl OrderedValue for char {
@@ -266,7 +300,9 @@ impl OrderedValue for char {
     ghost order_total = { nat_cmp-total };
 
     ghost order_ties = { nat_cmp-ties };
+}
 
+impl SortedValue for char {
     ghost cmp_is_order = { Prim.search };
 }
 
@@ -281,11 +317,13 @@ impl Value for bool {
 
     ghost same_decides = { bool_eq-decides };
 
-    ghost eq_is_same = { Prim.search };
-
     fn is_value(&self) -> bool {
         true
     }
+}
+
+impl EqualValue for bool {
+    ghost eq_is_same = { Prim.search };
 }
 
 impl OrderedValue for bool {
@@ -294,6 +332,8 @@ impl OrderedValue for bool {
     ghost order_total = { bool_cmp-total };
 
     ghost order_ties = { bool_cmp-ties };
+}
 
+impl SortedValue for bool {
     ghost cmp_is_order = { Prim.search };
 }

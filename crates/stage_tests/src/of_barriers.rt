@@ -7,11 +7,11 @@ mod carrying;
 use barriers::{
     Barrier, Demand, Distinct, DropWhile, FirstHit, Limit, Need, Skip, TakeWhile, Total, Whole,
 };
-use parts::Below;
 use spliterator::{NoMemory, OrderedValue};
 use stages::{Map, Mapping, Operation, Operator, Stage, WrapAdd};
 use std::alloc::Global;
 use std::process::Abort;
+use stream_functions::Below;
 
 /// A barrier's value of a slice's items.
 fn value_of<T: OrderedValue + Copy + Drop, B: Barrier<T>>(

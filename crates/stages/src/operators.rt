@@ -9,7 +9,7 @@ ghost use Rattle.stages.specs.Choices.{larger, smaller, first_of, last_of, eithe
 ghost use Rattle.std.specs.Ordering.{is_lt, is_gt};
 
 use crate::Operator;
-use spliterator::{NoMemory, OrderedValue, Value};
+use spliterator::{NoMemory, SortedValue, Value};
 use std::cmp::Ordering;
 use std::marker::PhantomData;
 
@@ -59,12 +59,12 @@ impl Operator<i64> for WrapMul {
 
 /// The greater of two values, as a clone: the first where they tie (`java.util.function.BinaryOperator`, `maxBy`).
 #[derive(Drop)]
-pub struct Max<T: OrderedValue + Clone> {
+pub struct Max<T: SortedValue + Clone> {
     values: PhantomData<T>,
     ghost clones_alike: { TestsClonesAlike T.same T.is_clone T.content },
 }
 
-impl<T: OrderedValue + Clone> Max<T> {
+impl<T: SortedValue + Clone> Max<T> {
     /// A clone of a value must have its content.
     pub fn new() -> Max<T>
         requires { ClonesAlike T.is_clone T.content }
@@ -76,7 +76,7 @@ impl<T: OrderedValue + Clone> Max<T> {
     }
 }
 
-impl<T: OrderedValue + Clone> Operator<T> for Max<T> {
+impl<T: SortedValue + Clone> Operator<T> for Max<T> {
     ghost join = { λ _. larger T.order };
 
     ghost joins_are_values = { λ _ x y. either-value T.is_value (is_lt (T.order x y)) x y };
@@ -92,12 +92,12 @@ impl<T: OrderedValue + Clone> Operator<T> for Max<T> {
 
 /// The lesser of two values, as a clone: the first where they tie (`java.util.function.BinaryOperator`, `minBy`).
 #[derive(Drop)]
-pub struct Min<T: OrderedValue + Clone> {
+pub struct Min<T: SortedValue + Clone> {
     values: PhantomData<T>,
     ghost clones_alike: { TestsClonesAlike T.same T.is_clone T.content },
 }
 
-impl<T: OrderedValue + Clone> Min<T> {
+impl<T: SortedValue + Clone> Min<T> {
     /// A clone of a value must have its content.
     pub fn new() -> Min<T>
         requires { ClonesAlike T.is_clone T.content }
@@ -109,7 +109,7 @@ impl<T: OrderedValue + Clone> Min<T> {
     }
 }
 
-impl<T: OrderedValue + Clone> Operator<T> for Min<T> {
+impl<T: SortedValue + Clone> Operator<T> for Min<T> {
     ghost join = { λ _. smaller T.order };
 
     ghost joins_are_values = { λ _ x y. either-value T.is_value (is_gt (T.order x y)) x y };

@@ -8,6 +8,7 @@ use spliterator::{NoMemory, OrderedValue, Value};
 use std::marker::PhantomData;
 
 /// One image an item (`java.util.stream.Stream`, `map`).
+#[derive_where(Clone, Copy; M)]
 #[derive(Drop)]
 pub struct Map<T, M> {
     pub mapping: M,
@@ -57,6 +58,7 @@ where
 }
 
 /// The items that meet a test (`java.util.stream.Stream`, `filter`).
+#[derive_where(Clone, Copy; P)]
 #[derive(Drop)]
 pub struct Filter<T, P> {
     pub test: P,
@@ -111,6 +113,7 @@ const IMAGES: u64 = 16;
 
 /// The items of a list in the place of each item (`java.util.stream.Stream`, `flatMap`): the image of an item is a `Vec`, or another
 /// `ListValue`.
+#[derive_where(Clone, Copy; M)]
 #[derive(Drop)]
 pub struct FlatMap<T, M> {
     pub mapping: M,
@@ -169,6 +172,7 @@ where
 }
 
 /// Each item as it is.
+#[derive_where(Clone, Copy)]
 #[derive(Drop)]
 pub struct Nothing<T> {
     by_blocks: bool,
@@ -236,6 +240,7 @@ impl<T: OrderedValue + Drop> Stage for Nothing<T> {
 }
 
 /// One stage after another: the second's expansions of what the first gives.
+#[derive_where(Clone, Copy; A, B)]
 #[derive(Drop)]
 pub struct Then<A, B> {
     pub first: A,

@@ -1,6 +1,7 @@
 -- The shifts of seats, one before others.
-use Rattle.std.proofs.Common.{◌≡◌, ◌<◌, ◌++◌, ◌∷◌, ◌∙◌, ℕ, zero, suc, List, [], ap, length, subst, sym, arith}
-use Rattle.std.specs.Prelude.{slice_index_or}
+use Rattle.std.proofs.Common.{◌≡◌, ◌<◌, ◌∷◌, ℕ, zero, suc, List, length, subst, sym, arith, Vec, Global}
+use Rattle.std.specs.Prelude.{slice_index_or, Result, IfOk}
+use Rattle.std.proofs.lemmas.Result.{IfOk-weaker}
 
 -- two that have to do with one another, and each of two lists' places behind them
 first_and_each : {S T : Type 0} (Gives : S → T → Type 0) (seat : S) (seats : List S) (shift : T) (shifts : List T)
@@ -10,17 +11,16 @@ first_and_each : {S T : Type 0} (Gives : S → T → Type 0) (seat : S) (seats :
 first_and_each Gives seat seats shift shifts first each zero d e within = first
 first_and_each Gives seat seats shift shifts first each (suc k) d e within = each k d e (omega arith)
 
--- the same of lists that are these
-pub each_of_all : {S T : Type 0} (Gives : S → T → Type 0) (seat : S) (seats all : List S) (shift : T) (shifts made : List T)
-    → all ≡ seat ∷ seats → made ≡ shift ∷ shifts → Gives seat shift
+-- the same of lists that are these, where there is memory for the second
+pub each_of_made : {S T E : Type 0} (Gives : S → T → Type 0) (seat : S) (seats all : List S) (shift : T) (shifts : List T) (made : Result (Vec T Global) E)
+    → all ≡ seat ∷ seats → IfOk made (λ v. v.items ≡ shift ∷ shifts) → Gives seat shift
     → ((k : ℕ) (d : S) (e : T) → k < length seats → Gives (slice_index_or seats k d) (slice_index_or shifts k e))
-    → (k : ℕ) (d : S) (e : T) → k < length all → Gives (slice_index_or all k d) (slice_index_or made k e)
-each_of_all Gives seat seats all shift shifts made is_all is_made first each =
+    → IfOk made (λ v. (k : ℕ) (d : S) (e : T) → k < length all → Gives (slice_index_or all k d) (slice_index_or v.items k e))
+each_of_made Gives seat seats all shift shifts made is_all is_made first each =
     let Each : List _ → List _ → Type 0 = λ xs ys. (k : ℕ) (d : _) (e : _) → k < length xs → Gives (slice_index_or xs k d) (slice_index_or ys k e) in
-    subst (λ xs. Each xs made) (sym is_all) (subst (λ ys. Each (seat ∷ seats) ys) (sym is_made) (first_and_each Gives seat seats shift shifts first each))
-
-pub put_before : {T : Type 0} (shift : T) (mine others all : List T) → mine ≡ shift ∷ [] → all ≡ mine ++ others → all ≡ shift ∷ others
-put_before shift mine others all alone joined = joined ∙ ap (λ l. l ++ others) alone
+    IfOk-weaker made (λ v. v.items ≡ shift ∷ shifts) (λ v. Each all v.items)
+    (λ v is. subst (λ xs. Each xs v.items) (sym is_all) (subst (λ ys. Each (seat ∷ seats) ys) (sym is) (first_and_each Gives seat seats shift shifts first each)))
+    is_made
 
 -- what holds of each place of a list holds of its head, and of each place behind it
 pub head_of_each : {S : Type 0} (P : S → Type 0) (seat : S) (seats all : List S) → all ≡ seat ∷ seats

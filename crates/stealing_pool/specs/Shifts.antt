@@ -39,6 +39,13 @@ pub record IsShift {S A : Type 0} (work : Work A) (Is : S → Type 0) (number : 
   pub cuts : All (CutBy work made_cut shift.seat) shift.ran.items
   pub served : shift.refused ≡ false → drained shift.seat × KeepsShift (status shift.seat) shift.ran.items
 
+-- what a worker has done so far
+pub record IsBegun {S A : Type 0} (work : Work A) (Is : S → Type 0) (status : S → ℕ → Status) (made_cut : S → ℕ → Type 0) (shift : Shift S A) : Type 0 where
+  pub of : Is shift.seat
+  pub ran : All (IsRan work) shift.ran.items
+  pub cuts : All (CutBy work made_cut shift.seat) shift.ran.items
+  pub kept : shift.refused ≡ false → KeepsShift (status shift.seat) shift.ran.items
+
 -- what a worker needs of its job, its board and its seat
 pub record Accepts {A : Type 0} (Ready : Type 0) (work : Work A) (leaves : ℕ) (full : ℕ → ℕ) (need : Option ℕ) (Sits : Type 0) (status : ℕ → Status) : Type 0 where
   pub ready : Ready

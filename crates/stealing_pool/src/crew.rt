@@ -1,11 +1,12 @@
 //! One worker a seat, all at the same time.
-ghost use Rattle.std.specs.Prelude.{◌≡◌, ◌<◌, ℕ, length, IfOk, All, slice_index_or};
+ghost use Rattle.std.specs.Prelude.{◌≡◌, ◌<◌, ℕ, length, IfOk, All, slice_index_or, true, false, ◌∷◌};
 ghost use Rattle.std.specs.Thread.{IsSync};
 ghost use denote.Param.Send.{IsSend};
 
+use crate::patience::{ForNanos, Patience};
 use std::alloc::{AllocError, Global};
-use std::thread;
 use std::thread::{Threads, join};
+use std::time::{Clock, Instant};
 use std::vec::IntoIter;
 
 /// What one thread does with the seat that it is given, and what it hands back.
@@ -18,9 +19,23 @@ pub trait Worker: Sync {
 
     ghost gives: { Self → Self.Seat → Self.Shift → Type 0 };
 
+    // a shift that is not over
+    ghost begun: { Self → Self.Seat → Self.Shift → Type 0 };
+
     fn run(&self, seat: Self::Seat) -> Self::Shift
         requires { accepts self.now seat }
         ensures { gives self.now seat result };
+
+    /// Works as long as there is patience. Says whether it left leaves.
+    fn begin<P: Patience>(&self, patience: &P, seat: Self::Seat) -> (Self::Shift, bool)
+        requires { accepts self.now seat }
+        ensures over { result.1 ≡ false → gives self.now seat result.0 }
+        ensures left { result.1 ≡ true → begun self.now seat result.0 };
+
+    /// Ends a shift that is not over.
+    fn finish(&self, shift: Self::Shift) -> Self::Shift
+        requires { (seat : Self.Seat) × begun self.now seat shift }
+        ensures { (seat : Self.Seat) → begun self.now seat shift → gives self.now seat result };
 }
 
 /// Calls both in threads of their own, and waits for them: where a new thread comes to this one's processor, it need not wait for a share of this
@@ -44,6 +59,34 @@ pub(crate) fn join_apart<
         b
     };
     join(rt, f, others)
+}
+
+/// The shifts of a seat and of those behind it, in one list.
+fn put_first<S: Drop>(alloc: Global, first: S, mut others: Vec<S>) -> Result<Vec<S>, AllocError>
+    ensures { IfOk result (λ v. v.items ≡ first ∷ others.items) }
+{
+    let mut shifts = Vec::new(alloc);
+    shifts.push(first)?;
+    shifts.append(&mut others)?;
+    Ok(shifts)
+}
+
+/// Gives each seat to the worker in this thread, from the first on.
+fn run_here<W: Worker>(
+    alloc: Global,
+    worker: &W,
+    mut seats: IntoIter<W::Seat>,
+) -> Result<Vec<W::Shift>, AllocError>
+    requires { All (W.accepts worker.now) seats.rest.items }
+    ensures len { IfOk result (λ v. length v.items ≡ length seats.rest.items) }
+    ensures each { IfOk result (λ v. (k : ℕ) (d : W.Seat) (e : W.Shift) → k < length seats.rest.items → W.gives worker.now (slice_index_or seats.rest.items k d) (slice_index_or v.items k e)) }
+{
+    let Some(seat) = seats.next() else {
+        return Ok(Vec::new(alloc));
+    };
+    let shift = worker.run(seat);
+    let others = run_here(alloc, worker, seats)?;
+    put_first(alloc, shift, others)
 }
 
 /// Gives each seat to a worker in a thread of its own, from the first on.
@@ -71,20 +114,76 @@ fn start_workers<R: Threads + Sync, W: Worker>(
         ensures each { IfOk result (λ v. (k : ℕ) (d : W.Seat) (e : W.Shift) → k < length seats.rest.items → W.gives worker.entry.now (slice_index_or seats.rest.items k d) (slice_index_or v.items k e)) }
     { start_workers(rt, alloc, worker, seats) };
     let (shift, others) = join(rt, first, later);
-    let mut shifts = Vec::new(alloc);
-    shifts.push(shift)?;
-    shifts.append(&mut others?)?;
-    Ok(shifts)
+    put_first(alloc, shift, others?)
 }
 
-/// Gives each seat to a worker of its own, runs them at the same time, and waits for all of them. The shifts stand in the order of the seats.
-///
-/// One worker runs in this thread. Of several each has a thread of its own, and this one waits: a system often puts a new thread on the
-/// processor of the one that started it, where it would wait for that one's own share. A worker whose thread can't be made runs on another's.
-pub fn run_workers<R: Threads + Sync, W: Worker>(
+/// Ends a shift, and gives the other seats to workers, each in a thread of its own.
+fn end_apart<R: Threads + Sync, W: Worker>(
     rt: &R,
     alloc: Global,
     worker: &W,
+    shift: W::Shift,
+    seats: IntoIter<W::Seat>,
+) -> (W::Shift, Result<Vec<W::Shift>, AllocError>)
+    requires begun { (seat : W.Seat) × W.begun worker.now seat shift }
+    requires others { All (W.accepts worker.now) seats.rest.items }
+    ensures first { (seat : W.Seat) → W.begun worker.now seat shift → W.gives worker.now seat result.0 }
+    ensures len { IfOk result.1 (λ v. length v.items ≡ length seats.rest.items) }
+    ensures each { IfOk result.1 (λ v. (k : ℕ) (d : W.Seat) (e : W.Shift) → k < length seats.rest.items → W.gives worker.now (slice_index_or seats.rest.items k d) (slice_index_or v.items k e)) }
+{
+    let first = move || -> W::Shift
+        requires { IsSync W.row × ((seat : W.Seat) × W.begun worker.now seat shift) }
+        ensures { (seat : W.Seat) → W.begun worker.entry.now seat shift → W.gives worker.entry.now seat result }
+    { worker.finish(shift) };
+    let later = move || -> Result<Vec<W::Shift>, AllocError>
+        requires { IsSync R.row × IsSync W.row × All (W.accepts worker.now) seats.rest.items }
+        ensures len { IfOk result (λ v. length v.items ≡ length seats.rest.items) }
+        ensures each { IfOk result (λ v. (k : ℕ) (d : W.Seat) (e : W.Shift) → k < length seats.rest.items → W.gives worker.entry.now (slice_index_or seats.rest.items k d) (slice_index_or v.items k e)) }
+    { start_workers(rt, alloc, worker, seats) };
+    join(rt, first, later)
+}
+
+/// How many nanoseconds a worker goes on alone: about what it takes to start the others.
+const ALONE: u128 = 50_000;
+
+/// Gives the first seat to the worker in this thread, and the others to workers in threads where it has left leaves after a while.
+fn run_patiently<R: Threads + Clock + Sync, W: Worker>(
+    rt: &R,
+    alloc: Global,
+    worker: &W,
+    mut seats: IntoIter<W::Seat>,
+) -> Result<Vec<W::Shift>, AllocError>
+    requires { All (W.accepts worker.now) seats.rest.items }
+    ensures len { IfOk result (λ v. length v.items ≡ length seats.rest.items) }
+    ensures each { IfOk result (λ v. (k : ℕ) (d : W.Seat) (e : W.Shift) → k < length seats.rest.items → W.gives worker.now (slice_index_or seats.rest.items k d) (slice_index_or v.items k e)) }
+{
+    let Some(seat) = seats.next() else {
+        return Ok(Vec::new(alloc));
+    };
+    let patience = ForNanos {
+        clock: rt,
+        since: Instant::now(rt).ok(),
+        nanos: ALONE,
+    };
+    let (shift, left) = worker.begin(&patience, seat);
+    if left {
+        let (shift, others) = end_apart(rt, alloc, worker, shift, seats);
+        return put_first(alloc, shift, others?);
+    }
+    let others = run_here(alloc, worker, seats)?;
+    put_first(alloc, shift, others)
+}
+
+/// Gives each seat to a worker of its own, and waits for all of them. The shifts stand in the order of the seats.
+///
+/// One worker runs in this thread. Of several each has a thread of its own, and this one waits: a system often puts a new thread on the
+/// processor of the one that started it, where it would wait for that one's own share. A worker whose thread can't be made runs on another's.
+/// Where `begins_alone` is set, the first of several begins in this thread, and threads are started where it has left leaves after a while.
+pub fn run_workers<R: Threads + Clock + Sync, W: Worker>(
+    rt: &R,
+    alloc: Global,
+    worker: &W,
+    begins_alone: bool,
     seats: Vec<W::Seat>,
 ) -> Result<Vec<W::Shift>, AllocError>
     requires { All (W.accepts worker.now) seats.items }
@@ -92,7 +191,10 @@ pub fn run_workers<R: Threads + Sync, W: Worker>(
     ensures each { IfOk result (λ v. (k : ℕ) (d : W.Seat) (e : W.Shift) → k < length seats.items → W.gives worker.now (slice_index_or seats.items k d) (slice_index_or v.items k e)) }
 {
     if seats.len() < 2 {
-        return thread::map_vec(rt, seats, &|seat| worker.run(seat));
+        return run_here(alloc, worker, seats.into_iter());
+    }
+    if begins_alone {
+        return run_patiently(rt, alloc, worker, seats.into_iter());
     }
     start_workers(rt, alloc, worker, seats.into_iter())
 }

@@ -2,9 +2,22 @@
 
 /// Is told of each leaf that a worker runs: before it begins, and after it has ended. Tests hold workers by it.
 pub trait Gate {
+    /// A run over so many leaves, numbered from 0, begins.
+    fn before_run(&self, _leaves: usize) {}
+
     fn before_leaf(&self, worker: u32, leaf: usize);
 
     fn after_leaf(&self, worker: u32, leaf: usize);
+
+    /// Whether the run is to end with no value, as if memory were refused. It is asked before each leaf, and after each 1,024 items within one.
+    fn is_halted(&self) -> bool {
+        false
+    }
+
+    /// Whether it may hold a worker until another one comes. Then all workers start at once, and else the first begins alone.
+    fn may_hold(&self) -> bool {
+        true
+    }
 }
 
 /// A gate that holds nobody.
@@ -15,4 +28,8 @@ impl Gate for NoGate {
     fn before_leaf(&self, _worker: u32, _leaf: usize) {}
 
     fn after_leaf(&self, _worker: u32, _leaf: usize) {}
+
+    fn may_hold(&self) -> bool {
+        false
+    }
 }

@@ -18,6 +18,7 @@ use spliterator::{NoMemory, Spliterator};
 use stages::Stage;
 use std::alloc::Global;
 use std::thread::Threads;
+use std::time::Clock;
 
 /// The job of a plan's leaves: each through the stage into a container of its own.
 #[derive(Drop)]
@@ -46,6 +47,14 @@ impl<S: Spliterator, G: Stage<In = S::Item>, D: Demand<G::Out>, C: Collector<Ite
         self.reading.demand.need()
     }
 
+    fn estimate(&self) -> u64 {
+        let mut items: u64 = 0;
+        for leaf in 0..self.plan.leaves() {
+            items = items.saturating_add(self.plan.leaf(leaf).estimate_size());
+        }
+        items
+    }
+
     fn run_leaf<B: Handout>(
         &self,
         board: &B,
@@ -71,7 +80,7 @@ impl<S: Spliterator, G: Stage<In = S::Item>, D: Demand<G::Out>, C: Collector<Ite
 /// `workers` is 1 to 64. The container is the collector's left fold over a front of the stage's list that is all of it or is
 /// enough for the demand. The answer is `NoMemory` where any worker was refused memory.
 pub fn run_leaves<
-    R: Threads + Sync,
+    R: Threads + Clock + Sync,
     S: Spliterator + Sync,
     G: Stage<In = S::Item> + Sync,
     D: Demand<G::Out> + Sync,

@@ -10,12 +10,13 @@ use crate::crew::run_workers;
 use crate::gate::Gate;
 use crate::gather::{pick_row, sort_shifts};
 use crate::job::LeafJob;
-use crate::worker::Crew;
+use crate::worker::{Crew, Shift};
 use leaf_board::LeafBoard;
 use split_tree::Tree;
 use spliterator::NoMemory;
 use std::alloc::Global;
 use std::thread::Threads;
+use std::time::Clock;
 
 /// A board that nothing was drawn from, and all its seats.
 #[derive(Drop)]
@@ -31,8 +32,21 @@ pub struct Closed<K, R> {
     pub record: R,
 }
 
+/// The most items of a run that begins in one thread. Of more, four workers at least would lose by it.
+const FEW_ITEMS: u64 = 1 << 18;
+
+/// Whether no worker but the first ran a leaf.
+fn is_one_alone<T, K>(shifts: &[Shift<T, K>]) -> bool {
+    for shift in shifts.iter().skip(1) {
+        if !shift.ran.is_empty() {
+            return false;
+        }
+    }
+    true
+}
+
 /// Runs the leaves over a board and all its seats, and gathers what is kept of them.
-pub fn run_on<R: Threads + Sync, B: LeafBoard + Sync, J: LeafJob + Sync, H: Gate + Sync>(
+pub fn run_on<R: Threads + Clock + Sync, B: LeafBoard + Sync, J: LeafJob + Sync, H: Gate + Sync>(
     rt: &R,
     alloc: Global,
     tree: &Tree,
@@ -55,13 +69,23 @@ where
     ensures stands { IfOk result (λ g. StandsForRun (J.work job.now) g.kept) }
 {
     let Opened { board, seats } = opened;
+    if gate.is_halted() {
+        return Err(NoMemory);
+    }
+    gate.before_run(job.leaves());
     let crew = Crew {
         alloc,
         board: &board,
         job,
         gate,
     };
-    let shifts = run_workers(rt, alloc, &crew, seats)?;
+    let begins_alone = !gate.may_hold() && job.estimate() <= FEW_ITEMS;
+    let shifts = run_workers(rt, alloc, &crew, begins_alone, seats)?;
+    let workers = if begins_alone && is_one_alone(shifts.as_slice()) {
+        1
+    } else {
+        workers
+    };
     let (seats, places) = sort_shifts(alloc, job.leaves(), shifts)?;
     let record = board.close(seats);
     let row = pick_row(alloc, job, places)?;

@@ -1,13 +1,15 @@
 //! One worker: it draws leaves, runs them and publishes their counts, until all are given out.
-ghost use Rattle.std.specs.Prelude.{◌≡◌, ◌<◌, ◌⊎◌, ℕ, false, true, All};
+ghost use Rattle.std.specs.Prelude.{◌≡◌, ◌<◌, ◌⊎◌, ℕ, false, true, All, []};
 ghost use Rattle.barriers.specs.Needs.{need_of, Reaches};
 ghost use Rattle.leaf_board.specs.Statuses.{Unknown, Given, StaysSeat};
 ghost use Rattle.stealing_pool.specs.Jobs.{IsCase};
-ghost use Rattle.stealing_pool.specs.Shifts.{Accepts, IsRan, IsShift, Serves, KeepsShift, CutBy};
+ghost use Rattle.stealing_pool.specs.Shifts.{Accepts, IsBegun, IsRan, IsShift, Serves, KeepsShift, CutBy};
 
 use crate::crew::Worker;
 use crate::gate::Gate;
+use crate::halting::Halting;
 use crate::job::LeafJob;
+use crate::patience::{Endless, Patience};
 use barriers::Need;
 use leaf_board::{Draw, Handout};
 use leaf_reading::{LeafEnd, Portion};
@@ -67,7 +69,11 @@ impl<B: Handout, J: LeafJob, H: Gate> Crew<'_, B, J, H> {
         ensures serves { Serves (J.work self.now.job.now) (B.status seat.old) leaf result (B.status seat.new) (B.made_cut seat.new) }
     {
         let need = self.job.need();
-        match self.job.run_leaf(self.board, seat, leaf) {
+        let board = Halting {
+            board: self.board,
+            gate: self.gate,
+        };
+        match self.job.run_leaf(&board, seat, leaf) {
             Ok(LeafEnd::Done(portion)) => {
                 self.board.publish(seat, pass, portion.count);
                 if may_cut(need, portion.count) {
@@ -105,6 +111,10 @@ impl<B: Handout, J: LeafJob, H: Gate> Crew<'_, B, J, H> {
             Ok(()) => return Ok(None),
             Err(pass) => pass,
         };
+        if self.gate.is_halted() {
+            self.board.give_up(seat, pass);
+            return Err(NoMemory);
+        }
         let leaf = B::leaf(&pass);
         self.gate.before_leaf(worker, leaf);
         let served = self.run_and_publish(seat, pass, leaf);
@@ -112,50 +122,65 @@ impl<B: Handout, J: LeafJob, H: Gate> Crew<'_, B, J, H> {
         served
     }
 
-    /// Draws leaves and serves them, until all are given out or memory is refused.
-    fn work(&self, seat: B::Seat) -> Shift<B::Seat, J::Kept>
+    /// Goes on with a shift: draws leaves and serves them, until all are given out, memory is refused, or patience is over. Says whether others
+    /// may find leaves.
+    fn go_on<P: Patience>(
+        &self,
+        patience: &P,
+        shift: Shift<B::Seat, J::Kept>,
+    ) -> (Shift<B::Seat, J::Kept>, bool)
         requires ready { J.ready self.now.job.now }
         requires case { IsCase (J.work self.now.job.now) (B.leaves self.now.board.now) (B.full self.now.board.now) (B.need self.now.board.now) }
-        requires of { B.is_of self.now.board.now seat }
-        requires fresh { (i : ℕ) → B.status seat i ≡ Unknown }
-        ensures of { B.is_of self.now.board.now result.seat }
-        ensures number { B.number result.seat ≡ B.number seat }
-        ensures ran { All (IsRan (J.work self.now.job.now)) result.ran.items }
-        ensures cuts { All (CutBy (J.work self.now.job.now) B.made_cut result.seat) result.ran.items }
-        ensures served { result.refused ≡ false → B.drained result.seat × KeepsShift (B.status result.seat) result.ran.items }
+        requires begun { IsBegun (J.work self.now.job.now) (B.is_of self.now.board.now) B.status B.made_cut shift }
+        ensures of { B.is_of self.now.board.now result.0.seat }
+        ensures number { B.number result.0.seat ≡ B.number shift.seat }
+        ensures ran { All (IsRan (J.work self.now.job.now)) result.0.ran.items }
+        ensures cuts { All (CutBy (J.work self.now.job.now) B.made_cut result.0.seat) result.0.ran.items }
+        ensures kept { result.0.refused ≡ false → KeepsShift (B.status result.0.seat) result.0.ran.items }
+        ensures drained { result.0.refused ≡ false → result.1 ≡ false → B.drained result.0.seat }
+        ensures left { result.1 ≡ true → result.0.refused ≡ false → P.ends patience.now }
     {
-        let worker = B::seat_number(&seat);
-        let mut seat = seat;
-        let mut ran = Vec::new(self.alloc);
+        if shift.refused {
+            return (shift, false);
+        }
+        let worker = B::seat_number(&shift.seat);
+        let mut shift = shift;
+        let mut more = false;
         'drawing: loop {
-            if ran.reserve(1).is_err() {
-                return Shift {
-                    seat,
-                    ran,
-                    refused: true,
-                };
+            if more && patience.is_over() {
+                return (shift, true);
             }
-            let pass = match self.board.draw(&mut seat) {
+            if shift.ran.reserve(1).is_err() {
+                shift.refused = true;
+                return (shift, more);
+            }
+            let pass = match self.board.draw(&mut shift.seat) {
                 Draw::Leaf(pass) => pass,
-                Draw::Drained => {
-                    return Shift {
-                        seat,
-                        ran,
-                        refused: false,
-                    };
-                }
+                Draw::Drained => return (shift, false),
             };
-            match self.serve(worker, &mut seat, pass) {
-                Ok(Some(one)) => ran.push_reserved(one),
+            // One seat alone draws the leaves in their order.
+            more = B::leaf(&pass) < self.job.leaves() - 1;
+            match self.serve(worker, &mut shift.seat, pass) {
+                Ok(Some(one)) => shift.ran.push_reserved(one),
                 Ok(None) => {}
                 Err(NoMemory) => {
-                    return Shift {
-                        seat,
-                        ran,
-                        refused: true,
-                    };
+                    shift.refused = true;
+                    return (shift, more);
                 }
             }
+        }
+    }
+
+    /// A shift in which nothing has been drawn.
+    fn fresh(&self, seat: B::Seat) -> Shift<B::Seat, J::Kept>
+        ensures seat { result.seat ≡ seat }
+        ensures none { result.ran.items ≡ [] }
+        ensures refused { result.refused ≡ false }
+    {
+        Shift {
+            seat,
+            ran: Vec::new(self.alloc),
+            refused: false,
         }
     }
 }
@@ -173,7 +198,20 @@ where
 
     ghost gives = { λ w seat shift. IsShift (J.work w.job.now) (B.is_of w.board.now) B.number B.status B.drained B.made_cut seat shift };
 
+    ghost begun = { λ w seat shift. J.ready w.job.now × IsCase (J.work w.job.now) (B.leaves w.board.now) (B.full w.board.now) (B.need w.board.now)
+        × IsBegun (J.work w.job.now) (B.is_of w.board.now) B.status B.made_cut shift × (B.number shift.seat ≡ B.number seat) };
+
     fn run(&self, seat: B::Seat) -> Shift<B::Seat, J::Kept> {
-        self.work(seat)
+        let (shift, _) = self.go_on(&Endless, self.fresh(seat));
+        shift
+    }
+
+    fn begin<P: Patience>(&self, patience: &P, seat: B::Seat) -> (Shift<B::Seat, J::Kept>, bool) {
+        self.go_on(patience, self.fresh(seat))
+    }
+
+    fn finish(&self, shift: Shift<B::Seat, J::Kept>) -> Shift<B::Seat, J::Kept> {
+        let (shift, _) = self.go_on(&Endless, shift);
+        shift
     }
 }

@@ -25,6 +25,7 @@ use parallel_streams::{Run, StreamError};
 use std::alloc::Global;
 use std::process::Abort;
 use std::thread::Threads;
+use std::time::Clock;
 use stealing_pool::NoGate;
 
 /// The workers and the target of each row: at target 1 there is a leaf an item, and 0 is the default. Requests for memory are refused in turn by
@@ -64,7 +65,7 @@ enum Suite {
     Texts,
 }
 
-fn at_each_setting<R: Threads + Abort + Alloc<A = Global> + Sync>(
+fn at_each_setting<R: Threads + Clock + Abort + Alloc<A = Global> + Sync>(
     rt: &R,
     suite: Suite,
 ) -> Result<(), StreamError> {

@@ -12,11 +12,11 @@ ghost use Rattle.collectors.specs.NestedLaws.{fails};
 
 use crate::{Spelled, Written};
 use collectors::{
-    Collector, Counting, FilteringTo, First, GroupingBy, MappingTo, Pairing, PartitioningBy,
-    Reducing, SummingLong, Teeing, ToMap,
+    Collector, Counting, First, GroupingBy, MappingTo, Pairing, PartitioningBy, Reducing,
+    SummingLong, Teeing, ToMap,
 };
 use either::Either;
-use spliterator::{NoMemory, Value};
+use spliterator::{EqualValue, NoMemory, Value};
 use stages::{Mapping, Operator, Test};
 use std::alloc::Global;
 use std::hash::{BuildHasher, Hash};
@@ -54,7 +54,7 @@ pub fn grouped<D: Summarizes, K: Mapping<D::Item>, S: BuildHasher + Copy>(
     hashes: S,
 ) -> GroupingBy<K, D, S>
 where
-    K::Out: Spelled + Hash + Drop,
+    K::Out: EqualValue + Spelled + Hash + Drop,
     D::Out: Written,
     ensures key { result.key ≡ key }
     ensures downstream { result.downstream ≡ downstream }
@@ -122,15 +122,6 @@ where
     ghost tells = { λ c l. D.tells c.downstream (map (M.image c.mapping) l) };
 }
 
-impl<D: Summarizes, P: Test<D::Item>> Summarizes for FilteringTo<P, D>
-where
-    D::Out: Written,
-{
-    ghost summary = { λ c l. D.summary c.downstream (filter (P.holds c.test) l) };
-
-    ghost tells = { λ c l. D.tells c.downstream (filter (P.holds c.test) l) };
-}
-
 impl<D: Summarizes, P: Test<D::Item>> Summarizes for PartitioningBy<P, D>
 where
     D::Out: Written,
@@ -142,7 +133,7 @@ where
 
 impl<D: Summarizes, K: Mapping<D::Item>, S: BuildHasher + Copy> Summarizes for GroupingBy<K, D, S>
 where
-    K::Out: Spelled + Hash + Drop,
+    K::Out: EqualValue + Spelled + Hash + Drop,
     D::Out: Written,
 {
     ghost summary = { λ c. groups_text K.Out.spelling K.Out.same (K.image c.key) (D.summary c.downstream) };
@@ -169,7 +160,7 @@ impl<
     S: BuildHasher + Copy,
 > Summarizes for ToMap<T, U, K, V, M, S>
 where
-    K::Out: Spelled + Hash + Drop,
+    K::Out: EqualValue + Spelled + Hash + Drop,
 {
     ghost summary = { λ c. merged_text K.Out.spelling U.spelling K.Out.same (K.image c.key) (V.image c.value) (M.join c.merge) };
 

@@ -5,12 +5,12 @@ use collectors::{
     Collector, Counting, FilteringTo, GroupingBy, MappingTo, PartitioningBy, SummingLong, ToMap,
     ToMapStrict, fold_items,
 };
-use parts::{Composed, Modulo};
+use derived_collectors::Summarizing;
 use spliterator::NoMemory;
 use stages::{FirstOf, Mapping, Test};
 use std::process::Abort;
 use std::sync::atomic::{AtomicU64, Ordering};
-use summaries::Summarizing;
+use stream_functions::{Composed, Modulo};
 
 /// Each number as it is. It counts how often it was asked.
 #[derive(Drop)]

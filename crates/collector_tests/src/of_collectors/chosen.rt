@@ -3,9 +3,9 @@ use super::cuts::check;
 use super::parted::check_groups;
 use collectors::{Collector, Counting, SummingLong, ToList};
 use either::{Either, Left, Right};
-use parts::{Itself, Modulo};
 use spliterator::NoMemory;
 use std::alloc::Global;
+use stream_functions::{Itself, Modulo};
 
 // One of three collectors, by its number.
 type Chosen = Either<Counting<i64>, Either<SummingLong<i64, Itself>, ToList<i64>>>;

@@ -1,4 +1,4 @@
-//! The functions of the rows that aren't in `parts`.
+//! The functions of the rows that aren't in `stream_functions`.
 ghost use Rattle.std.specs.Prelude.{◌≡◌};
 
 use collectors::Pairing;

@@ -2,11 +2,11 @@
 use super::cuts::check;
 use super::parted::{check_groups, check_map};
 use collectors::{Counting, First, Joining, MappingTo, Reducing, SummingLong, ToList};
-use parts::{Cloned, Itself, Length};
 use spliterator::NoMemory;
 use stages::LastOf;
 use std::alloc::Global;
 use std::process::Abort;
+use stream_functions::{Cloned, Itself, Length};
 
 /// What stands between, before and after the texts, and rows. An empty text is an item like any other.
 static JOINED: [(&str, &str, &str, &[(&[&str], &str)]); 3] = [

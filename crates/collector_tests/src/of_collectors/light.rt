@@ -4,11 +4,11 @@ use collectors::{
     Collector, Counting, GroupingBy, PartitioningBy, Reducing, SummingLong, Teeing, ToList, ToMap,
     ToMapStrict,
 };
-use parts::{Above, Itself, Modulo};
 use spliterator::NoMemory;
 use stages::{FirstOf, WrapAdd};
 use std::alloc::Global;
 use std::process::Abort;
+use stream_functions::{Above, Itself, Modulo};
 
 /// Whether a container of the first `count` numbers is light.
 fn is_light<C: Collector<Item = i64>>(collector: &C, count: i64) -> Result<bool, NoMemory>

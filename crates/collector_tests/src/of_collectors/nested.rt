@@ -12,8 +12,8 @@ use collectors::{
     CollectorDefinition, CollectorOf, Counting, FilteringTo, GroupingBy, Joining, MappingTo,
     PartitioningBy, SummingLong, Teeing, ToList,
 };
-use parts::{Above, Itself, Length, Modulo, Times};
 use spliterator::NoMemory;
+use stream_functions::{Above, Itself, Length, Modulo, Times};
 
 static SUM_AND_COUNT: [(&[i64], &str); 1] = [(&[1, 2, 3, 4], "(10, 4)")];
 

@@ -5,12 +5,12 @@ ghost use Rattle.stages.specs.Operators.{IsAssociative};
 use super::cuts::check;
 use super::shown::Shown;
 use collectors::{Collector, GroupingBy, PartitioningBy, Reducing, ToMap, ToMapStrict};
-use parts::Above;
-use spliterator::{NoMemory, Value};
+use spliterator::{EqualValue, NoMemory, Value};
 use stages::{Mapping, Operator};
 use std::alloc::Global;
 use std::hash::Hash;
 use std::process::Abort;
+use stream_functions::Above;
 
 /// Checks groups by a key.
 pub fn check_groups<K: Mapping<D::Item> + Drop, D: Collector + Drop>(
@@ -21,7 +21,7 @@ pub fn check_groups<K: Mapping<D::Item> + Drop, D: Collector + Drop>(
     rows: &[(&[D::Item], &str)],
 ) -> Result<(), NoMemory>
 where
-    K::Out: Hash + Drop + Shown,
+    K::Out: EqualValue + Hash + Drop + Shown,
     D::Item: Clone + Drop,
     D::Out: Shown,
     requires key { K.ready key }
@@ -44,8 +44,8 @@ pub fn check_groups_of_groups<
     rows: &[(&[D::Item], &str)],
 ) -> Result<(), NoMemory>
 where
-    K::Out: Hash + Drop + Shown,
-    L::Out: Hash + Drop + Shown,
+    K::Out: EqualValue + Hash + Drop + Shown,
+    L::Out: EqualValue + Hash + Drop + Shown,
     D::Item: Clone + Drop,
     D::Out: Shown,
     requires key { K.ready key }
@@ -104,7 +104,7 @@ pub fn check_map<
     rows: &[(&[T], &str)],
 ) -> Result<(), NoMemory>
 where
-    K::Out: Hash + Drop + Shown,
+    K::Out: EqualValue + Hash + Drop + Shown,
     V::Out: Drop + Shown,
     requires key { K.ready key }
     requires value { V.ready value }
@@ -124,7 +124,7 @@ pub fn check_strict<T: Value + Clone + Drop, K: Mapping<T> + Drop, V: Mapping<T>
     rows: &[(&[T], &str)],
 ) -> Result<(), NoMemory>
 where
-    K::Out: Hash + Drop + Shown,
+    K::Out: EqualValue + Hash + Drop + Shown,
     V::Out: Drop + Shown,
     requires key { K.ready key }
     requires value { V.ready value }

@@ -4,11 +4,11 @@ use super::parted::{check_groups, check_map, check_parts, check_reduced};
 use collectors::{
     Counting, FilteringTo, First, GroupingBy, MappingTo, Reducing, SummingLong, ToList, ToMap,
 };
-use parts::{Above, Below, Itself, Modulo, Times};
 use spliterator::NoMemory;
 use stages::{FirstOf, LastOf, Max, Min, WrapAdd, WrapMul};
 use std::hash::RandomState;
 use std::test::Fail;
+use stream_functions::{Above, Below, Itself, Modulo, Times};
 
 static COUNTS: [(&[i64], &str); 2] = [(&[], "0"), (&[7, 7, 7], "3")];
 

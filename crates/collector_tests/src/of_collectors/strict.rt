@@ -2,11 +2,11 @@
 use super::cuts::check;
 use super::parted::{check_groups, check_strict};
 use collectors::{DuplicateKey, ToMapStrict};
-use parts::{Itself, Length, Modulo, Times};
 use spliterator::NoMemory;
 use std::alloc::AllocError;
 use std::hash::RandomState;
 use std::test::Fail;
+use stream_functions::{Itself, Length, Modulo, Times};
 
 /// The number by which the keys are remainders, that by which the values are products, and rows. 1 is the first key that is there twice, and 2
 /// the first that comes again.

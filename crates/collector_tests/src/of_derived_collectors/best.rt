@@ -1,8 +1,8 @@
 //! The first of the best items by a key.
 use super::cuts::of_parts;
 use derived_collectors::BestByKey;
-use parts::Length;
 use spliterator::NoMemory;
+use stream_functions::Length;
 
 /// Words, and of each list the first shortest word and the first longest.
 static WORDS: [(&[&str], Option<&str>, Option<&str>); 4] = [

@@ -1,4 +1,4 @@
-//! Functions that aren't in `parts`.
+//! Functions that aren't in `stream_functions`.
 ghost use Rattle.std.specs.Prelude.{◌≡◌, length, replicate, unsigned_abs};
 ghost use Rattle.std.proofs.lemmas.List.Elements.{All-replicate};
 ghost use Rattle.spliterator.specs.Values.{IsI64};

@@ -2,8 +2,8 @@
 use super::cuts::of_parts;
 use derived_collectors::{grouping_by, partitioning_by, to_deque};
 use indexmap::IndexMap;
-use parts::{Even, Modulo};
 use spliterator::NoMemory;
+use stream_functions::{Even, Modulo};
 
 /// Lists, and of each its even numbers and its odd ones.
 static PARTED: [(&[i64], &[i64], &[i64]); 3] = [

@@ -2,7 +2,11 @@
 
 mod best;
 mod cuts;
+mod exact;
 mod functions;
 mod lists;
 mod nested;
+mod scanned;
 mod sets;
+mod summarized;
+mod tried;

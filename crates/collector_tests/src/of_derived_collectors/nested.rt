@@ -3,8 +3,8 @@ use super::cuts::of_parts;
 use super::functions::{Copies, Keys};
 use collectors::{Counting, GroupingBy, ToList};
 use derived_collectors::{CollectingAndThen, FlatMappingTo};
-use parts::{Modulo, Times};
 use spliterator::NoMemory;
+use stream_functions::{Modulo, Times};
 
 /// Lists, and of each: twice its length, and how many remainders by 3 its numbers leave.
 static FINISHED: [(&[i64], i64, usize); 3] = [

@@ -78,7 +78,19 @@ const SMALL: NumberStage = NumberStage::Filter(NumberTest::Less(10));
 
 const LARGE: NumberStage = NumberStage::Filter(NumberTest::Greater(3));
 
+const NONE_LESS: NumberStage = NumberStage::Filter(NumberTest::Less(LEAST));
+
+const NONE_GREATER: NumberStage = NumberStage::Filter(NumberTest::Greater(MOST));
+
+const ONLY_LEAST: NumberStage = NumberStage::Filter(NumberTest::Equals(LEAST));
+
 const TWICE: NumberStage = NumberStage::FlatMap(2);
+
+const LONG: TextStage<'_> = TextStage::Filter(TextTest::Longer(1));
+
+const PIECES: TextStage<'_> = TextStage::FlatMap(Expansion::Words);
+
+const DOUBLED: TextStage<'_> = TextStage::FlatMap(Expansion::Repeat(2));
 
 #[test]
 fn steps_follow_one_another(rt: HostRuntime) -> Result<(), Fail> {
@@ -111,31 +123,11 @@ fn bounds_drop_numbers(rt: HostRuntime) -> Result<(), Fail> {
         (&[LARGE], &[3, 4, LEAST, MOST], &[4, MOST], 1),
         (&[SMALL], &[9, 10, LEAST, MOST], &[9, LEAST], 1),
         (&[SMALL, LARGE], &[3, 4, 9, 10], &[4, 9], 2),
-        (
-            &[THRICE, SMALL, MORE, LARGE],
-            &[0, 1, 2, 3, 4],
-            &[4, 7, 10],
-            4,
-        ),
+        (&[THRICE, SMALL, MORE, LARGE], &[0, 2, 3, 4], &[7, 10], 4),
         (&[LARGE, NEGATED, SMALL], &[3, 4], &[-4], 3),
-        (
-            &[NumberStage::Filter(NumberTest::Less(LEAST))],
-            &[LEAST, 0],
-            &[],
-            1,
-        ),
-        (
-            &[NumberStage::Filter(NumberTest::Greater(MOST))],
-            &[MOST, 0],
-            &[],
-            1,
-        ),
-        (
-            &[NumberStage::Filter(NumberTest::Equals(LEAST))],
-            &[LEAST, 0],
-            &[LEAST],
-            1,
-        ),
+        (&[NONE_LESS], &[LEAST, 0], &[], 1),
+        (&[NONE_GREATER], &[MOST, 0], &[], 1),
+        (&[ONLY_LEAST], &[LEAST, 0], &[LEAST], 1),
     ];
     check(&rt, &rows)
 }
@@ -159,12 +151,7 @@ fn a_number_is_repeated(rt: HostRuntime) -> Result<(), Fail> {
         (&[NumberStage::FlatMap(0), NEGATED], &[7, 8], &[], 2),
         (&[NumberStage::FlatMap(1)], &[7, 8], &[7, 8], 1),
         (&[TWICE, NEGATED, TWICE], &[7], &[-7, -7, -7, -7], 3),
-        (
-            &[NEGATED, TWICE, NumberStage::Filter(NumberTest::Less(-7))],
-            &[7, 8],
-            &[-8, -8],
-            3,
-        ),
+        (&[NEGATED, TWICE, SMALL], &[7, -10], &[-7, -7], 3),
     ];
     check(&rt, &rows)
 }
@@ -217,7 +204,7 @@ const LOST: (Operation, Option<u64>) = (Operation::FlatMap, None);
 /// The texts themselves keep the size.
 const TEXT_SIZES: [(TextStage<'_>, (Operation, Option<u64>)); 2] = [
     (TextStage::Map(()), KEPT),
-    (TextStage::FlatMap(Expansion::Words), LOST),
+    (PIECES, LOST),
 ];
 
 /// The same of stages over texts.
@@ -240,13 +227,7 @@ fn maps_alone_keep_the_size(rt: HostRuntime) -> Result<(), Fail> {
     let rows: [(&[NumberStage], (Operation, Option<u64>)); 5] = [
         (&[], KEPT),
         (&[MORE, MORE], KEPT),
-        (
-            &[
-                MORE,
-                NumberStage::Barrier(Barrier::Limit(ItemCount { number: 3 })),
-            ],
-            KEPT,
-        ),
+        (&[MORE, BARRIERS[1]], KEPT),
         (&[MORE, NumberStage::Filter(NumberTest::Divisible(1))], LOST),
         (&[NumberStage::FlatMap(1)], LOST),
     ];
@@ -271,7 +252,7 @@ fn no_stage_lends_a_list(rt: HostRuntime) -> Result<(), Fail> {
     assert!(rt; nothing.lent_block(numbers) == Some(numbers));
     assert!(rt; repeated.lent_block(numbers).is_none() && changed.lent_block(numbers).is_none());
     let (nothing, _) = text_front_of(rt.alloc(), &[])?;
-    let (cut, _) = text_front_of(rt.alloc(), &[TextStage::FlatMap(Expansion::Words)])?;
+    let (cut, _) = text_front_of(rt.alloc(), &[PIECES])?;
     assert!(rt; nothing.lent_block(texts) == Some(texts) && cut.lent_block(texts).is_none());
     Ok(())
 }
@@ -282,10 +263,7 @@ fn repeats_and_words_make_several_of_one(rt: HostRuntime) -> Result<(), Fail> {
         (&[], 1),
         (&[MORE, TWICE, TWICE], 4),
         (&[NumberStage::FlatMap(0)], 1),
-        (
-            &[NumberStage::FlatMap(u64::MAX), NumberStage::FlatMap(2)],
-            u64::MAX,
-        ),
+        (&[NumberStage::FlatMap(u64::MAX), TWICE], u64::MAX),
     ];
     for &(stages, wanted) in &rows {
         let (steps, _) = front_of(rt.alloc(), stages)?;
@@ -293,14 +271,8 @@ fn repeats_and_words_make_several_of_one(rt: HostRuntime) -> Result<(), Fail> {
     }
     let text_rows: [(&[TextStage<'_>], u64); 3] = [
         (&[TextStage::Map(())], 1),
-        (&[TextStage::FlatMap(Expansion::Words)], 16),
-        (
-            &[
-                TextStage::FlatMap(Expansion::Repeat(3)),
-                TextStage::FlatMap(Expansion::Words),
-            ],
-            48,
-        ),
+        (&[PIECES], 16),
+        (&[DOUBLED, PIECES], 32),
     ];
     for &(stages, wanted) in &text_rows {
         let (steps, _) = text_front_of(rt.alloc(), stages)?;
@@ -345,21 +317,13 @@ const TEXT_BARRIERS: [TextStage<'_>; 5] = [
 #[test]
 fn a_front_of_texts_ends_at_a_barrier(rt: HostRuntime) -> Result<(), Fail> {
     for &barrier in &TEXT_BARRIERS {
-        let stages = [
-            TextStage::FlatMap(Expansion::Words),
-            barrier,
-            TextStage::FlatMap(Expansion::Words),
-        ];
-        check_texts(&rt, &[(&stages, &["a b"], &["a", "b"], 1)])?;
+        check_texts(
+            &rt,
+            &[(&[PIECES, barrier, PIECES], &["a b"], &["a", "b"], 1)],
+        )?;
     }
     Ok(())
 }
-
-const LONG: TextStage<'_> = TextStage::Filter(TextTest::Longer(1));
-
-const PIECES: TextStage<'_> = TextStage::FlatMap(Expansion::Words);
-
-const DOUBLED: TextStage<'_> = TextStage::FlatMap(Expansion::Repeat(2));
 
 #[test]
 fn a_text_is_cut_at_its_spaces(rt: HostRuntime) -> Result<(), Fail> {
@@ -377,12 +341,7 @@ fn a_text_is_cut_at_its_spaces(rt: HostRuntime) -> Result<(), Fail> {
 fn a_text_walks_through_its_steps(rt: HostRuntime) -> Result<(), Fail> {
     let rows: [TextRow<'_>; 6] = [
         (&[], &["a", ""], &["a", ""], 0),
-        (
-            &[TextStage::Map(()), LONG],
-            &["a", "é", "bc"],
-            &["é", "bc"],
-            2,
-        ),
+        (&[TextStage::Map(()), LONG], &["a", "é"], &["é"], 2),
         (&[PIECES, DOUBLED], &["a b"], &["a", "a", "b", "b"], 2),
         (&[DOUBLED, PIECES], &["a b"], &["a", "b", "a", "b"], 2),
         (&[PIECES, LONG, PIECES], &["a bc d", "ef"], &["bc", "ef"], 3),

@@ -1,18 +1,15 @@
 //! The texts of values, and of what the language's collectors make.
-use collectors::{Collector, GroupingBy, PartitioningBy, Teeing, ToMap, collect};
+use collectors::{Collector, collect};
 use pipeline_language::{
-    Mapped, Merge, NumberBase, NumberFunction, NumberInner, NumberOnly, NumberSummary, NumberTest,
-    TextBase, TextFunction, TextInner, TextSummary,
+    Mapped, NumberBase, NumberInner, NumberOnly, NumberSummary, TextBase, TextFunction, TextInner,
+    TextSummary,
 };
-use pipeline_meaning::{
-    NumberCheck, NumberMapping, NumberMerging, Seed, SeededHashes, number_base, number_summary,
-    text_summary,
-};
+use pipeline_meaning::{Seed, SeededHashes, number_summary, text_summary};
 use spliterator::NoMemory;
 use std::alloc::Global;
 use std::process::Abort;
 use std::test::Fail;
-use value_text::{Both, JoinedText, Summarizes, Written, write_result};
+use value_text::{Summarizes, Written, write_result};
 
 /// Checks the text of what a collector makes of the items.
 fn check<C: Summarizes>(
@@ -54,69 +51,6 @@ fn summaries_of_numbers(rt: HostRuntime) -> Result<(), Fail> {
     Ok(())
 }
 
-const COUNT: NumberInner = NumberInner::Base(NumberBase::Count);
-
-/// What is made of the numbers of each parity, the items, and the text of the groups.
-static OF_GROUPS: [(NumberSummary, &[i64], &str); 3] = [
-    (
-        NumberSummary::GroupBy(NumberFunction::Mod(3), COUNT),
-        &[1, 2, 3, 4, 5, 6],
-        "{1={1=1, 0=1, 2=1}, 0={2=1, 1=1, 0=1}}",
-    ),
-    (
-        NumberSummary::GroupBy(NumberFunction::Mod(3), COUNT),
-        &[],
-        "{}",
-    ),
-    (
-        NumberSummary::Filtering(NumberTest::Greater(2), COUNT),
-        &[1, 2, 3],
-        "{1=1, 0=0}",
-    ),
-];
-
-#[test]
-fn nested_groups(rt: HostRuntime) -> Result<(), Fail> {
-    let hashes = SeededHashes::of(Seed::draw(&rt));
-    for &(summary, items, wanted) in &OF_GROUPS {
-        let key = NumberMapping::of(NumberFunction::Mod(2));
-        let inner = number_summary(rt.alloc(), hashes, summary);
-        let groups = GroupingBy::with_hasher(rt.alloc(), key, inner, hashes);
-        check(&rt, &groups, items, wanted)?;
-    }
-    Ok(())
-}
-
-#[test]
-fn a_partition(rt: HostRuntime) -> Result<(), Fail> {
-    let list = NumberInner::Base(NumberBase::ToList);
-    let tens = NumberSummary::Mapping((NumberFunction::Mul(10), list));
-    let inner = number_summary(rt.alloc(), SeededHashes::of(Seed::draw(&rt)), tens);
-    let parts = PartitioningBy::new(NumberCheck::of(NumberTest::Less(3)), inner);
-    check(&rt, &parts, &[1, 2, 3], "{false=[30], true=[10, 20]}")?;
-    Ok(())
-}
-
-#[test]
-fn a_pair(rt: HostRuntime) -> Result<(), Fail> {
-    let max = number_base(rt.alloc(), NumberBase::Own(NumberOnly::Max));
-    let min = number_base(rt.alloc(), NumberBase::Own(NumberOnly::Min));
-    let both = Teeing::new(max, min, Both);
-    check(&rt, &both, &[2, 5, 3], "[Optional[5], Optional[2]]")?;
-    Ok(())
-}
-
-#[test]
-fn a_map(rt: HostRuntime) -> Result<(), Fail> {
-    let hashes = SeededHashes::of(Seed::draw(&rt));
-    let key = NumberMapping::of(NumberFunction::Mod(2));
-    let value = NumberMapping::of(NumberFunction::Itself);
-    let merge = NumberMerging::of(Merge::Last);
-    let last = ToMap::<i64, i64, _, _, _, _>::with_hasher(rt.alloc(), key, value, merge, hashes);
-    check(&rt, &last, &[1, 2, 3, 4], "{1=3, 0=4}")?;
-    Ok(())
-}
-
 /// The summary, the items, and the text of what is made of these.
 type TextRow<'a> = (TextSummary<'a>, &'a [&'a str], &'a str);
 
@@ -150,13 +84,6 @@ fn summaries_of_texts(rt: HostRuntime) -> Result<(), Fail> {
         let collector = text_summary(rt.alloc(), hashes, summary);
         check(&rt, &collector, items, wanted)?;
     }
-    Ok(())
-}
-
-#[test]
-fn a_frame_of_no_texts(rt: HostRuntime) -> Result<(), Fail> {
-    let framed = JoinedText::<&str>::within(rt.alloc(), ",", "[", "]");
-    check(&rt, &framed, &[], "[]")?;
     Ok(())
 }
 

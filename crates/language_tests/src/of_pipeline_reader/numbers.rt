@@ -3,8 +3,8 @@
 use super::first_wrong;
 use file_words::ReadError;
 use pipeline_language::{
-    Barrier, ItemCount, Merge, NumberBase, NumberFunction, NumberOnly, NumberSource, NumberStage,
-    NumberSummary, NumberTerminal, NumberTest, NumberTotal, Pipeline,
+    Barrier, ItemCount, Merge, NumberBase as Base, NumberFunction, NumberOnly, NumberSource,
+    NumberStage, NumberSummary as Summary, NumberTerminal, NumberTest, NumberTotal, Pipeline,
 };
 use pipeline_reader::read_pipeline;
 use std::alloc::{AllocError, Global};
@@ -24,8 +24,7 @@ fn is_of_numbers(
                 matches!(&source, NumberSource::Numbers(read) if read.as_slice() == numbers);
             Ok(same_source && body.stages.as_slice() == stages && body.terminal == terminal)
         }
-        Ok(Pipeline::Texts(_texts, _body)) => Ok(false),
-        Err(ReadError::Fault(_)) => Ok(false),
+        Ok(Pipeline::Texts(_, _)) | Err(ReadError::Fault(_)) => Ok(false),
         Err(ReadError::NoMemory) => Err(AllocError),
     }
 }
@@ -66,59 +65,32 @@ fn reads_stages_over_numbers(rt: HostRuntime) -> Result<(), Fail> {
 }
 
 /// Numbers at the ends of 64 bits, and words past them, with leading zeros, with signs, and empty.
-static WORDS: [(&[u8], &str); 14] = [
-    (b"numbers 9223372036854775808\nsum\n", "line 2: BAD_NUMBER"),
-    (b"numbers -9223372036854775809\nsum\n", "line 2: BAD_NUMBER"),
-    (
-        b"numbers 1 18446744073709551617\nsum\n",
-        "line 2: BAD_NUMBER",
-    ),
-    (b"numbers 00\nsum\n", "line 2: BAD_NUMBER"),
-    (b"numbers 007 1\nsum\n", "line 2: BAD_NUMBER"),
-    (b"numbers -0\nsum\n", "line 2: BAD_NUMBER"),
-    (b"numbers 1 - 2\nsum\n", "line 2: BAD_NUMBER"),
-    (b"numbers 1-2\nsum\n", "line 2: BAD_NUMBER"),
-    (b"numbers 1  2\nsum\n", "line 2: BAD_NUMBER"),
-    (b"numbers 1 \nsum\n", "line 2: BAD_NUMBER"),
-    (b"numbers \nsum\n", "line 2: BAD_NUMBER"),
-    (
-        b"numbers\nmap add 9223372036854775808\nsum\n",
-        "line 3: BAD_NUMBER",
-    ),
-    (b"numbers\nmap add -\nsum\n", "line 3: BAD_NUMBER"),
-    (b"numbers\nmap add -9223372036854775808\nsum\n", "read"),
+static WORDS: [&str; 14] = [
+    "numbers 9223372036854775808\nsum\n-> line 2: BAD_NUMBER",
+    "numbers -9223372036854775809\nsum\n-> line 2: BAD_NUMBER",
+    "numbers 1 18446744073709551617\nsum\n-> line 2: BAD_NUMBER",
+    "numbers 00\nsum\n-> line 2: BAD_NUMBER",
+    "numbers 007 1\nsum\n-> line 2: BAD_NUMBER",
+    "numbers -0\nsum\n-> line 2: BAD_NUMBER",
+    "numbers 1 - 2\nsum\n-> line 2: BAD_NUMBER",
+    "numbers 1-2\nsum\n-> line 2: BAD_NUMBER",
+    "numbers 1  2\nsum\n-> line 2: BAD_NUMBER",
+    "numbers 1 \nsum\n-> line 2: BAD_NUMBER",
+    "numbers \nsum\n-> line 2: BAD_NUMBER",
+    "numbers\nmap add 9223372036854775808\nsum\n-> line 3: BAD_NUMBER",
+    "numbers\nmap add -\nsum\n-> line 3: BAD_NUMBER",
+    "numbers\nmap add -9223372036854775808\nsum\n-> read",
 ];
 
 #[test]
 fn reads_the_numbers_of_a_line(rt: HostRuntime) -> Result<(), Fail> {
+    let sum = NumberTerminal::Own(NumberTotal::Sum);
     let none = b"pipeline 1\nnumbers\nsum\n";
-    assert!(rt;
-        is_of_numbers(
-            rt.alloc(),
-            none,
-            &[],
-            &[],
-            NumberTerminal::Own(NumberTotal::Sum)
-        )?
-    );
+    assert!(rt; is_of_numbers(rt.alloc(), none, &[], &[], sum)?);
     let ends = b"pipeline 1\nnumbers 9223372036854775807 0 -1 -9223372036854775808 1000\nsum\n";
-    let wanted = [
-        9_223_372_036_854_775_807,
-        0,
-        -1,
-        -9_223_372_036_854_775_808,
-        1000,
-    ];
-    assert!(rt;
-        is_of_numbers(
-            rt.alloc(),
-            ends,
-            &wanted,
-            &[],
-            NumberTerminal::Own(NumberTotal::Sum)
-        )?
-    );
-    assert!(rt; first_wrong(rt.alloc(), b"pipeline 1\n", WORDS.as_slice())?.is_none());
+    let wanted = [i64::MAX, 0, -1, i64::MIN, 1000];
+    assert!(rt; is_of_numbers(rt.alloc(), ends, &wanted, &[], sum)?);
+    assert_eq!(rt; first_wrong(rt.alloc(), b"pipeline 1\n", &WORDS)?, None);
     Ok(())
 }
 
@@ -131,8 +103,7 @@ fn number_terminal(
     let file = format!(in alloc; "pipeline {version}\nnumbers\n{line}\n")?;
     match read_pipeline(alloc, file.as_bytes()) {
         Ok(Pipeline::Numbers(_source, body)) => Ok(Some(body.terminal)),
-        Ok(Pipeline::Texts(_texts, _body)) => Ok(None),
-        Err(ReadError::Fault(_)) => Ok(None),
+        Ok(Pipeline::Texts(_, _)) | Err(ReadError::Fault(_)) => Ok(None),
         Err(ReadError::NoMemory) => Err(AllocError),
     }
 }
@@ -157,6 +128,18 @@ const BELOW: NumberTest = NumberTest::Less(3);
 
 const ODD: NumberFunction = NumberFunction::Mod(2);
 
+const COUNT: Summary = Summary::Base(Base::Count);
+
+const FIRST: Summary = Summary::Base(Base::First);
+
+const LIST: Summary = Summary::Base(Base::ToList);
+
+const SUM: Summary = Summary::Base(Base::Own(NumberOnly::Sum));
+
+const MAX: Summary = Summary::Base(Base::Own(NumberOnly::Max));
+
+const MIN: Summary = Summary::Base(Base::Own(NumberOnly::Min));
+
 /// Terminals that both versions have.
 static TERMINALS: [(&str, NumberTerminal); 16] = [
     ("sum", NumberTerminal::Own(NumberTotal::Sum)),
@@ -171,30 +154,15 @@ static TERMINALS: [(&str, NumberTerminal); 16] = [
     ("nonematch less 3", NumberTerminal::NoneMatch(BELOW)),
     (
         "groupby mod 2 counting",
-        NumberTerminal::GroupBy(ODD, NumberSummary::Base(NumberBase::Count)),
+        NumberTerminal::GroupBy(ODD, COUNT),
     ),
-    (
-        "groupby mod 2 count",
-        NumberTerminal::GroupBy(ODD, NumberSummary::Base(NumberBase::Count)),
-    ),
+    ("groupby mod 2 count", NumberTerminal::GroupBy(ODD, COUNT)),
     (
         "partition less 3 tolist",
-        NumberTerminal::Partition(BELOW, NumberSummary::Base(NumberBase::ToList)),
+        NumberTerminal::Partition(BELOW, LIST),
     ),
-    (
-        "teeing sum first",
-        NumberTerminal::Teeing(
-            NumberSummary::Base(NumberBase::Own(NumberOnly::Sum)),
-            NumberSummary::Base(NumberBase::First),
-        ),
-    ),
-    (
-        "teeing max min",
-        NumberTerminal::Teeing(
-            NumberSummary::Base(NumberBase::Own(NumberOnly::Max)),
-            NumberSummary::Base(NumberBase::Own(NumberOnly::Min)),
-        ),
-    ),
+    ("teeing sum first", NumberTerminal::Teeing(SUM, FIRST)),
+    ("teeing max min", NumberTerminal::Teeing(MAX, MIN)),
     (
         "tomap mod 2 mod 2 sum",
         NumberTerminal::ToMap(ODD, (ODD, Merge::Sum)),

@@ -32,8 +32,7 @@ fn is_of_texts<'a>(
             };
             Ok(same_texts && body.stages.as_slice() == stages && same_end)
         }
-        Ok(Pipeline::Numbers(_source, _body)) => Ok(false),
-        Err(ReadError::Fault(_)) => Ok(false),
+        Ok(Pipeline::Numbers(_, _)) | Err(ReadError::Fault(_)) => Ok(false),
         Err(ReadError::NoMemory) => Err(AllocError),
     }
 }
@@ -72,8 +71,7 @@ fn ends_with(
         Ok(Pipeline::Texts(_texts, body)) => {
             Ok(matches!(&body.end, TextEnd::Terminal(terminal) if *terminal == wanted))
         }
-        Ok(Pipeline::Numbers(_source, _body)) => Ok(false),
-        Err(ReadError::Fault(_)) => Ok(false),
+        Ok(Pipeline::Numbers(_, _)) | Err(ReadError::Fault(_)) => Ok(false),
         Err(ReadError::NoMemory) => Err(AllocError),
     }
 }

@@ -4,73 +4,71 @@ use super::first_wrong;
 use super::numbers::first_other;
 use super::texts::first_other_end;
 use pipeline_language::{
-    Mapped, NumberBase, NumberFunction, NumberInner, NumberOnly, NumberSummary, NumberTerminal,
-    NumberTest, TextBase, TextFunction, TextInner, TextSummary, TextTerminal, TextTest,
+    Mapped, NumberBase as Base, NumberFunction as Function, NumberInner as Inner, NumberOnly,
+    NumberSummary as Summary, NumberTerminal as Terminal, NumberTest as Test, TextBase,
+    TextFunction, TextInner, TextSummary, TextTerminal, TextTest,
 };
 use std::test::Fail;
 
-const ODD: NumberFunction = NumberFunction::Mod(2);
+const ODD: Function = Function::Mod(2);
 
-const THIRDS: NumberFunction = NumberFunction::Mod(3);
+const THIRDS: Function = Function::Mod(3);
 
-const COUNT: NumberInner = NumberInner::Base(NumberBase::Count);
+const SUM: Base = Base::Own(NumberOnly::Sum);
+
+const MAX: Base = Base::Own(NumberOnly::Max);
+
+const MIN: Base = Base::Own(NumberOnly::Min);
+
+const COUNT: Inner = Inner::Base(Base::Count);
 
 /// Terminals of numbers that the first version does not have.
-static NEW_TERMINALS: [(&str, NumberTerminal); 8] = [
+static NEW_TERMINALS: [(&str, Terminal); 8] = [
     (
         "tomapstrict mod 10 self",
-        NumberTerminal::ToMapStrict(NumberFunction::Mod(10), NumberFunction::Itself),
+        Terminal::ToMapStrict(Function::Mod(10), Function::Itself),
     ),
     (
         "tomapstrict self negate",
-        NumberTerminal::ToMapStrict(NumberFunction::Itself, NumberFunction::Negate),
+        Terminal::ToMapStrict(Function::Itself, Function::Negate),
     ),
     (
         "groupby mod 2 groupby mod 3 counting",
-        NumberTerminal::GroupBy(ODD, NumberSummary::GroupBy(THIRDS, COUNT)),
+        Terminal::GroupBy(ODD, Summary::GroupBy(THIRDS, COUNT)),
     ),
     (
         "partition less 3 mapping mul 10 tolist",
-        NumberTerminal::Partition(
-            NumberTest::Less(3),
-            NumberSummary::Mapping((
-                NumberFunction::Mul(10),
-                NumberInner::Base(NumberBase::ToList),
-            )),
+        Terminal::Partition(
+            Test::Less(3),
+            Summary::Mapping((Function::Mul(10), Inner::Base(Base::ToList))),
         ),
     ),
     (
         "groupby mod 2 filtering greater 2 count",
-        NumberTerminal::GroupBy(ODD, NumberSummary::Filtering(NumberTest::Greater(2), COUNT)),
+        Terminal::GroupBy(ODD, Summary::Filtering(Test::Greater(2), COUNT)),
     ),
     (
         "groupby mod 2 groupby mod 3 mapping negate max",
-        NumberTerminal::GroupBy(
+        Terminal::GroupBy(
             ODD,
-            NumberSummary::GroupBy(
-                THIRDS,
-                NumberInner::Mapping((NumberFunction::Negate, NumberBase::Own(NumberOnly::Max))),
-            ),
+            Summary::GroupBy(THIRDS, Inner::Mapping((Function::Negate, MAX))),
         ),
     ),
     (
         "partition equals 1 filtering divisible 2 filtering less 3 sum",
-        NumberTerminal::Partition(
-            NumberTest::Equals(1),
-            NumberSummary::Filtering(
-                NumberTest::Divisible(2),
-                NumberInner::Filtering(NumberTest::Less(3), NumberBase::Own(NumberOnly::Sum)),
-            ),
+        Terminal::Partition(
+            Test::Equals(1),
+            Summary::Filtering(Test::Divisible(2), Inner::Filtering(Test::Less(3), SUM)),
         ),
     ),
     (
         "teeing mapping self mapping add 1 first groupby mod 2 min",
-        NumberTerminal::Teeing(
-            NumberSummary::Mapping((
-                NumberFunction::Itself,
-                NumberInner::Mapping((NumberFunction::Add(1), NumberBase::First)),
+        Terminal::Teeing(
+            Summary::Mapping((
+                Function::Itself,
+                Inner::Mapping((Function::Add(1), Base::First)),
             )),
-            NumberSummary::GroupBy(ODD, NumberInner::Base(NumberBase::Own(NumberOnly::Min))),
+            Summary::GroupBy(ODD, Inner::Base(MIN)),
         ),
     ),
 ];
@@ -94,19 +92,14 @@ static NEW_TEXT_TERMINALS: [(&[u8], TextTerminal<'static>); 7] = [
         b"pipeline 2\nlines 0\ngroupby length mapping length sum",
         TextTerminal::GroupBy(
             TextFunction::Length,
-            TextSummary::Mapping(Mapped::Length(NumberInner::Base(NumberBase::Own(
-                NumberOnly::Sum,
-            )))),
+            TextSummary::Mapping(Mapped::Length(Inner::Base(SUM))),
         ),
     ),
     (
         b"pipeline 2\nlines 0\ngroupby self mapping length filtering less 3 max",
         TextTerminal::GroupBy(
             TextFunction::Itself,
-            TextSummary::Mapping(Mapped::Length(NumberInner::Filtering(
-                NumberTest::Less(3),
-                NumberBase::Own(NumberOnly::Max),
-            ))),
+            TextSummary::Mapping(Mapped::Length(Inner::Filtering(Test::Less(3), MAX))),
         ),
     ),
     (
@@ -122,7 +115,7 @@ static NEW_TEXT_TERMINALS: [(&[u8], TextTerminal<'static>); 7] = [
             TextTest::Empty,
             TextSummary::Filtering(
                 TextTest::Starts("a"),
-                TextInner::Mapping(Mapped::Length(NumberBase::Own(NumberOnly::Min))),
+                TextInner::Mapping(Mapped::Length(MIN)),
             ),
         ),
     ),
@@ -155,151 +148,67 @@ fn reads_strict_maps_and_nested_collectors_of_texts(rt: HostRuntime) -> Result<(
 }
 
 /// Lines with a word that the first version has not.
-static NEW_WORDS: [(&[u8], &str); 9] = [
-    (b"numbers\ntomapstrict self self", "line 3: UNKNOWN_WORD"),
-    (b"numbers\ntomapstrict", "line 3: UNKNOWN_WORD"),
-    (
-        b"numbers\ngroupby mod 2 mapping negate count",
-        "line 3: UNKNOWN_WORD",
-    ),
-    (b"numbers\ngroupby mod x mapping", "line 3: UNKNOWN_WORD"),
-    (
-        b"numbers\npartition less 3 filtering less 2 count",
-        "line 3: UNKNOWN_WORD",
-    ),
-    (
-        b"numbers\nteeing groupby mod 2 count count",
-        "line 3: UNKNOWN_WORD",
-    ),
-    (
-        b"numbers\nteeing count mapping self count",
-        "line 3: UNKNOWN_WORD",
-    ),
-    (
-        b"lines 0\ngroupby length mapping length sum",
-        "line 3: UNKNOWN_WORD",
-    ),
-    (b"lines 0\ntomapstrict self length", "line 3: UNKNOWN_WORD"),
+static NEW_WORDS: [&str; 9] = [
+    "numbers\ntomapstrict self self-> line 3: UNKNOWN_WORD",
+    "numbers\ntomapstrict-> line 3: UNKNOWN_WORD",
+    "numbers\ngroupby mod 2 mapping negate count-> line 3: UNKNOWN_WORD",
+    "numbers\ngroupby mod x mapping-> line 3: UNKNOWN_WORD",
+    "numbers\npartition less 3 filtering less 2 count-> line 3: UNKNOWN_WORD",
+    "numbers\nteeing groupby mod 2 count count-> line 3: UNKNOWN_WORD",
+    "numbers\nteeing count mapping self count-> line 3: UNKNOWN_WORD",
+    "lines 0\ngroupby length mapping length sum-> line 3: UNKNOWN_WORD",
+    "lines 0\ntomapstrict self length-> line 3: UNKNOWN_WORD",
 ];
 
 #[test]
 fn new_words_are_unknown_in_the_first_version(rt: HostRuntime) -> Result<(), Fail> {
-    assert!(rt; first_wrong(rt.alloc(), b"pipeline 1\n", NEW_WORDS.as_slice())?.is_none());
+    assert_eq!(rt; first_wrong(rt.alloc(), b"pipeline 1\n", &NEW_WORDS)?, None);
     Ok(())
 }
 
 /// Lines with a new word where the second version has none, also as a third nesting.
-static MISPLACED: [(&[u8], &str); 9] = [
-    (b"numbers\nmapping negate\nsum", "line 3: UNKNOWN_WORD"),
-    (b"numbers\nfiltering less 1\nsum", "line 3: UNKNOWN_WORD"),
-    (
-        b"numbers\npartition less 3 partition",
-        "line 3: UNKNOWN_WORD",
-    ),
-    (
-        b"numbers\ngroupby mod 2 mapping negate mapping negate mapping negate count",
-        "line 3: UNKNOWN_WORD",
-    ),
-    (
-        b"numbers\npartition less 3 filtering less 2 filtering less 1 filtering less 0 count",
-        "line 3: UNKNOWN_WORD",
-    ),
-    (
-        b"numbers\ngroupby mod 2 groupby mod 3 groupby mod 5 count",
-        "line 3: UNKNOWN_WORD",
-    ),
-    (
-        b"numbers\nteeing mapping self groupby self count sum",
-        "line 3: UNKNOWN_WORD",
-    ),
-    (
-        b"numbers\nteeing sum filtering less 1 mapping self groupby self count",
-        "line 3: UNKNOWN_WORD",
-    ),
-    (
-        b"lines 0\ngroupby length groupby self mapping length mapping self sum",
-        "line 3: UNKNOWN_WORD",
-    ),
+static MISPLACED: [&str; 9] = [
+    "numbers\nmapping negate\nsum-> line 3: UNKNOWN_WORD",
+    "numbers\nfiltering less 1\nsum-> line 3: UNKNOWN_WORD",
+    "numbers\npartition less 3 partition-> line 3: UNKNOWN_WORD",
+    "numbers\ngroupby mod 2 mapping negate mapping negate mapping negate count-> line 3: UNKNOWN_WORD",
+    "numbers\npartition less 3 filtering less 2 filtering less 1 filtering less 0 count-> line 3: UNKNOWN_WORD",
+    "numbers\ngroupby mod 2 groupby mod 3 groupby mod 5 count-> line 3: UNKNOWN_WORD",
+    "numbers\nteeing mapping self groupby self count sum-> line 3: UNKNOWN_WORD",
+    "numbers\nteeing sum filtering less 1 mapping self groupby self count-> line 3: UNKNOWN_WORD",
+    "lines 0\ngroupby length groupby self mapping length mapping self sum-> line 3: UNKNOWN_WORD",
 ];
 
 /// Lines with too few or too many words, or a bad number, behind new words.
-static MISCOUNTED: [(&[u8], &str); 11] = [
-    (b"numbers\ntomapstrict", "line 3: BAD_ARITY"),
-    (b"numbers\ntomapstrict self", "line 3: BAD_ARITY"),
-    (b"numbers\ntomapstrict self self sum", "line 3: BAD_ARITY"),
-    (b"numbers\ngroupby mod 2 mapping", "line 3: BAD_ARITY"),
-    (
-        b"numbers\ngroupby mod 2 mapping mul count",
-        "line 3: BAD_ARITY",
-    ),
-    (
-        b"numbers\ngroupby mod 2 mapping negate filtering less",
-        "line 3: BAD_ARITY",
-    ),
-    (
-        b"numbers\npartition less 3 filtering less 2 count count",
-        "line 3: BAD_ARITY",
-    ),
-    (
-        b"lines 0\npartition empty mapping self joining",
-        "line 3: BAD_ARITY",
-    ),
-    (
-        b"numbers\ngroupby mod 2 mapping mod 0 count",
-        "line 3: BAD_NUMBER",
-    ),
-    (
-        b"numbers\npartition less 3 filtering longer -1 count",
-        "line 3: BAD_NUMBER",
-    ),
-    (b"numbers\ntomapstrict mul 03 length", "line 3: BAD_NUMBER"),
+static MISCOUNTED: [&str; 11] = [
+    "numbers\ntomapstrict-> line 3: BAD_ARITY",
+    "numbers\ntomapstrict self-> line 3: BAD_ARITY",
+    "numbers\ntomapstrict self self sum-> line 3: BAD_ARITY",
+    "numbers\ngroupby mod 2 mapping-> line 3: BAD_ARITY",
+    "numbers\ngroupby mod 2 mapping mul count-> line 3: BAD_ARITY",
+    "numbers\ngroupby mod 2 mapping negate filtering less-> line 3: BAD_ARITY",
+    "numbers\npartition less 3 filtering less 2 count count-> line 3: BAD_ARITY",
+    "lines 0\npartition empty mapping self joining-> line 3: BAD_ARITY",
+    "numbers\ngroupby mod 2 mapping mod 0 count-> line 3: BAD_NUMBER",
+    "numbers\npartition less 3 filtering longer -1 count-> line 3: BAD_NUMBER",
+    "numbers\ntomapstrict mul 03 length-> line 3: BAD_NUMBER",
 ];
 
 /// Lines that don't take the items that come to a collector.
-static MISTAKEN: [(&[u8], &str); 13] = [
-    (b"numbers\ntomapstrict length self", "line 3: WRONG_KIND"),
-    (b"numbers\ntomapstrict self length", "line 3: WRONG_KIND"),
-    (b"lines 0\ntomapstrict mod 2 self", "line 3: WRONG_KIND"),
-    (
-        b"numbers\ngroupby mod 2 mapping length count",
-        "line 3: WRONG_KIND",
-    ),
-    (
-        b"numbers\npartition less 1 filtering empty count",
-        "line 3: WRONG_KIND",
-    ),
-    (
-        b"numbers\nteeing count groupby length count",
-        "line 3: WRONG_KIND",
-    ),
-    (
-        b"numbers\ngroupby mod 2 mapping negate joining ,",
-        "line 3: WRONG_KIND",
-    ),
-    (
-        b"lines 0\ngroupby self mapping length joining ,",
-        "line 3: WRONG_KIND",
-    ),
-    (
-        b"lines 0\ngroupby self mapping length filtering longer 3 count",
-        "line 3: WRONG_KIND",
-    ),
-    (
-        b"lines 0\ngroupby self mapping length mapping length sum",
-        "line 3: WRONG_KIND",
-    ),
-    (
-        b"lines 0\ngroupby self mapping self sum",
-        "line 3: WRONG_KIND",
-    ),
-    (
-        b"lines 0\ngroupby self filtering less 3 count",
-        "line 3: WRONG_KIND",
-    ),
-    (
-        b"lines 0\nteeing count groupby length sum",
-        "line 3: WRONG_KIND",
-    ),
+static MISTAKEN: [&str; 13] = [
+    "numbers\ntomapstrict length self-> line 3: WRONG_KIND",
+    "numbers\ntomapstrict self length-> line 3: WRONG_KIND",
+    "lines 0\ntomapstrict mod 2 self-> line 3: WRONG_KIND",
+    "numbers\ngroupby mod 2 mapping length count-> line 3: WRONG_KIND",
+    "numbers\npartition less 1 filtering empty count-> line 3: WRONG_KIND",
+    "numbers\nteeing count groupby length count-> line 3: WRONG_KIND",
+    "numbers\ngroupby mod 2 mapping negate joining ,-> line 3: WRONG_KIND",
+    "lines 0\ngroupby self mapping length joining ,-> line 3: WRONG_KIND",
+    "lines 0\ngroupby self mapping length filtering longer 3 count-> line 3: WRONG_KIND",
+    "lines 0\ngroupby self mapping length mapping length sum-> line 3: WRONG_KIND",
+    "lines 0\ngroupby self mapping self sum-> line 3: WRONG_KIND",
+    "lines 0\ngroupby self filtering less 3 count-> line 3: WRONG_KIND",
+    "lines 0\nteeing count groupby length sum-> line 3: WRONG_KIND",
 ];
 
 #[test]
@@ -309,7 +218,7 @@ fn new_words_have_their_places_their_words_and_their_items(rt: HostRuntime) -> R
         MISCOUNTED.as_slice(),
         MISTAKEN.as_slice(),
     ] {
-        assert!(rt; first_wrong(rt.alloc(), b"pipeline 2\n", rows)?.is_none());
+        assert_eq!(rt; first_wrong(rt.alloc(), b"pipeline 2\n", rows)?, None);
     }
     Ok(())
 }

@@ -5,7 +5,6 @@ use super::gates::{Between, HoldsFirst, Meeting};
 use super::watched::{MeetingLists, Met, Times, Watched};
 use barriers::{Demand, FirstHit, Total, Whole};
 use collectors::{Collector, SummingLong, ToList};
-use parts::{Above, Itself};
 use sources::RangeSplit;
 use split_tree::Plan;
 use spliterator::NoMemory;
@@ -15,10 +14,12 @@ use std::process::Abort;
 use std::sync::atomic::{AtomicU64, Ordering};
 use std::test::Fail;
 use std::thread::Threads;
+use std::time::Clock;
 use stealing_pool::{Gate, Gathered, NoGate, RunEntry, RunReport, run_leaves};
+use stream_functions::{Above, Itself};
 
 /// Whether nobody waited in vain. Where one did, no second thread came: its start wanted memory.
-fn all_came(missed: &AtomicU64) -> Result<(), NoMemory> {
+pub fn all_came(missed: &AtomicU64) -> Result<(), NoMemory> {
     if missed.load(Ordering::SeqCst) == 0 {
         Ok(())
     } else {
@@ -28,15 +29,15 @@ fn all_came(missed: &AtomicU64) -> Result<(), NoMemory> {
 
 /// The numbers from 0 up to an end, the greatest size of a leaf, and how many workers run them.
 #[derive(Clone, Copy, Drop)]
-struct Shape {
-    end: i64,
-    target: u64,
-    workers: u32,
+pub struct Shape {
+    pub end: i64,
+    pub target: u64,
+    pub workers: u32,
 }
 
 /// A run of the numbers of a shape. A plan that finds no memory is a want of memory too.
-fn run<
-    R: Threads + Sync,
+pub fn run<
+    R: Threads + Clock + Sync,
     G: Stage<In = i64> + Sync,
     D: Demand<G::Out> + Sync,
     C: Collector<Item = G::Out> + Sync,
@@ -102,7 +103,7 @@ fn reports(entry: &RunEntry, leaves: usize, cut: usize, counts: &[(usize, u64)])
 }
 
 /// A run that sums the numbers of a range.
-fn sum<R: Threads + Sync>(
+fn sum<R: Threads + Clock + Sync>(
     rt: &R,
     alloc: Global,
     range: RangeSplit,
@@ -128,7 +129,7 @@ fn sum<R: Threads + Sync>(
 }
 
 /// Whether 1, 2, 7 and 64 workers all find this sum, at a target of 1 and at the default.
-fn all_find_sum<R: Threads + Abort + Sync>(
+fn all_find_sum<R: Threads + Clock + Abort + Sync>(
     rt: &R,
     alloc: Global,
     numbers: RangeSplit,
@@ -174,7 +175,7 @@ fn sixty_four_workers_share_one_item(rt: HostRuntime) -> Result<(), Fail> {
 }
 
 /// How often a worker waited in vain for another one at a leaf, where so many sum 100 numbers.
-fn misses<R: Threads + Abort + Sync>(
+fn misses<R: Threads + Clock + Abort + Sync>(
     rt: &R,
     alloc: Global,
     workers: u32,
@@ -207,8 +208,8 @@ fn one_worker_meets_no_other(rt: HostRuntime) -> Result<(), Fail> {
     Ok(())
 }
 
-/// How often a call of `combine` waited in vain for others, where so many workers list so many numbers.
-fn misses_in_combining<R: Threads + Abort + Sync>(
+/// How often a call of `combine` waited in vain for others, where so many workers list so many numbers. By its gate all of them start at once.
+fn misses_in_combining<R: Threads + Clock + Abort + Sync>(
     rt: &R,
     alloc: Global,
     workers: u32,
@@ -222,7 +223,8 @@ fn misses_in_combining<R: Threads + Abort + Sync>(
         target: 1,
         workers,
     };
-    let run = run(rt, alloc, shape, &Nothing::new(), &Whole, &lists, &NoGate)?;
+    let gate = Between::new();
+    let run = run(rt, alloc, shape, &Nothing::new(), &Whole, &lists, &gate)?;
     assert!(rt; are_from_zero(run.acc.as_slice(), numbers as usize));
     Ok(lists.missed)
 }
@@ -255,7 +257,7 @@ fn light_containers_and_one_worker_start_no_thread(rt: HostRuntime) -> Result<()
 }
 
 /// The multiples of the numbers of a shape that are above a limit, as many as are needed.
-fn listed<R: Threads + Sync>(
+fn listed<R: Threads + Clock + Sync>(
     rt: &R,
     alloc: Global,
     shape: Shape,
@@ -373,7 +375,7 @@ fn the_first_of_a_million_is_found(rt: HostRuntime) -> Result<(), Fail> {
 }
 
 /// A run of ten numbers, at the 7 of which memory is refused.
-fn of_ten<R: Threads + Sync>(
+fn of_ten<R: Threads + Clock + Sync>(
     rt: &R,
     alloc: Global,
     needed: u32,

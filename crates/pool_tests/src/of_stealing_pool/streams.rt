@@ -10,7 +10,6 @@ use barriers::{Demand, Need, Whole};
 use collectors::{Collector, SummingLong, combine_containers};
 use leaf_board::Handout;
 use leaf_reading::{LeafEnd, Reading, read_leaf};
-use parts::Itself;
 use sources::RangeSplit;
 use split_tree::{Plan, Tree};
 use spliterator::{NoMemory, OrderedValue, Spliterator};
@@ -18,7 +17,9 @@ use stages::Nothing;
 use std::alloc::Global;
 use std::test::Fail;
 use std::thread::Threads;
+use std::time::Clock;
 use stealing_pool::{Gathered, LeafJob, NoGate, run_job};
+use stream_functions::Itself;
 
 /// A stream, as far as its last run goes: it hands the items of each leaf to a demand and a collector.
 trait LastRun {
@@ -89,7 +90,7 @@ impl<X: LastRun, D: Demand<X::Item>, C: Collector<Item = X::Item>> LeafJob
 
 /// The one function that starts threads.
 fn evaluate<
-    R: Threads + Sync,
+    R: Threads + Clock + Sync,
     X: LastRun + Sync,
     D: Demand<X::Item> + Sync,
     C: Collector<Item = X::Item> + Sync,

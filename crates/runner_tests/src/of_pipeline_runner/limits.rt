@@ -1,6 +1,6 @@
 //! Beginnings of a file, and files around the most bytes that one may have.
 
-use super::rows::all_right;
+use super::rows::is_right;
 use super::{Case, check};
 use std::test::Fail;
 
@@ -34,7 +34,7 @@ fn answers_each_beginning(rt: HostRuntime) -> Result<(), Fail> {
     for &(least, most, wanted) in &BEGINNINGS {
         for size in least..=most {
             assert!(rt; size <= FILE.len());
-            all_right(&rt, rt.alloc(), &[b""], &[&[(&FILE[..size], wanted)]])?;
+            is_right(&rt, rt.alloc(), &FILE[..size], wanted)?;
         }
     }
     Ok(())
@@ -50,7 +50,7 @@ static AROUND_THE_LIMIT: [(usize, &str); 2] = [
 fn reads_to_the_limit(rt: HostRuntime) -> Result<(), Fail> {
     for &(size, told) in &AROUND_THE_LIMIT {
         let file = "\n".repeat(rt.alloc(), size)?;
-        all_right(&rt, rt.alloc(), &[b""], &[&[(file.as_bytes(), told)]])?;
+        is_right(&rt, rt.alloc(), file.as_bytes(), told)?;
     }
     Ok(())
 }

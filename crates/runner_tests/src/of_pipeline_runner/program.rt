@@ -7,6 +7,7 @@ use std::process::Abort;
 use std::random::RandomSource;
 use std::test::Fail;
 use std::thread::Threads;
+use std::time::Clock;
 
 const HELP: &str = "Runs a pipeline file, and writes its answer
 
@@ -88,7 +89,7 @@ fn input(bytes: &[u8], step: usize, fails_at: u64) -> Counted<Source<'_>> {
 const ROW: &[u8] = b"pipeline 1\nrange 1 6\nsum\n";
 
 /// How the program ends, with an output that fails at one call: its status, what it wrote, and what it told.
-fn program<R: Threads + RandomSource + Sync>(
+fn program<R: Threads + Clock + RandomSource + Sync>(
     rt: &R,
     alloc: Global,
     words: &[&str],
@@ -117,7 +118,7 @@ fn program<R: Threads + RandomSource + Sync>(
 }
 
 /// Asserts how the program ends.
-fn check<R: Threads + RandomSource + Abort + Sync>(
+fn check<R: Threads + Clock + RandomSource + Abort + Sync>(
     rt: &R,
     alloc: Global,
     words: &[&str],

@@ -7,6 +7,7 @@ use std::random::RandomSource;
 use std::sync::atomic::{AtomicU64, Ordering};
 use std::test::Fail;
 use std::thread::Threads;
+use std::time::{Clock, Duration};
 
 /// A runtime whose random bytes are 0, 1, 2 and so on, from one draw to the next. All runs of the tests have it: a second one would be one more copy of
 /// a run in the compiled tests.
@@ -26,6 +27,16 @@ impl<'a, R> Drawing<'a, R> {
 }
 
 impl<R: Threads> Threads for Drawing<'_, R> {}
+
+impl<R: Clock> Clock for Drawing<'_, R> {
+    fn monotonic(&self) -> io::Result<Duration> {
+        self.rt.monotonic()
+    }
+
+    fn since_1970(&self) -> io::Result<Duration> {
+        self.rt.since_1970()
+    }
+}
 
 impl<R> RandomSource for Drawing<'_, R> {
     fn fill_bytes(&self, buf: &mut [u8]) -> io::Result<()> {

@@ -4,54 +4,27 @@ use super::rows::{Row, TWO, all_right};
 use std::test::Fail;
 
 static LISTS: [Row<'_>; 7] = [
-    (
-        b"lines 4\na bc\n\nd\na\nflatmap words\ntolist\n",
-        "[a, bc, , d, a]\n",
-    ),
-    (
-        b"lines 4\na bc\n\nd\na\nflatmap words\ndistinct\nmap self\ntolist\n",
-        "[a, bc, , d]\n",
-    ),
-    (
-        b"lines 4\na bc\n\nd\na\nflatmap words\ndistinct\nmap self\nskip 1\nflatmap repeat 2\ntolist\n",
-        "[bc, bc, , , d, d]\n",
-    ),
-    (
-        b"lines 4\na bc\n\nd\na\nflatmap words\ndistinct\nmap self\nskip 1\nflatmap repeat 2\nlimit 5\ntolist\n",
-        "[bc, bc, , , d]\n",
-    ),
-    (
-        b"lines 4\na bc\n\nd\na\nflatmap words\ndistinct\nmap self\nskip 1\nflatmap repeat 2\nlimit 5\ntakewhile longer 0\ntolist\n",
-        "[bc, bc]\n",
-    ),
-    (
-        b"lines 4\na bc\n\nd\na\ndropwhile starts a\ntolist\n",
-        "[, d, a]\n",
-    ),
-    (
-        b"lines 4\na bc\n\nd\na\ndropwhile starts a\nfilter empty\ncount\n",
-        "1\n",
-    ),
+    "lines 4\na bc\n\nd\na\nflatmap words\ntolist\n-> [a, bc, , d, a]\n",
+    "lines 4\na bc\n\nd\na\nflatmap words\ndistinct\nmap self\ntolist\n-> [a, bc, , d]\n",
+    "lines 4\na bc\n\nd\na\nflatmap words\ndistinct\nmap self\nskip 1\nflatmap repeat 2\ntolist\n-> [bc, bc, , , d, d]\n",
+    "lines 4\na bc\n\nd\na\nflatmap words\ndistinct\nmap self\nskip 1\nflatmap repeat 2\nlimit 5\ntolist\n-> [bc, bc, , , d]\n",
+    "lines 4\na bc\n\nd\na\nflatmap words\ndistinct\nmap self\nskip 1\nflatmap repeat 2\nlimit 5\ntakewhile longer 0\ntolist\n-> [bc, bc]\n",
+    "lines 4\na bc\n\nd\na\ndropwhile starts a\ntolist\n-> [, d, a]\n",
+    "lines 4\na bc\n\nd\na\ndropwhile starts a\nfilter empty\ncount\n-> 1\n",
 ];
 
 static ENDS: [Row<'_>; 6] = [
-    (b"lines 4\na bc\n\nd\na\nfindfirst\n", "Optional[a bc]\n"),
-    (b"lines 4\na bc\n\nd\na\njoining ,\n", "a bc,,d,a\n"),
-    (b"lines 4\na bc\n\nd\na\njoining , < >\n", "<a bc,,d,a>\n"),
-    (b"lines 4\na bc\n\nd\na\nallmatch longer 0\n", "false\n"),
-    (b"lines 4\na bc\n\nd\na\nanymatch empty\n", "true\n"),
-    (b"lines 4\na bc\n\nd\na\nnonematch starts d\n", "false\n"),
+    "lines 4\na bc\n\nd\na\nfindfirst\n-> Optional[a bc]\n",
+    "lines 4\na bc\n\nd\na\njoining ,\n-> a bc,,d,a\n",
+    "lines 4\na bc\n\nd\na\njoining , < >\n-> <a bc,,d,a>\n",
+    "lines 4\na bc\n\nd\na\nallmatch longer 0\n-> false\n",
+    "lines 4\na bc\n\nd\na\nanymatch empty\n-> true\n",
+    "lines 4\na bc\n\nd\na\nnonematch starts d\n-> false\n",
 ];
 
 static LENGTHS: [Row<'_>; 2] = [
-    (
-        b"lines 4\na bc\n\nd\na\nmap length\ntolist\n",
-        "[4, 0, 1, 1]\n",
-    ),
-    (
-        b"lines 4\na bc\n\nd\na\nmap length\nfilter greater 0\nskip 1\ncount\n",
-        "2\n",
-    ),
+    "lines 4\na bc\n\nd\na\nmap length\ntolist\n-> [4, 0, 1, 1]\n",
+    "lines 4\na bc\n\nd\na\nmap length\nfilter greater 0\nskip 1\ncount\n-> 2\n",
 ];
 
 #[test]

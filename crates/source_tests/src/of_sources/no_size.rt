@@ -2,8 +2,8 @@
 ghost use Rattle.std.specs.Prelude.{true, ⊤, refl};
 ghost use Rattle.std.specs.declared.cmp.Ordering.TheVariants.{Equal};
 
-use sources::SliceSplit;
-use spliterator::{MAX_ESTIMATE, OrderedValue, Spliterator, Value};
+use sources::{RowsSplit, SliceSplit};
+use spliterator::{EqualValue, MAX_ESTIMATE, OrderedValue, SortedValue, Spliterator, Value};
 use std::process::Abort;
 
 /// The one value of its type, which takes no room.
@@ -21,11 +21,13 @@ impl Value for Mark {
 
     ghost same_decides = { λ x y. (λ _. refl, λ _. refl) };
 
-    ghost eq_is_same = { Prim.search };
-
     fn is_value(&self) -> bool {
         true
     }
+}
+
+impl EqualValue for Mark {
+    ghost eq_is_same = { Prim.search };
 }
 
 impl OrderedValue for Mark {
@@ -34,14 +36,21 @@ impl OrderedValue for Mark {
     ghost order_total = { record { antisymm = λ x y. refl; trans = λ x y z same below. below; congr = λ x y z same. refl } };
 
     ghost order_ties = { λ _ _. refl };
+}
 
+impl SortedValue for Mark {
     ghost cmp_is_order = { Prim.search };
 }
 
-/// Checks what a slice of `N` marks tells, its estimate being the greatest, and the parts of its first split.
+/// Checks what the marks of a slice tell, cloned and lent.
 fn check<const N: usize>(rt: &impl Abort, told: u32, half: u64) {
     let marks = [Mark; N];
-    let mut rest = SliceSplit::new(&marks);
+    check_split(rt, SliceSplit::new(&marks), told, half);
+    check_split(rt, RowsSplit::new(&marks), told, half);
+}
+
+/// Checks what a source of many items tells, its estimate being the greatest, and the parts of its first split.
+fn check_split<S: Spliterator>(rt: &impl Abort, mut rest: S, told: u32, half: u64) {
     let is_told = rest.characteristics() == told && rest.estimate_size() == MAX_ESTIMATE;
     let part = rest.try_split().expect(rt, "a part").exact_size();
     let other = rest.exact_size();

@@ -6,7 +6,7 @@ ghost use Rattle.spliterator.specs.Values.{IsI64, int_eq-decides, int_cmp-total,
 use crate::reading::read;
 use either::{Either, Right};
 use sources::{Concat, DequeSplit, SliceSplit};
-use spliterator::{NoMemory, OrderedValue, Spliterator, Value};
+use spliterator::{EqualValue, NoMemory, OrderedValue, SortedValue, Spliterator, Value};
 use std::alloc::{AllocError, Global};
 use std::collections::VecDeque;
 use std::process::Abort;
@@ -43,11 +43,13 @@ impl Value for Seat {
 
     ghost same_decides = { int_eq-decides };
 
-    ghost eq_is_same = { Prim.search };
-
     fn is_value(&self) -> bool {
         self.number.is_value()
     }
+}
+
+impl EqualValue for Seat {
+    ghost eq_is_same = { Prim.search };
 }
 
 impl OrderedValue for Seat {
@@ -56,7 +58,9 @@ impl OrderedValue for Seat {
     ghost order_total = { int_cmp-total };
 
     ghost order_ties = { int_cmp-ties };
+}
 
+impl SortedValue for Seat {
     ghost cmp_is_order = { Prim.search };
 }
 
@@ -190,7 +194,7 @@ fn a_text_is_cloned_or_refused(rt: HostRuntime) -> Result<(), NoMemory> {
 }
 
 /// Checks the items that are left.
-fn check_items<S: Spliterator>(
+fn check_items<S: Spliterator<Item: Eq>>(
     rt: &impl Abort,
     alloc: Global,
     split: S,

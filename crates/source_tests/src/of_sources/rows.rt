@@ -10,7 +10,7 @@ use std::alloc::{AllocError, Global};
 use std::process::Abort;
 
 /// Whether a source tells this and estimates so many items, its size where it tells that it has one.
-fn tells<S: Spliterator>(split: &S, told: u32, estimate: u64) -> bool {
+pub fn tells<S: Spliterator>(split: &S, told: u32, estimate: u64) -> bool {
     let is_sized = told & 0x40 == 0x40;
     split.characteristics() == told
         && split.estimate_size() == estimate
@@ -23,7 +23,10 @@ fn check_cut<S: Windowed + Copy>(
     alloc: Global,
     source: S,
     (number, front, rest): (u64, &[S::Item], &[S::Item]),
-) -> Result<(), NoMemory> {
+) -> Result<(), NoMemory>
+where
+    S::Item: Eq,
+{
     let found = read(alloc, source.first(number))?;
     let left = read(alloc, source.after_first(number))?;
     let is_cut = found.as_slice() == front && left.as_slice() == rest;
@@ -32,7 +35,7 @@ fn check_cut<S: Windowed + Copy>(
 }
 
 /// Whether a source splits into this part and this rest, where `None` stands for no part.
-fn splits<S: Spliterator>(
+fn splits<S: Spliterator<Item: Eq>>(
     alloc: Global,
     mut split: S,
     part: Option<&[S::Item]>,
@@ -49,7 +52,7 @@ fn splits<S: Spliterator>(
 type Split<'a, T> = (u32, u64, Option<&'a [T]>, &'a [T]);
 
 /// Checks what a source tells and estimates, and the part and the rest of its split.
-fn check<S: Spliterator>(
+fn check<S: Spliterator<Item: Eq>>(
     rt: &impl Abort,
     alloc: Global,
     split: S,
@@ -241,7 +244,7 @@ fn lines_split_after_a_line_feed_near_the_middle(rt: HostRuntime) -> Result<(), 
 }
 
 /// Checks the next items one by one, each with what is told and estimated behind it.
-fn check_advances<S: Spliterator>(
+fn check_advances<S: Spliterator<Item: Eq>>(
     rt: &impl Abort,
     mut split: S,
     rows: &[(S::Item, u32, u64)],
@@ -266,7 +269,7 @@ fn an_estimate_of_lines_is_the_bytes_left(rt: HostRuntime) -> Result<(), NoMemor
 }
 
 /// Checks two sources, one after the other, which split between them.
-fn check_pair<A: Spliterator, B: Spliterator<Item = A::Item>>(
+fn check_pair<A: Spliterator<Item: Eq>, B: Spliterator<Item = A::Item>>(
     rt: &impl Abort,
     alloc: Global,
     (first, second): (A, B),
@@ -276,7 +279,7 @@ fn check_pair<A: Spliterator, B: Spliterator<Item = A::Item>>(
 }
 
 /// Checks a source, and the part and the rest of its split.
-fn check_halves<S: Spliterator>(
+fn check_halves<S: Spliterator<Item: Eq>>(
     rt: &impl Abort,
     alloc: Global,
     mut whole: S,
@@ -352,7 +355,7 @@ fn a_concatenation_tells_a_size_that_an_estimate_can_say(rt: HostRuntime) {
 }
 
 /// Checks the items of two sources, one after the other, each with what is told and estimated behind it.
-fn check_pair_advances<A: Spliterator, B: Spliterator<Item = A::Item>>(
+fn check_pair_advances<A: Spliterator<Item: Eq>, B: Spliterator<Item = A::Item>>(
     rt: &impl Abort,
     first: A,
     second: B,

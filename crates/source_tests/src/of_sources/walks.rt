@@ -73,13 +73,31 @@ fn append_in<S: Spliterator>(
 
 /// Reads a source in five ways: to its end, split once, split to the bottom, split half way, and by blocks of 1, of 2 and of as many as a
 /// number can tell, for which no room is asked.
-pub fn check<S: Spliterator>(
+pub fn check<S: Spliterator<Item: Eq>>(
     rt: &impl Abort,
     alloc: Global,
     split: S,
     expected: &[S::Item],
 ) -> Result<(), NoMemory> {
-    let number = expected.len();
+    check_by(
+        rt,
+        alloc,
+        split,
+        expected.len(),
+        |items: &[S::Item]| items == expected,
+    )
+}
+
+/// Reads a source of so many items in the five ways, and asks of the items whether they are the right ones.
+pub fn check_by<S: Spliterator, F: Fn(&[S::Item]) -> bool>(
+    rt: &impl Abort,
+    alloc: Global,
+    split: S,
+    number: usize,
+    are_right: F,
+) -> Result<(), NoMemory>
+    requires { F.IsAlwaysCallable are_right }
+{
     let ways = [
         Way::ToItsEnd,
         Way::SplitOnce,
@@ -92,7 +110,7 @@ pub fn check<S: Spliterator>(
     for (place, way) in (0_u64..).zip(&ways) {
         let mut items = Vec::new(alloc);
         append_in(alloc, split, *way, number, &mut items)?;
-        check_row(rt, place, items.as_slice() == expected);
+        check_row(rt, place, are_right(items.as_slice()));
     }
     Ok(())
 }
@@ -122,7 +140,7 @@ fn numbers_are_read_in_five_ways(rt: HostRuntime) -> Result<(), NoMemory> {
 }
 
 /// Whether a source lends these items, in blocks of at most so many, and then none.
-fn lends<S: Spliterator>(split: S, most: usize, expected: &[S::Item]) -> bool {
+fn lends<S: Spliterator<Item: Eq>>(split: S, most: usize, expected: &[S::Item]) -> bool {
     let (mut split, mut left) = (split, expected);
     for _ in 0..expected.len() {
         let Some((block, rest)) = split.lent_block(most) else {
@@ -179,7 +197,7 @@ fn lines_are_read_in_five_ways(rt: HostRuntime) -> Result<(), NoMemory> {
 }
 
 /// Checks two sources, one after the other.
-fn check_both<A: Spliterator, B: Spliterator<Item = A::Item>>(
+fn check_both<A: Spliterator<Item: Eq>, B: Spliterator<Item = A::Item>>(
     rt: &impl Abort,
     alloc: Global,
     first: A,
@@ -190,7 +208,7 @@ fn check_both<A: Spliterator, B: Spliterator<Item = A::Item>>(
 }
 
 /// Checks a source before an empty one, and then one that is as empty before another.
-fn check_four<A: Spliterator, B: Spliterator<Item = A::Item>>(
+fn check_four<A: Spliterator<Item: Eq>, B: Spliterator<Item = A::Item>>(
     rt: &impl Abort,
     alloc: Global,
     first: A,

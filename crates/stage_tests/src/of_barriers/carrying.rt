@@ -6,11 +6,11 @@ use barriers::{
     AnyBarrier, AnyState, Barrier, Behind, Demand, Distinct, DropWhile, Limit, Need, Skip,
     TakeWhile,
 };
-use parts::Below;
 use spliterator::{NoMemory, Value};
 use std::alloc::Global;
 use std::hash::{BuildHasherDefault, FoldHasher};
 use std::process::Abort;
+use stream_functions::Below;
 
 /// What a run keeps of a part: a front that is all of it, or has as many counting items as are needed behind the state. Then the run was cut.
 fn kept_by_run<B: Barrier<i64>>(
@@ -191,74 +191,47 @@ fn an_owned_text_of_an_earlier_part_stands_once(rt: HostRuntime) -> Result<(), N
     Ok(())
 }
 
-/// What is needed behind a part, whether nothing that is still to come matters, and whether all of it passes.
-fn told_behind<B: Barrier<i64>>(
-    alloc: Global,
+/// Asserts what is needed behind a part, whether nothing that is still to come matters, and whether all of it passes.
+fn check_behind<B: Barrier<i64>>(
+    rt: &(impl Abort + Alloc<A = Global>),
     barrier: &B,
     part: &[i64],
-) -> Result<(Need, bool, bool), NoMemory>
+    wanted: (Need, bool, bool),
+) -> Result<(), NoMemory>
     requires ready { B.Demand.ready barrier.now }
     requires can { B.can_carry barrier.now }
 {
-    let mut state = barrier.fresh(alloc);
-    let (items, is_cut) = kept_by_run(alloc, barrier, &state, part)?;
+    let mut state = barrier.fresh(rt.alloc());
+    let (items, is_cut) = kept_by_run(rt.alloc(), barrier, &state, part)?;
     barrier.carry(&mut state, items, is_cut)?;
-    Ok((
-        barrier.need_behind(&state),
-        barrier.is_over(&state),
-        barrier.lets_pass(&state),
-    ))
+    assert!(rt; barrier.need_behind(&state) == wanted.0, "{wanted:?}");
+    assert!(rt; (barrier.is_over(&state), barrier.lets_pass(&state)) == (wanted.1, wanted.2));
+    Ok(())
 }
 
 #[test]
-fn a_state_tells_what_is_still_needed(rt: HostRuntime) -> Result<(), NoMemory> {
-    let alloc = rt.alloc();
-    let rows = [
-        (
-            told_behind(alloc, &Limit::new(3), &[7])?,
-            (Need::Reach(2), false, false),
-        ),
-        (
-            told_behind(alloc, &Limit::new(3), &[7, 8, 9, 7])?,
-            (Need::Reach(0), true, false),
-        ),
-        (
-            told_behind(alloc, &Limit::new(0), &[])?,
-            (Need::Reach(0), true, false),
-        ),
-        (
-            told_behind(alloc, &Skip::new(2), &[7])?,
-            (Need::Never, false, false),
-        ),
-        (
-            told_behind(alloc, &Skip::new(1), &[7])?,
-            (Need::Never, false, true),
-        ),
-        (
-            told_behind(alloc, &TakeWhile::new(Below(3)), &[1])?,
-            (Need::Reach(1), false, false),
-        ),
-        (
-            told_behind(alloc, &TakeWhile::new(Below(3)), &[1, 5, 1])?,
-            (Need::Reach(0), true, false),
-        ),
-        (
-            told_behind(alloc, &DropWhile::new(Below(3)), &[1])?,
-            (Need::Never, false, false),
-        ),
-        (
-            told_behind(alloc, &DropWhile::new(Below(3)), &[1, 5, 1])?,
-            (Need::Never, false, true),
-        ),
-        (
-            told_behind(alloc, &Distinct::new(), &[1])?,
-            (Need::Never, false, false),
-        ),
-    ];
-    for (found, wanted) in rows {
-        assert!(rt; found == wanted, "{wanted:?}");
-    }
-    Ok(())
+fn a_limit_tells_how_many_are_still_needed(rt: HostRuntime) -> Result<(), NoMemory> {
+    let three = Limit::new(3);
+    check_behind(&rt, &three, &[7], (Need::Reach(2), false, false))?;
+    check_behind(&rt, &three, &[7, 8, 9, 7], (Need::Reach(0), true, false))?;
+    check_behind(&rt, &Limit::new(0), &[], (Need::Reach(0), true, false))
+}
+
+#[test]
+fn a_while_tells_whether_it_goes_on(rt: HostRuntime) -> Result<(), NoMemory> {
+    let taking = TakeWhile::new(Below(3));
+    check_behind(&rt, &taking, &[1], (Need::Reach(1), false, false))?;
+    check_behind(&rt, &taking, &[1, 5, 1], (Need::Reach(0), true, false))?;
+    let dropping = DropWhile::new(Below(3));
+    check_behind(&rt, &dropping, &[1], (Need::Never, false, false))?;
+    check_behind(&rt, &dropping, &[1, 5, 1], (Need::Never, false, true))
+}
+
+#[test]
+fn a_skip_passes_once_it_has_skipped(rt: HostRuntime) -> Result<(), NoMemory> {
+    check_behind(&rt, &Skip::new(2), &[7], (Need::Never, false, false))?;
+    check_behind(&rt, &Skip::new(1), &[7], (Need::Never, false, true))?;
+    check_behind(&rt, &Distinct::new(), &[1], (Need::Never, false, false))
 }
 
 type AnyOfNumbers = AnyBarrier<Below, BuildHasherDefault<FoldHasher>>;

@@ -5,13 +5,13 @@ ghost use Rattle.spliterator.specs.Values.{IsI64};
 ghost use Rattle.stages.specs.Products.{wrapped_product};
 ghost use Rattle.stages.specs.Wrapping.{wrapped_sum, wrapped-value};
 
-use parts::{Above, Times};
 use spliterator::NoMemory;
 use stages::{
     Filter, FlatMap, Map, Mapping, Nothing, Operation, Operator, Sink, Stage, Test, Then, WrapAdd,
 };
 use std::alloc::Global;
 use std::process::Abort;
+use stream_functions::{Above, Times};
 
 /// The number itself. That of 7 is refused, as if it wanted memory.
 #[derive(Drop)]

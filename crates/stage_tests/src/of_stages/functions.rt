@@ -87,7 +87,7 @@ fn closures_answer_as_their_definitions(rt: HostRuntime) -> Result<(), NoMemory>
 }
 
 /// Checks that an operator joins the first two of each row to the third.
-fn check_joins<T: Value + Drop, O: Operator<T>>(
+fn check_joins<T: Value + Eq + Drop, O: Operator<T>>(
     rt: &impl Abort,
     operator: &O,
     rows: &[(&T, &T, &T)],

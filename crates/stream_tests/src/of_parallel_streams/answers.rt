@@ -6,14 +6,15 @@ ghost use Rattle.stages.specs.Operators.{IsAssociative};
 
 use collectors::{Collector, SummingLong, ToList};
 use parallel_streams::{Run, Source, Stream, StreamError, of};
-use parts::Itself;
 use sources::{RangeSplit, SliceSplit};
 use stages::Operator;
 use std::alloc::Global;
 use std::fmt::Debug;
 use std::process::Abort;
 use std::thread::Threads;
+use std::time::Clock;
 use stealing_pool::{Gate, NoGate, RunReport};
+use stream_functions::Itself;
 
 /// The items of a stream, and what each run tells of its leaves.
 pub type Reported = Result<(Vec<i64>, RunReport), StreamError>;
@@ -24,14 +25,11 @@ pub fn numbers(rt: &impl Abort, start: i64, end: i64) -> Source<RangeSplit> {
 }
 
 /// The items of a stream.
-pub fn listed<R: Threads + Alloc<A = Global> + Sync, H: Gate + Sync, X: Stream<Item = i64> + Sync>(
-    rt: &R,
-    run: &Run<'_, H>,
-    stream: &X,
-) -> Result<Vec<i64>, StreamError>
-where
-    X::Progress: Send + Sync,
-    X::Part: Send,
+pub fn listed<
+    R: Threads + Clock + Alloc<A = Global> + Sync,
+    H: Gate + Sync,
+    X: Stream<Item = i64> + Sync,
+>(rt: &R, run: &Run<'_, H>, stream: &X) -> Result<Vec<i64>, StreamError>
     requires { X.ready stream.now }
 {
     stream.collect(rt, rt.alloc(), run, &ToList::new(rt.alloc()))
@@ -39,28 +37,21 @@ where
 
 /// The items of a stream, and what each run tells of its leaves.
 pub fn reported<
-    R: Threads + Alloc<A = Global> + Sync,
+    R: Threads + Clock + Alloc<A = Global> + Sync,
     H: Gate + Sync,
     X: Stream<Item = i64> + Sync,
 >(rt: &R, run: &Run<'_, H>, stream: &X) -> Reported
-where
-    X::Progress: Send + Sync,
-    X::Part: Send,
     requires { X.ready stream.now }
 {
     stream.collect_reported(rt, rt.alloc(), run, &ToList::new(rt.alloc()))
 }
 
 /// The number of items of a stream.
-pub fn counted<R: Threads + Alloc<A = Global> + Sync, H: Gate + Sync, X: Stream + Sync>(
+pub fn counted<R: Threads + Clock + Alloc<A = Global> + Sync, H: Gate + Sync, X: Stream>(
     rt: &R,
     run: &Run<'_, H>,
     stream: &X,
 ) -> Result<i64, StreamError>
-where
-    X::Item: Send + Sync,
-    X::Progress: Send + Sync,
-    X::Part: Send,
     requires { X.ready stream.now }
 {
     stream.count(rt, rt.alloc(), run)
@@ -68,34 +59,28 @@ where
 
 /// The first item of a stream.
 pub fn first_of<
-    R: Threads + Alloc<A = Global> + Sync,
+    R: Threads + Clock + Alloc<A = Global> + Sync,
     H: Gate + Sync,
     X: Stream<Item = i64> + Sync,
 >(rt: &R, run: &Run<'_, H>, stream: &X) -> Result<Option<i64>, StreamError>
-where
-    X::Progress: Send + Sync,
-    X::Part: Send,
     requires { X.ready stream.now }
 {
     stream.find_first(rt, rt.alloc(), run)
 }
 
 /// The sum of the items of a stream, by a collector.
-pub fn sum_of<R: Threads + Alloc<A = Global> + Sync, X: Stream<Item = i64> + Sync>(
+pub fn sum_of<R: Threads + Clock + Alloc<A = Global> + Sync, X: Stream<Item = i64> + Sync>(
     rt: &R,
     run: &Run<'_, NoGate>,
     stream: &X,
 ) -> Result<i64, StreamError>
-where
-    X::Progress: Send + Sync,
-    X::Part: Send,
     requires { X.ready stream.now }
 {
     stream.collect(rt, rt.alloc(), run, &SummingLong::new(Itself))
 }
 
 /// What a collector makes of numbers.
-pub fn collected<R: Threads + Alloc<A = Global> + Sync, C: Collector<Item = i64> + Sync>(
+pub fn collected<R: Threads + Clock + Alloc<A = Global> + Sync, C: Collector<Item = i64> + Sync>(
     rt: &R,
     run: &Run<'_, NoGate>,
     numbers: &[i64],
@@ -111,13 +96,10 @@ where
 
 /// The first items of a stream, and what each run tells of its leaves.
 pub fn limited<
-    R: Threads + Alloc<A = Global> + Sync,
+    R: Threads + Clock + Alloc<A = Global> + Sync,
     H: Gate + Sync,
     X: Stream<Item = i64> + Drop + Sync,
 >(rt: &R, run: &Run<'_, H>, numbers: X, most: u32) -> Reported
-where
-    X::Progress: Send + Sync,
-    X::Part: Send,
     requires { X.ready numbers }
 {
     reported(rt, run, &numbers.limit(u64::from(most)))
@@ -125,7 +107,7 @@ where
 
 /// The items of a stream joined by an operator, from the identity on.
 pub fn reduced<
-    R: Threads + Alloc<A = Global> + Sync,
+    R: Threads + Clock + Alloc<A = Global> + Sync,
     X: Stream<Item = i64> + Sync,
     O: Operator<i64> + Sync,
 >(
@@ -135,9 +117,6 @@ pub fn reduced<
     identity: i64,
     operator: &O,
 ) -> Result<i64, StreamError>
-where
-    X::Progress: Send + Sync,
-    X::Part: Send,
     requires stream { X.ready stream.now }
     requires operator { O.ready operator.now }
     requires associative { IsAssociative IsI64 (O.join operator.now) }
@@ -147,7 +126,7 @@ where
 }
 
 /// Numbers joined by an operator, or none where there is no number.
-pub fn joined<R: Threads + Alloc<A = Global> + Sync, O: Operator<i64> + Sync>(
+pub fn joined<R: Threads + Clock + Alloc<A = Global> + Sync, O: Operator<i64> + Sync>(
     rt: &R,
     run: &Run<'_, NoGate>,
     numbers: &[i64],

@@ -12,6 +12,7 @@ use std::fmt::Debug;
 use std::process::Abort;
 use std::sync::atomic::{AtomicU64, Ordering};
 use std::thread::Threads;
+use std::time::Clock;
 use stealing_pool::NoGate;
 
 /// Each number as it is. It counts how often it was asked.
@@ -67,15 +68,10 @@ fn times(asked: &Asked) -> [u64; 3] {
 }
 
 // The numbers 2, 3 and 4 of five, behind two functions, a barrier and another function.
-fn three_of_five<R: Threads + Alloc<A = Global> + Sync, X: Stream<Item = i64> + Drop + Sync>(
-    rt: &R,
-    run: &Run<'_, NoGate>,
-    numbers: X,
-    asked: &Asked,
-) -> Result<Vec<i64>, StreamError>
-where
-    X::Progress: Send + Sync,
-    X::Part: Send,
+fn three_of_five<
+    R: Threads + Clock + Alloc<A = Global> + Sync,
+    X: Stream<Item = i64> + Drop + Sync,
+>(rt: &R, run: &Run<'_, NoGate>, numbers: X, asked: &Asked) -> Result<Vec<i64>, StreamError>
     requires { X.ready numbers }
 {
     let mapped = numbers.map(Itself {
@@ -89,18 +85,27 @@ where
 }
 
 // The numbers behind the first two.
-fn behind_two<R: Threads + Alloc<A = Global> + Sync, X: Stream<Item = i64> + Drop + Sync>(
+fn behind_two<R: Threads + Clock + Alloc<A = Global> + Sync, X: Stream<Item = i64> + Drop + Sync>(
     rt: &R,
     run: &Run<'_, NoGate>,
     numbers: X,
     asked: &AtomicU64,
 ) -> Result<Vec<i64>, StreamError>
-where
-    X::Progress: Send + Sync,
-    X::Part: Send,
     requires { X.ready numbers }
 {
     listed(rt, run, &numbers.skip(2).map(Itself { asked }))
+}
+
+// The images of the first 5,000 numbers.
+fn front_of<R: Threads + Clock + Alloc<A = Global> + Sync, X: Stream<Item = i64> + Drop + Sync>(
+    rt: &R,
+    run: &Run<'_, NoGate>,
+    numbers: X,
+    asked: &AtomicU64,
+) -> Result<Vec<i64>, StreamError>
+    requires { X.ready numbers }
+{
+    listed(rt, run, &numbers.map(Itself { asked }).limit(5_000))
 }
 
 // Of five items, and of the three behind a barrier. A million numbers are halved eight times, until a part has at most 2^12 of them: a limit of
@@ -117,10 +122,8 @@ fn functions_are_asked_once_an_item(rt: HostRuntime) -> Result<(), StreamError> 
         check_list(&rt, three, &[2, 3, 4])?;
         same(&rt, times(&asked), [5, 5, 3]);
 
-        let all = numbers(&rt, 0, 1_000_000).map(Itself {
-            asked: &asked.mapped,
-        });
-        let front = listed(&rt, &at(setting), &all.limit(5_000))?;
+        let million = numbers(&rt, 0, 1_000_000);
+        let front = front_of(&rt, &at(setting), million, &asked.mapped)?;
         let [mapped, _, _] = times(&asked);
         let is_so = (5_000..=7_812).contains(&mapped);
         same(&rt, (front.len(), is_so), (5_000, true));
@@ -128,16 +131,24 @@ fn functions_are_asked_once_an_item(rt: HostRuntime) -> Result<(), StreamError> 
     Ok(())
 }
 
+// The first number behind 1,300,000 of those that stand as often as they say.
+fn behind_copies<
+    R: Threads + Clock + Alloc<A = Global> + Sync,
+    X: Stream<Item = i64> + Drop + Sync,
+>(rt: &R, run: &Run<'_, NoGate>, numbers: X, asked: &AtomicU64) -> Result<Option<i64>, StreamError>
+    requires { X.ready numbers }
+{
+    let alloc = rt.alloc();
+    let copies = numbers.map(Itself { asked }).flat_map(Copies { alloc });
+    copies.skip(1_300_000).find_first(rt, alloc, run)
+}
+
 // Of a million numbers, each as often as it says. The first segment has 244, 16 times less than where no stage makes several of one; of these more
 // than a million come, so that the next has 122.
 #[test]
 fn segments_are_as_much_shorter_as_items_are_more(rt: HostRuntime) -> Result<(), StreamError> {
     let asked = AtomicU64::new(0);
-    let all = numbers(&rt, 5_000, 1_005_000).map(Itself { asked: &asked });
-    let copies = all.flat_map(Copies { alloc: rt.alloc() });
-    let found = copies
-        .skip(1_300_000)
-        .find_first(&rt, rt.alloc(), &at((2, 0)))?;
+    let found = behind_copies(&rt, &at((2, 0)), numbers(&rt, 5_000, 1_005_000), &asked)?;
     same(
         &rt,
         (found, asked.load(Ordering::SeqCst)),
@@ -146,24 +157,44 @@ fn segments_are_as_much_shorter_as_items_are_more(rt: HostRuntime) -> Result<(),
     Ok(())
 }
 
+// How many numbers follow those below 9,000, and the first 80,000 of them but one.
+fn what_passes<R: Threads + Clock + Alloc<A = Global> + Sync, X: Stream<Item = i64> + Drop + Sync>(
+    rt: &R,
+    run: &Run<'_, NoGate>,
+    numbers: X,
+    asked: &AtomicU64,
+) -> Result<(i64, Vec<i64>), StreamError>
+    requires { X.ready numbers }
+{
+    let bound = 9_000;
+    let rest = numbers.drop_while(Under { bound, asked });
+    let number = counted(rt, run, &rest)?;
+    Ok((number, all_but_one(rt, run, rest)?))
+}
+
+// The first 80,000 numbers but one.
+fn all_but_one<R: Threads + Clock + Alloc<A = Global> + Sync, X: Stream<Item = i64> + Drop + Sync>(
+    rt: &R,
+    run: &Run<'_, NoGate>,
+    numbers: X,
+) -> Result<Vec<i64>, StreamError>
+    requires { X.ready numbers }
+{
+    listed(rt, run, &numbers.limit(80_000).skip(1))
+}
+
 // Of the segments behind the one in which items were dropped no list is made: what follows the barrier is fed from the source.
 #[test]
 fn what_passes_a_barrier_is_all_there(rt: HostRuntime) -> Result<(), StreamError> {
     let asked = AtomicU64::new(0);
     for setting in [(1, 0), (7, 0), (64, 0)] {
         let run = at(setting);
-        let behind = numbers(&rt, 0, 100_000).skip(5_000);
-        let both = behind.drop_while(Under {
-            bound: 9_000,
-            asked: &asked,
-        });
-        check(&rt, counted(&rt, &run, &both), 91_000)?;
-        let front = both.limit(80_000).skip(1);
-        let found = listed(&rt, &run, &front)?;
+        let all = numbers(&rt, 0, 100_000).skip(5_000);
+        let (number, found) = what_passes(&rt, &run, all, &asked)?;
         same(
             &rt,
-            (found.len(), found.first(), found.last()),
-            (79_999, Some(&9_001), Some(&88_999)),
+            (number, found.len(), found.first(), found.last()),
+            (91_000, 79_999, Some(&9_001), Some(&88_999)),
         );
         // Each test is asked of the items that are dropped and of the first that isn't, in both runs.
         same(&rt, asked.swap(0, Ordering::SeqCst), 2 * 4_001);
@@ -188,6 +219,28 @@ fn check_asked<T: Copy + PartialEq + Debug>(
     Ok(())
 }
 
+// How many numbers stand before the first that fails a test.
+fn counted_front<
+    R: Threads + Clock + Alloc<A = Global> + Sync,
+    X: Stream<Item = i64> + Drop + Sync,
+>(rt: &R, run: &Run<'_, NoGate>, numbers: X, test: Under<'_>) -> Result<i64, StreamError>
+    requires { X.ready numbers }
+{
+    counted(rt, run, &numbers.take_while(test))
+}
+
+// How many numbers follow these.
+fn counted_rest<R: Threads + Clock + Alloc<A = Global> + Sync, X: Stream<Item = i64> + Drop + Sync>(
+    rt: &R,
+    run: &Run<'_, NoGate>,
+    numbers: X,
+    test: Under<'_>,
+) -> Result<i64, StreamError>
+    requires { X.ready numbers }
+{
+    counted(rt, run, &numbers.drop_while(test))
+}
+
 // Of 200 numbers, those below a bound that none, some or all of them meet: matches, and whiles.
 #[test]
 fn tests_are_asked_once_an_item(rt: HostRuntime) -> Result<(), StreamError> {
@@ -210,9 +263,9 @@ fn tests_are_asked_once_an_item(rt: HostRuntime) -> Result<(), StreamError> {
         }
         for &(bound, taken, times) in &[(-1, 0, 1), (50, 50, 51), (200, 200, 200)] {
             let test = Under { bound, asked };
-            let front = counted(&rt, run, &numbers(&rt, 0, 200).take_while(test));
+            let front = counted_front(&rt, run, numbers(&rt, 0, 200), test);
             check_asked(&rt, asked, setting, front, (taken, times))?;
-            let rest = counted(&rt, run, &numbers(&rt, 0, 200).drop_while(test));
+            let rest = counted_rest(&rt, run, numbers(&rt, 0, 200), test);
             check_asked(&rt, asked, setting, rest, (200 - taken, times))?;
         }
     }

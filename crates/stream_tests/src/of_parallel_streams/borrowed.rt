@@ -3,14 +3,15 @@
 use super::answers::{Reported, check, check_items, limited};
 use super::{Suite, at_each_setting};
 use parallel_streams::{Run, Stream, StreamError, of};
-use parts::Below;
 use sources::SliceSplit;
 use std::alloc::Global;
 use std::process::Abort;
 use std::thread::Threads;
+use std::time::Clock;
 use stealing_pool::NoGate;
+use stream_functions::Below;
 
-fn second_and_third<R: Threads + Alloc<A = Global> + Sync>(
+fn second_and_third<R: Threads + Clock + Alloc<A = Global> + Sync>(
     rt: &R,
     run: &Run<'_, NoGate>,
     numbers: &[i64],
@@ -19,7 +20,7 @@ fn second_and_third<R: Threads + Alloc<A = Global> + Sync>(
     limited(rt, run, below.skip(1), 2)
 }
 
-fn count_of_words<'a, R: Threads + Alloc<A = Global> + Sync>(
+fn count_of_words<'a, R: Threads + Clock + Alloc<A = Global> + Sync>(
     rt: &R,
     run: &Run<'_, NoGate>,
     texts: &[&'a str],
@@ -30,7 +31,7 @@ fn count_of_words<'a, R: Threads + Alloc<A = Global> + Sync>(
 }
 
 /// Rows of one setting.
-pub fn rows<R: Threads + Abort + Alloc<A = Global> + Sync>(
+pub fn rows<R: Threads + Clock + Abort + Alloc<A = Global> + Sync>(
     rt: &R,
     run: &Run<'_, NoGate>,
 ) -> Result<(), StreamError> {

@@ -11,13 +11,14 @@ use collectors::{
 };
 use indexmap::IndexMap;
 use parallel_streams::{Run, StreamError};
-use parts::{Above, Itself, Modulo, Times};
 use stages::{FirstOf, LastOf, Operator, WrapMul};
 use std::alloc::Global;
 use std::fmt::Debug;
 use std::process::Abort;
 use std::thread::Threads;
+use std::time::Clock;
 use stealing_pool::NoGate;
+use stream_functions::{Above, Itself, Modulo, Times};
 
 /// Checks the keys of a map, and the value of each.
 pub fn check_entries<V: Debug + PartialEq + Drop>(
@@ -45,7 +46,7 @@ fn has_lists(found: &IndexMap<i64, Vec<i64>>, expected: &[(i64, &[i64])]) -> boo
 }
 
 // What a collector makes of the numbers of each parity.
-fn by_parity<R: Threads + Alloc<A = Global> + Sync, D: Collector<Item = i64> + Drop + Sync>(
+fn by_parity<R: Threads + Clock + Alloc<A = Global> + Sync, D: Collector<Item = i64> + Drop + Sync>(
     rt: &R,
     run: &Run<'_, NoGate>,
     numbers: &[i64],
@@ -67,7 +68,7 @@ static TOTALS: [(&[i64], i64, &[(i64, i64)]); 2] = [
     (&[1, 2, 2, 1, 1], 100, &[(0, 0), (0, 0)]),
 ];
 
-fn totals<R: Threads + Abort + Alloc<A = Global> + Sync>(
+fn totals<R: Threads + Clock + Abort + Alloc<A = Global> + Sync>(
     rt: &R,
     run: &Run<'_, NoGate>,
 ) -> Result<(), StreamError> {
@@ -80,7 +81,7 @@ fn totals<R: Threads + Abort + Alloc<A = Global> + Sync>(
 }
 
 // The lists of each parity, of the numbers that are not above 3 and of those that are.
-fn parts<R: Threads + Alloc<A = Global> + Sync>(
+fn parts<R: Threads + Clock + Alloc<A = Global> + Sync>(
     rt: &R,
     run: &Run<'_, NoGate>,
     numbers: &[i64],
@@ -100,7 +101,7 @@ static PARTS: [(&[i64], &[(i64, &[i64])], &[(i64, &[i64])]); 2] = [
     (&[1, 3], &[(1, &[1, 3])], &[]),
 ];
 
-fn check_parts<R: Threads + Abort + Alloc<A = Global> + Sync>(
+fn check_parts<R: Threads + Clock + Abort + Alloc<A = Global> + Sync>(
     rt: &R,
     run: &Run<'_, NoGate>,
 ) -> Result<(), StreamError> {
@@ -113,7 +114,7 @@ fn check_parts<R: Threads + Abort + Alloc<A = Global> + Sync>(
 }
 
 // The numbers 1 to 4 by parity, where those of one key are merged.
-fn merged<R: Threads + Alloc<A = Global> + Sync, O: Operator<i64> + Drop + Sync>(
+fn merged<R: Threads + Clock + Alloc<A = Global> + Sync, O: Operator<i64> + Drop + Sync>(
     rt: &R,
     run: &Run<'_, NoGate>,
     merge: O,
@@ -125,7 +126,7 @@ fn merged<R: Threads + Alloc<A = Global> + Sync, O: Operator<i64> + Drop + Sync>
     collected(rt, run, &[1, 2, 3, 4], &merging)
 }
 
-fn maps<R: Threads + Abort + Alloc<A = Global> + Sync>(
+fn maps<R: Threads + Clock + Abort + Alloc<A = Global> + Sync>(
     rt: &R,
     run: &Run<'_, NoGate>,
 ) -> Result<(), StreamError> {
@@ -135,7 +136,7 @@ fn maps<R: Threads + Abort + Alloc<A = Global> + Sync>(
 }
 
 // The sum of the numbers 1 to 4 doubled, and those above 2.
-fn sum_and_list<R: Threads + Alloc<A = Global> + Sync>(
+fn sum_and_list<R: Threads + Clock + Alloc<A = Global> + Sync>(
     rt: &R,
     run: &Run<'_, NoGate>,
 ) -> Result<(i64, Vec<i64>), StreamError> {
@@ -161,7 +162,7 @@ static PRODUCTS: [(&[i64], (Option<i64>, Option<i64>)); 3] = [
     (&[2, 5, 3], (Some(20), Some(30))),
 ];
 
-fn first_and_product<R: Threads + Abort + Alloc<A = Global> + Sync>(
+fn first_and_product<R: Threads + Clock + Abort + Alloc<A = Global> + Sync>(
     rt: &R,
     run: &Run<'_, NoGate>,
 ) -> Result<(), StreamError> {
@@ -174,7 +175,7 @@ fn first_and_product<R: Threads + Abort + Alloc<A = Global> + Sync>(
 }
 
 /// Rows of one setting.
-pub fn rows<R: Threads + Abort + Alloc<A = Global> + Sync>(
+pub fn rows<R: Threads + Clock + Abort + Alloc<A = Global> + Sync>(
     rt: &R,
     run: &Run<'_, NoGate>,
 ) -> Result<(), StreamError> {

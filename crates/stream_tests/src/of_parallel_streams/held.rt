@@ -9,12 +9,12 @@ use super::gates::Watch;
 use super::reports::{Entry, check_report};
 use super::rows::first_above_hundred;
 use parallel_streams::{Run, Stream, StreamError, of};
-use parts::Not;
 use sources::SliceSplit;
 use stages::Test;
 use std::fmt::Debug;
 use std::process::Abort;
 use std::sync::atomic::Ordering;
+use stream_functions::Not;
 
 /// A run by two workers.
 fn by_two(target: u64, gate: &Watch) -> Run<'_, Watch> {

@@ -3,11 +3,12 @@
 use super::answers::{check, numbers};
 use super::{Suite, at_each_setting};
 use parallel_streams::{Run, Stream, StreamError};
-use parts::Below;
 use std::alloc::Global;
 use std::process::Abort;
 use std::thread::Threads;
+use std::time::Clock;
 use stealing_pool::NoGate;
+use stream_functions::Below;
 
 /// A number of items from 0 on, a limit, and whether all, any and none of the items are below it.
 static MATCHES: [(i64, i64, [bool; 3]); 4] = [
@@ -18,7 +19,7 @@ static MATCHES: [(i64, i64, [bool; 3]); 4] = [
 ];
 
 fn check_matches<
-    R: Threads + Abort + Alloc<A = Global> + Sync,
+    R: Threads + Clock + Abort + Alloc<A = Global> + Sync,
     X: Stream<Item = i64> + Drop + Sync,
 >(
     rt: &R,
@@ -27,9 +28,6 @@ fn check_matches<
     below: &Below,
     wanted: [bool; 3],
 ) -> Result<(), StreamError>
-where
-    X::Progress: Send + Sync,
-    X::Part: Send,
     requires { X.ready numbers }
 {
     let [all, any, none] = wanted;
@@ -42,7 +40,7 @@ where
 }
 
 /// Rows of one setting.
-pub fn rows<R: Threads + Abort + Alloc<A = Global> + Sync>(
+pub fn rows<R: Threads + Clock + Abort + Alloc<A = Global> + Sync>(
     rt: &R,
     run: &Run<'_, NoGate>,
 ) -> Result<(), StreamError> {

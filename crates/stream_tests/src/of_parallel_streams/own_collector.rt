@@ -13,6 +13,7 @@ use spliterator::NoMemory;
 use std::alloc::Global;
 use std::process::Abort;
 use std::thread::Threads;
+use std::time::Clock;
 use stealing_pool::NoGate;
 
 // The number of items and their sum.
@@ -40,7 +41,7 @@ fn plus(a: i64, b: i64) -> i64
     a.wrapping_add(b)
 }
 
-fn count_and_sum<R: Threads + Alloc<A = Global> + Sync>(
+fn count_and_sum<R: Threads + Clock + Alloc<A = Global> + Sync>(
     rt: &R,
     run: &Run<'_, NoGate>,
     numbers: &[i64],
@@ -61,7 +62,7 @@ fn count_and_sum<R: Threads + Alloc<A = Global> + Sync>(
 }
 
 /// Rows of one setting.
-pub fn rows<R: Threads + Abort + Alloc<A = Global> + Sync>(
+pub fn rows<R: Threads + Clock + Abort + Alloc<A = Global> + Sync>(
     rt: &R,
     run: &Run<'_, NoGate>,
 ) -> Result<(), StreamError> {

@@ -13,6 +13,7 @@ use stages::{
 use std::alloc::Global;
 use std::process::Abort;
 use std::thread::Threads;
+use std::time::Clock;
 use stealing_pool::NoGate;
 
 // Ten more than a number.
@@ -40,14 +41,11 @@ impl OperatorDefinition<i64> for Sum {
     ghost joins_are_values = { λ x y _ _. wrapped-value (x +ℤ y) };
 }
 
-fn ten_more<R: Threads + Alloc<A = Global> + Sync, X: Stream<Item = i64> + Drop + Sync>(
+fn ten_more<R: Threads + Clock + Alloc<A = Global> + Sync, X: Stream<Item = i64> + Drop + Sync>(
     rt: &R,
     run: &Run<'_, NoGate>,
     numbers: X,
 ) -> Result<Vec<i64>, StreamError>
-where
-    X::Progress: Send + Sync,
-    X::Part: Send,
     requires { X.ready numbers }
 {
     let ten_more: FromFn<i64, _, TenMore> = FromFn::new(|x: &i64| -> Result<i64, NoMemory> {
@@ -57,14 +55,11 @@ where
     listed(rt, run, &numbers.map(ten_more).filter(below_thirteen))
 }
 
-fn total<R: Threads + Alloc<A = Global> + Sync, X: Stream<Item = i64> + Drop + Sync>(
+fn total<R: Threads + Clock + Alloc<A = Global> + Sync, X: Stream<Item = i64> + Drop + Sync>(
     rt: &R,
     run: &Run<'_, NoGate>,
     numbers: X,
 ) -> Result<Option<i64>, StreamError>
-where
-    X::Progress: Send + Sync,
-    X::Part: Send,
     requires { X.ready numbers }
 {
     let sum: OperatorFn<_, Sum> = OperatorFn::new(|a: &i64, b: &i64| -> Result<i64, NoMemory> {
@@ -74,7 +69,7 @@ where
 }
 
 /// Rows of one setting.
-pub fn rows<R: Threads + Abort + Alloc<A = Global> + Sync>(
+pub fn rows<R: Threads + Clock + Abort + Alloc<A = Global> + Sync>(
     rt: &R,
     run: &Run<'_, NoGate>,
 ) -> Result<(), StreamError> {

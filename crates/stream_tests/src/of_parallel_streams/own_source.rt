@@ -6,13 +6,14 @@ ghost use Rattle.spliterator.specs.Spliterator.{IsSplit};
 use super::answers::{check, check_items, counted, limited, reduced, same};
 use super::rows::second_and_one;
 use super::{Suite, at, at_each_setting};
-use parallel_streams::{Run, Source, Stream, StreamError, of};
+use parallel_streams::{Plumbing, Run, Source, Stream, StreamError, of};
 use spliterator::{NoMemory, Spliterator};
 use stages::WrapAdd;
 use std::alloc::Global;
 use std::process::Abort;
 use std::sync::atomic::{AtomicU64, Ordering};
 use std::thread::Threads;
+use std::time::Clock;
 use stealing_pool::NoGate;
 
 /// The number 7 again and again: a source that never splits, and tells nothing but its order. It lends a block, and counts how often it did.
@@ -94,7 +95,7 @@ fn sevens(left: u64, lent: &AtomicU64) -> Source<Again<'_>>
 }
 
 /// Rows of one setting.
-pub fn rows<R: Threads + Abort + Alloc<A = Global> + Sync>(
+pub fn rows<R: Threads + Clock + Abort + Alloc<A = Global> + Sync>(
     rt: &R,
     run: &Run<'_, NoGate>,
 ) -> Result<(), StreamError> {

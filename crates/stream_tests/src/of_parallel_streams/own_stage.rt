@@ -14,6 +14,7 @@ use stages::{Operation, Operator, Sink, Stage, WrapAdd};
 use std::alloc::Global;
 use std::process::Abort;
 use std::thread::Threads;
+use std::time::Clock;
 use stealing_pool::NoGate;
 
 /// Each number, and then the next one.
@@ -49,14 +50,10 @@ impl Stage for WithNext {
 }
 
 // The numbers 0 to 2, each before the next one.
-fn check_pairs<R: Threads + Abort + Alloc<A = Global> + Sync, X: Stream<Item = i64> + Drop + Sync>(
-    rt: &R,
-    run: &Run<'_, NoGate>,
-    numbers: X,
-) -> Result<(), StreamError>
-where
-    X::Progress: Send + Sync,
-    X::Part: Send,
+fn check_pairs<
+    R: Threads + Clock + Abort + Alloc<A = Global> + Sync,
+    X: Stream<Item = i64> + Drop + Sync,
+>(rt: &R, run: &Run<'_, NoGate>, numbers: X) -> Result<(), StreamError>
     requires { X.ready numbers }
 {
     let pairs = numbers.then(WithNext);
@@ -66,7 +63,7 @@ where
 }
 
 /// Rows of one setting.
-pub fn rows<R: Threads + Abort + Alloc<A = Global> + Sync>(
+pub fn rows<R: Threads + Clock + Abort + Alloc<A = Global> + Sync>(
     rt: &R,
     run: &Run<'_, NoGate>,
 ) -> Result<(), StreamError> {

@@ -3,13 +3,14 @@
 use super::answers::{check, first_of, numbers, same, sum_of};
 use super::at;
 use parallel_streams::{Run, Stream, StreamError};
-use parts::Above;
 use spliterator::NoMemory;
 use stages::Mapping;
 use std::alloc::Global;
 use std::process::Abort;
 use std::thread::Threads;
+use std::time::Clock;
 use stealing_pool::NoGate;
+use stream_functions::Above;
 
 /// Each number as it is, but memory is refused at one of them.
 #[derive(Drop)]
@@ -31,15 +32,10 @@ impl Mapping<i64> for RefusesAt {
 static FIRSTS: [(u64, i64); 6] = [(1, 0), (1, 4), (16, 0), (16, 4), (0, 0), (0, 4)];
 
 // Of ten numbers whether one is met, and the first. Memory is refused at the number behind it.
-fn check_met<R: Threads + Abort + Alloc<A = Global> + Sync, X: Stream<Item = i64> + Drop + Sync>(
-    rt: &R,
-    run: &Run<'_, NoGate>,
-    numbers: X,
-    first: i64,
-) -> Result<(), StreamError>
-where
-    X::Progress: Send + Sync,
-    X::Part: Send,
+fn check_met<
+    R: Threads + Clock + Abort + Alloc<A = Global> + Sync,
+    X: Stream<Item = i64> + Drop + Sync,
+>(rt: &R, run: &Run<'_, NoGate>, numbers: X, first: i64) -> Result<(), StreamError>
     requires { X.ready numbers }
 {
     let above = Above(first.saturating_sub(1));
@@ -61,14 +57,10 @@ fn one_worker_reads_nothing_behind_the_first_item_or_hit(
 }
 
 // The first of ten numbers, where memory is refused at 7, so that their sum wants memory.
-fn refused<R: Threads + Abort + Alloc<A = Global> + Sync, X: Stream<Item = i64> + Drop + Sync>(
-    rt: &R,
-    run: &Run<'_, NoGate>,
-    numbers: X,
-) -> Result<Option<i64>, StreamError>
-where
-    X::Progress: Send + Sync,
-    X::Part: Send,
+fn refused<
+    R: Threads + Clock + Abort + Alloc<A = Global> + Sync,
+    X: Stream<Item = i64> + Drop + Sync,
+>(rt: &R, run: &Run<'_, NoGate>, numbers: X) -> Result<Option<i64>, StreamError>
     requires { X.ready numbers }
 {
     let ten = numbers.map(RefusesAt(7));

@@ -7,80 +7,63 @@ use super::answers::{
 use super::functions::Copies;
 use super::{Suite, at, at_each_setting};
 use parallel_streams::{Run, Stream, StreamError, of};
-use parts::{Above, Below, Plus, Times};
 use sources::{RangeSplit, SliceSplit};
 use stages::{LastOf, Max, Min, WrapAdd, WrapMul};
 use std::alloc::Global;
 use std::process::Abort;
 use std::thread::Threads;
+use std::time::Clock;
 use stealing_pool::{Gate, NoGate};
+use stream_functions::{Above, Below, Plus, Times};
 
 /// The second of some numbers, and one.
-pub fn second_and_one<R: Threads + Alloc<A = Global> + Sync, X: Stream<Item = i64> + Drop + Sync>(
-    rt: &R,
-    run: &Run<'_, NoGate>,
-    numbers: X,
-) -> Reported
-where
-    X::Progress: Send + Sync,
-    X::Part: Send,
+pub fn second_and_one<
+    R: Threads + Clock + Alloc<A = Global> + Sync,
+    X: Stream<Item = i64> + Drop + Sync,
+>(rt: &R, run: &Run<'_, NoGate>, numbers: X) -> Reported
     requires { X.ready numbers }
 {
     plus_one(rt, run, numbers.skip(1).limit(1))
 }
 
 // Each number and one.
-fn plus_one<R: Threads + Alloc<A = Global> + Sync, X: Stream<Item = i64> + Drop + Sync>(
+fn plus_one<R: Threads + Clock + Alloc<A = Global> + Sync, X: Stream<Item = i64> + Drop + Sync>(
     rt: &R,
     run: &Run<'_, NoGate>,
     numbers: X,
 ) -> Reported
-where
-    X::Progress: Send + Sync,
-    X::Part: Send,
     requires { X.ready numbers }
 {
     reported(rt, run, &numbers.map(Plus(1)))
 }
 
 /// The front of some numbers that is below 3.
-pub fn front<R: Threads + Alloc<A = Global> + Sync, X: Stream<Item = i64> + Drop + Sync>(
+pub fn front<R: Threads + Clock + Alloc<A = Global> + Sync, X: Stream<Item = i64> + Drop + Sync>(
     rt: &R,
     run: &Run<'_, NoGate>,
     numbers: X,
 ) -> Reported
-where
-    X::Progress: Send + Sync,
-    X::Part: Send,
     requires { X.ready numbers }
 {
     reported(rt, run, &numbers.take_while(Below(3)))
 }
 
 // What follows that front.
-fn rest<R: Threads + Alloc<A = Global> + Sync, X: Stream<Item = i64> + Drop + Sync>(
+fn rest<R: Threads + Clock + Alloc<A = Global> + Sync, X: Stream<Item = i64> + Drop + Sync>(
     rt: &R,
     run: &Run<'_, NoGate>,
     numbers: X,
 ) -> Result<Vec<i64>, StreamError>
-where
-    X::Progress: Send + Sync,
-    X::Part: Send,
     requires { X.ready numbers }
 {
     listed(rt, run, &numbers.drop_while(Below(3)))
 }
 
 /// The first of the numbers that differ. The limit stops no leaf before `distinct`.
-pub fn first_apart<R: Threads + Alloc<A = Global> + Sync, X: Stream<Item = i64> + Drop + Sync>(
-    rt: &R,
-    run: &Run<'_, NoGate>,
-    numbers: X,
-    most: u32,
-) -> Reported
-where
-    X::Progress: Send + Sync,
-    X::Part: Send,
+pub fn first_apart<
+    R: Threads + Clock + Alloc<A = Global> + Sync,
+    X: Stream<Item = i64> + Drop + Sync,
+>(rt: &R, run: &Run<'_, NoGate>, numbers: X, most: u32) -> Reported
     requires { X.ready numbers }
 {
     limited(rt, run, numbers.distinct(), most)
@@ -88,34 +71,27 @@ where
 
 /// The first of the items that are above 100, of numbers times three, and what each run tells of its leaves.
 pub fn first_above_hundred<
-    R: Threads + Alloc<A = Global> + Sync,
+    R: Threads + Clock + Alloc<A = Global> + Sync,
     H: Gate + Sync,
     X: Stream<Item = i64> + Drop + Sync,
 >(rt: &R, run: &Run<'_, H>, numbers: X) -> Reported
-where
-    X::Progress: Send + Sync,
-    X::Part: Send,
     requires { X.ready numbers }
 {
     limited(rt, run, numbers.map(Times(3)).filter(Above(100)), 1)
 }
 
 // The same by the terminal alone.
-fn found_above_hundred<R: Threads + Alloc<A = Global> + Sync, X: Stream<Item = i64> + Drop + Sync>(
-    rt: &R,
-    run: &Run<'_, NoGate>,
-    numbers: X,
-) -> Result<Option<i64>, StreamError>
-where
-    X::Progress: Send + Sync,
-    X::Part: Send,
+fn found_above_hundred<
+    R: Threads + Clock + Alloc<A = Global> + Sync,
+    X: Stream<Item = i64> + Drop + Sync,
+>(rt: &R, run: &Run<'_, NoGate>, numbers: X) -> Result<Option<i64>, StreamError>
     requires { X.ready numbers }
 {
     first_of(rt, run, &numbers.map(Times(3)).filter(Above(100)))
 }
 
 // What stands before a number above 2, what follows, the second and one, and the first none.
-fn fronts<R: Threads + Abort + Alloc<A = Global> + Sync>(
+fn fronts<R: Threads + Clock + Abort + Alloc<A = Global> + Sync>(
     rt: &R,
     run: &Run<'_, NoGate>,
 ) -> Result<(), StreamError> {
@@ -143,15 +119,10 @@ static COPIES: [(&[i64], (u32, &[i64], i64)); 3] = [
 ];
 
 // How many copies of numbers there are, and the first of them.
-fn check_copies<R: Threads + Abort + Alloc<A = Global> + Sync, X: Stream<Item = i64> + Drop + Sync>(
-    rt: &R,
-    run: &Run<'_, NoGate>,
-    numbers: X,
-    row: (u32, &[i64], i64),
-) -> Result<(), StreamError>
-where
-    X::Progress: Send + Sync,
-    X::Part: Send,
+fn check_copies<
+    R: Threads + Clock + Abort + Alloc<A = Global> + Sync,
+    X: Stream<Item = i64> + Drop + Sync,
+>(rt: &R, run: &Run<'_, NoGate>, numbers: X, row: (u32, &[i64], i64)) -> Result<(), StreamError>
     requires { X.ready numbers }
 {
     let (most, wanted, number) = row;
@@ -160,7 +131,7 @@ where
     check(rt, count, number).and(check_items(rt, limited(rt, run, copies, most), wanted))
 }
 
-fn firsts<R: Threads + Abort + Alloc<A = Global> + Sync>(
+fn firsts<R: Threads + Clock + Abort + Alloc<A = Global> + Sync>(
     rt: &R,
     run: &Run<'_, NoGate>,
 ) -> Result<(), StreamError> {
@@ -174,7 +145,7 @@ fn firsts<R: Threads + Abort + Alloc<A = Global> + Sync>(
     Ok(())
 }
 
-fn reductions<R: Threads + Abort + Alloc<A = Global> + Sync>(
+fn reductions<R: Threads + Clock + Abort + Alloc<A = Global> + Sync>(
     rt: &R,
     run: &Run<'_, NoGate>,
 ) -> Result<(), StreamError> {
@@ -197,16 +168,16 @@ static LASTS: [(&[i64], i64); 4] = [
 ];
 
 // The first of some numbers, and their sum by an operator and by a collector.
-fn check_sums<R: Threads + Abort + Alloc<A = Global> + Sync, X: Stream<Item = i64> + Drop + Sync>(
+fn check_sums<
+    R: Threads + Clock + Abort + Alloc<A = Global> + Sync,
+    X: Stream<Item = i64> + Drop + Sync,
+>(
     rt: &R,
     run: &Run<'_, NoGate>,
     numbers: X,
     first: Option<i64>,
     sum: i64,
 ) -> Result<(), StreamError>
-where
-    X::Progress: Send + Sync,
-    X::Part: Send,
     requires { X.ready numbers }
 {
     check(rt, first_of(rt, run, &numbers), first)
@@ -214,7 +185,7 @@ where
         .and(check(rt, sum_of(rt, run, &numbers), sum))
 }
 
-fn ranges<R: Threads + Abort + Alloc<A = Global> + Sync>(
+fn ranges<R: Threads + Clock + Abort + Alloc<A = Global> + Sync>(
     rt: &R,
     run: &Run<'_, NoGate>,
 ) -> Result<(), StreamError> {
@@ -226,15 +197,12 @@ fn ranges<R: Threads + Abort + Alloc<A = Global> + Sync>(
 }
 
 // The last number below 10, or the identity.
-fn last_below<R: Threads + Alloc<A = Global> + Sync, X: Stream<Item = i64> + Drop + Sync>(
+fn last_below<R: Threads + Clock + Alloc<A = Global> + Sync, X: Stream<Item = i64> + Drop + Sync>(
     rt: &R,
     run: &Run<'_, NoGate>,
     numbers: X,
     identity: i64,
 ) -> Result<i64, StreamError>
-where
-    X::Progress: Send + Sync,
-    X::Part: Send,
     requires { X.ready numbers }
 {
     reduced(
@@ -247,7 +215,7 @@ where
 }
 
 /// Rows of one setting.
-pub fn rows<R: Threads + Abort + Alloc<A = Global> + Sync>(
+pub fn rows<R: Threads + Clock + Abort + Alloc<A = Global> + Sync>(
     rt: &R,
     run: &Run<'_, NoGate>,
 ) -> Result<(), StreamError> {

@@ -4,12 +4,13 @@ ghost use Rattle.std.specs.Prelude.{◌<◌, ◌^◌};
 use super::SETTINGS;
 use super::answers::{check, counted, numbers, same};
 use super::gates::Watch;
-use parallel_streams::{Run, Stream, StreamError};
-use parts::{Above, Itself};
+use parallel_streams::{Plumbing, Run, Stream, StreamError};
 use stages::{Filter, StreamFlags};
 use std::alloc::Global;
 use std::process::Abort;
 use std::thread::Threads;
+use std::time::Clock;
+use stream_functions::{Above, Itself};
 
 /// The most items of a range.
 const GREAT: i64 = 4_611_686_018_427_387_904;
@@ -27,15 +28,12 @@ static KNOWN: [(i64, (u64, u64, i64)); 5] = [
 ];
 
 // What a stream tells behind a limit: its flags, its size where it is known, and its number of items.
-fn behind_limit<R: Threads + Alloc<A = Global> + Sync, X: Stream<Item = i64> + Drop + Sync>(
+fn behind_limit<R: Threads + Clock + Alloc<A = Global> + Sync, X: Stream<Item = i64> + Drop + Sync>(
     rt: &R,
     run: &Run<'_, Watch>,
     numbers: X,
     most: u64,
 ) -> (StreamFlags, Option<u64>, Result<i64, StreamError>)
-where
-    X::Progress: Send + Sync,
-    X::Part: Send,
     requires ready { X.ready numbers }
     requires within { most < 2 ^ 63 }
 {
@@ -45,15 +43,10 @@ where
 }
 
 // Where memory is wanted the count is told all the same.
-fn check_known<R: Threads + Abort + Alloc<A = Global> + Sync, X: Stream<Item = i64> + Drop + Sync>(
-    rt: &R,
-    run: &Run<'_, Watch>,
-    numbers: X,
-    row: (u64, u64, i64),
-)
-where
-    X::Progress: Send + Sync,
-    X::Part: Send,
+fn check_known<
+    R: Threads + Clock + Abort + Alloc<A = Global> + Sync,
+    X: Stream<Item = i64> + Drop + Sync,
+>(rt: &R, run: &Run<'_, Watch>, numbers: X, row: (u64, u64, i64))
     requires { X.ready numbers }
 {
     let (skipped, most, size) = row;
@@ -65,12 +58,9 @@ where
 
 // A filter clears the size alone, whether it keeps more items than a limit or as many: `then` tells the row of its stage.
 fn check_cleared<
-    R: Threads + Abort + Alloc<A = Global> + Sync,
+    R: Threads + Clock + Abort + Alloc<A = Global> + Sync,
     X: Stream<Item = i64> + Drop + Sync,
 >(rt: &R, run: &Run<'_, Watch>, numbers: X, most: u32) -> Result<(), StreamError>
-where
-    X::Progress: Send + Sync,
-    X::Part: Send,
     requires { X.ready numbers }
 {
     let above = numbers.then(Filter::new(Above(4)));

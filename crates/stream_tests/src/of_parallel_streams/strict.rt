@@ -5,14 +5,15 @@ use super::groups::check_entries;
 use super::{Suite, at_each_setting};
 use indexmap::IndexMap;
 use parallel_streams::{MapError, Run, Stream, StreamError, of};
-use parts::{Itself, Length, Plus};
 use sources::{LinesSplit, SliceSplit};
 use stages::Mapping;
 use std::alloc::Global;
 use std::fmt::Debug;
 use std::process::Abort;
 use std::thread::Threads;
+use std::time::Clock;
 use stealing_pool::NoGate;
+use stream_functions::{Itself, Length, Plus};
 
 /// Checks the entries of a map, or the key that repeats.
 fn check_map<V: Debug + PartialEq + Drop>(
@@ -36,7 +37,7 @@ fn check_map<V: Debug + PartialEq + Drop>(
 
 // Checks the map of a stream's items by two functions.
 fn check_keyed<
-    R: Threads + Abort + Alloc<A = Global> + Sync,
+    R: Threads + Clock + Abort + Alloc<A = Global> + Sync,
     X: Stream + Drop + Sync,
     K: Mapping<X::Item, Out = i64> + Drop + Sync,
     V: Mapping<X::Item> + Drop + Sync,
@@ -49,10 +50,7 @@ fn check_keyed<
     expected: (&[i64], &[V::Out], Option<i64>),
 ) -> Result<(), StreamError>
 where
-    X::Item: Send + Sync,
-    X::Progress: Send + Sync,
-    X::Part: Send,
-    V::Out: Debug + Drop + Send,
+    V::Out: Eq + Debug + Drop + Send,
     requires stream { X.ready stream }
     requires key { K.ready key }
     requires value { V.ready value }
@@ -77,7 +75,7 @@ static LINES: [(&str, (&[i64], &[&str], Option<i64>)); 2] = [
 ];
 
 /// Rows of one setting.
-pub fn rows<R: Threads + Abort + Alloc<A = Global> + Sync>(
+pub fn rows<R: Threads + Clock + Abort + Alloc<A = Global> + Sync>(
     rt: &R,
     run: &Run<'_, NoGate>,
 ) -> Result<(), StreamError> {

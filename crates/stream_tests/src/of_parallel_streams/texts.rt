@@ -7,12 +7,13 @@ use super::{Suite, at_each_setting};
 use collectors::{GroupingBy, Joining, MappingTo, SummingLong, Teeing};
 use indexmap::IndexMap;
 use parallel_streams::{Run, Stream, StreamError, of};
-use parts::{Itself, Length};
 use sources::LinesSplit;
 use std::alloc::Global;
 use std::process::Abort;
 use std::thread::Threads;
+use std::time::Clock;
 use stealing_pool::NoGate;
+use stream_functions::{Itself, Length};
 
 /// Lines, what stands between, before and after their words, and the whole. An empty text is an item like any other.
 static JOINED: [(&str, &str, &str, &str, &str); 3] = [
@@ -27,7 +28,7 @@ static BY_LENGTH: [(&str, &[(i64, &str, i64)]); 2] = [
     ("a b\nc\na\n", &[(3, "a b", 3), (1, "c+a", 2)]),
 ];
 
-fn joined<R: Threads + Alloc<A = Global> + Sync>(
+fn joined<R: Threads + Clock + Alloc<A = Global> + Sync>(
     rt: &R,
     run: &Run<'_, NoGate>,
     lines: &str,
@@ -41,7 +42,7 @@ fn joined<R: Threads + Alloc<A = Global> + Sync>(
     words.collect(rt, alloc, run, &text)
 }
 
-fn by_length<R: Threads + Alloc<A = Global> + Sync>(
+fn by_length<R: Threads + Clock + Alloc<A = Global> + Sync>(
     rt: &R,
     run: &Run<'_, NoGate>,
     lines: &str,
@@ -66,7 +67,7 @@ fn has(found: IndexMap<i64, (String, i64)>, expected: &[(i64, &str, i64)]) -> bo
 }
 
 /// Rows of one setting.
-pub fn rows<R: Threads + Abort + Alloc<A = Global> + Sync>(
+pub fn rows<R: Threads + Clock + Abort + Alloc<A = Global> + Sync>(
     rt: &R,
     run: &Run<'_, NoGate>,
 ) -> Result<(), StreamError> {

@@ -3,12 +3,14 @@
 use super::workers::Workers;
 use super::{numbers, numbers_below, sum_of};
 use collectors::SummingLong;
-use joined_streams::collect_concat;
-use parallel_streams::{Run, Stream, StreamError};
-use parts::{Below, Itself};
+use parallel_streams::{Engine, Stream};
+use spliterator::NoMemory;
 use std::alloc::Global;
 use std::process::Abort;
 use std::thread::Threads;
+use std::time::Clock;
+use stream_functions::{Below, Itself};
+use terminals::Terminals;
 
 #[derive(Clone, Copy)]
 pub enum Behind {
@@ -31,27 +33,39 @@ impl Behind {
     }
 }
 
+// The sum of what a barrier leaves of some numbers: the front that is as long as a cut or below it, what follows, all, or all and others.
+fn sum_left<R: Threads + Clock + Alloc<A = Global> + Sync, X: Stream<Item = i64> + Drop + Sync>(
+    engine: &Engine<'_, R, Workers>,
+    all: X,
+    others: X,
+    behind: Behind,
+    cut: u32,
+) -> Result<i64, NoMemory>
+    requires all { X.ready all }
+    requires others { X.ready others }
+{
+    let (place, test) = (u64::from(cut), Below(i64::from(cut)));
+    let sum = SummingLong::new(Itself);
+    match behind {
+        Behind::Limit => all.limit(place).collect_on(engine, &sum),
+        Behind::Skip => all.skip(place).collect_on(engine, &sum),
+        Behind::TakeWhile => all.take_while(test).collect_on(engine, &sum),
+        Behind::DropWhile => all.drop_while(test).collect_on(engine, &sum),
+        Behind::Distinct => all.distinct().collect_on(engine, &sum),
+        Behind::Concat => all.concat(engine, &others, &sum),
+    }
+}
+
 /// The sum of what a barrier leaves of the numbers from 0 up to an end: those below a cut, those from it on, or all.
-pub fn sum_behind<R: Threads + Abort + Alloc<A = Global> + Sync>(
-    rt: &R,
-    run: &Run<'_, Workers>,
+pub fn sum_behind<R: Threads + Clock + Abort + Alloc<A = Global> + Sync>(
+    engine: &Engine<'_, R, Workers>,
     behind: Behind,
     end: i64,
     cut: u32,
-) -> Result<i64, StreamError> {
-    let (alloc, all) = (rt.alloc(), numbers_below(rt, end));
-    let (test, sum) = (Below(i64::from(cut)), SummingLong::new(Itself));
-    match behind {
-        Behind::Limit => all.limit(u64::from(cut)).collect(rt, alloc, run, &sum),
-        Behind::Skip => all.skip(u64::from(cut)).collect(rt, alloc, run, &sum),
-        Behind::TakeWhile => all.take_while(test).collect(rt, alloc, run, &sum),
-        Behind::DropWhile => all.drop_while(test).collect(rt, alloc, run, &sum),
-        Behind::Distinct => all.distinct().collect(rt, alloc, run, &sum),
-        Behind::Concat => {
-            let cut = numbers(rt, cut);
-            collect_concat(rt, alloc, run, &all, &cut, &sum)
-        }
-    }
+) -> Result<i64, NoMemory> {
+    let rt = engine.rt;
+    let (all, others) = (numbers_below(rt, end), numbers(rt, cut));
+    sum_left(engine, all, others, behind, cut)
 }
 
 /// Which sum that is, of so many numbers.
@@ -66,16 +80,15 @@ pub fn wanted(behind: Behind, items: u32, cut: u32) -> i64 {
 }
 
 /// Whether the sum of so many numbers is right, of which a barrier leaves all.
-pub fn is_right<R: Threads + Abort + Alloc<A = Global> + Sync>(
-    rt: &R,
-    run: &Run<'_, Workers>,
+pub fn is_right<R: Threads + Clock + Abort + Alloc<A = Global> + Sync>(
+    engine: &Engine<'_, R, Workers>,
     behind: Behind,
     items: u32,
-) -> Result<bool, StreamError> {
+) -> Result<bool, NoMemory> {
     let cut = match behind {
         Behind::Skip | Behind::DropWhile => 0,
         Behind::Limit | Behind::TakeWhile | Behind::Distinct | Behind::Concat => items,
     };
-    let found = sum_behind(rt, run, behind, i64::from(items), cut)?;
+    let found = sum_behind(engine, behind, i64::from(items), cut)?;
     Ok(found == wanted(behind, items, cut))
 }

@@ -2,13 +2,15 @@
 
 use super::workers::Workers;
 use super::{numbers, sum_of};
-use parallel_streams::{Run, Stream, StreamError};
-use parts::{Above, Below, Equal, Itself, Negated};
+use parallel_streams::{Engine, Stream};
+use spliterator::NoMemory;
 use stages::{Max, WrapAdd};
 use std::alloc::Global;
 use std::process::Abort;
 use std::thread::Threads;
-use stream_terminals::{LongTerminals, Terminals};
+use std::time::Clock;
+use stream_functions::{Above, Below, Equal, Itself, Negated};
+use terminals::{Numbers, Terminals};
 
 #[derive(Clone, Copy)]
 pub enum Fold {
@@ -28,30 +30,30 @@ pub enum Fold {
 }
 
 /// Whether the answer over so many numbers, at least one, is right. A search meets the last of them.
-pub fn is_right<R: Threads + Abort + Alloc<A = Global> + Sync>(
-    rt: &R,
-    run: &Run<'_, Workers>,
+pub fn is_right<R: Threads + Clock + Abort + Alloc<A = Global> + Sync>(
+    engine: &Engine<'_, R, Workers>,
     fold: Fold,
     items: u32,
-) -> Result<bool, StreamError> {
+) -> Result<bool, NoMemory> {
+    let rt = engine.rt;
     let (alloc, all) = (rt.alloc(), numbers(rt, items));
     let (sum, last) = (sum_of(items), i64::from(items).wrapping_sub(1));
     Ok(match fold {
-        Fold::Sum => all.sum(rt, alloc, run)? == sum,
+        Fold::Sum => all.sum(engine)? == sum,
         Fold::Summary => {
-            let told = all.summary(rt, alloc, run)?;
+            let told = all.summary(engine)?;
             (told.count, told.sum, told.greatest) == (i64::from(items), sum, Some(last))
         }
-        Fold::Reduce => all.reduce(rt, alloc, run, 0, &WrapAdd::new())? == sum,
-        Fold::ReduceOptional => all.reduce_optional(rt, alloc, run, &Max::new())? == Some(last),
-        Fold::Min => all.min(rt, alloc, run)? == Some(0),
-        Fold::Max => all.max(rt, alloc, run)? == Some(last),
-        Fold::MinByKey => all.min_by_key(rt, alloc, run, &Negated)? == Some(last),
-        Fold::MaxByKey => all.max_by_key(rt, alloc, run, &Itself)? == Some(last),
-        Fold::Count => all.filter(Above(-1)).count(rt, alloc, run)? == i64::from(items),
-        Fold::FindFirst => all.filter(Equal(last)).find_first(rt, alloc, run)? == Some(last),
-        Fold::AnyMatch => all.any_match(rt, alloc, run, &Equal(last))?,
-        Fold::AllMatch => !all.all_match(rt, alloc, run, &Below(last))?,
-        Fold::NoneMatch => !all.none_match(rt, alloc, run, &Equal(last))?,
+        Fold::Reduce => all.reduce_on(engine, 0, &WrapAdd::new())? == sum,
+        Fold::ReduceOptional => all.reduce_optional_on(engine, &Max::new())? == Some(last),
+        Fold::Min => all.min(engine)? == Some(0),
+        Fold::Max => all.max(engine)? == Some(last),
+        Fold::MinByKey => all.min_by_key(engine, &Negated)? == Some(last),
+        Fold::MaxByKey => all.max_by_key(engine, &Itself)? == Some(last),
+        Fold::Count => all.filter(Above(-1)).count_on(engine)? == i64::from(items),
+        Fold::FindFirst => all.filter(Equal(last)).find_first_on(engine)? == Some(last),
+        Fold::AnyMatch => all.any_match_on(engine, &Equal(last))?,
+        Fold::AllMatch => !all.all_match_on(engine, &Below(last))?,
+        Fold::NoneMatch => !all.none_match_on(engine, &Equal(last))?,
     })
 }

@@ -2,14 +2,15 @@
 
 use super::numbers;
 use super::workers::Workers;
-use parallel_streams::{MapError, Run, Stream, StreamError, of};
-use parts::{Divisor, Itself, Modulo, Times};
-use sorted_streams::{FirstSorted, sorted, sorted_by_key, to_sorted_list};
+use parallel_streams::{Engine, MapError, Stream, of};
 use sources::SliceSplit;
+use spliterator::NoMemory;
 use std::alloc::Global;
 use std::process::Abort;
 use std::thread::Threads;
-use stream_terminals::Terminals;
+use std::time::Clock;
+use stream_functions::{Divisor, Itself, Modulo, Times};
+use terminals::{FirstSorted, Terminals, to_sorted_list};
 
 #[derive(Clone, Copy)]
 pub enum List {
@@ -58,68 +59,68 @@ fn are_by_digits(list: &[i64], end: i64) -> bool {
 }
 
 /// How many entries the map of the numbers to themselves has.
-fn entries<R: Threads + Abort + Alloc<A = Global> + Sync>(
-    rt: &R,
-    run: &Run<'_, Workers>,
+fn entries<R: Threads + Clock + Abort + Alloc<A = Global> + Sync>(
+    engine: &Engine<'_, R, Workers>,
     items: u32,
-) -> Result<usize, StreamError> {
-    let made = numbers(rt, items).to_map_strict(rt, rt.alloc(), run, &Itself, &Itself);
+) -> Result<usize, NoMemory> {
+    let rt = engine.rt;
+    let made = numbers(rt, items).to_map_strict(rt, rt.alloc(), &engine.run, &Itself, &Itself);
     match made {
         Ok(map) => Ok(map.len()),
         Err(MapError::DuplicateKey(_)) => Ok(0),
-        Err(_) => Err(StreamError::NoMemory),
+        Err(_) => Err(NoMemory),
     }
 }
 
 /// The length of so many texts of one byte, joined by one.
-fn joined_length<R: Threads + Abort + Alloc<A = Global> + Sync>(
-    rt: &R,
-    run: &Run<'_, Workers>,
+fn joined_length<R: Threads + Clock + Abort + Alloc<A = Global> + Sync>(
+    engine: &Engine<'_, R, Workers>,
     items: u32,
-) -> Result<usize, StreamError> {
+) -> Result<usize, NoMemory> {
+    let rt = engine.rt;
     let mut texts = Vec::with_capacity(rt.alloc(), items as usize)?;
     for _ in 0..items {
         texts.push("a")?;
     }
-    let joined = of(SliceSplit::new(texts.as_slice())).joining(rt, rt.alloc(), run, "-")?;
+    let joined = of(SliceSplit::new(texts.as_slice())).joining(engine, "-")?;
     Ok(joined.len())
 }
 
 /// Whether the answer over so many numbers, at least one and no multiple of the prime number, is right. What is sorted whole came in another order.
-pub fn is_right<R: Threads + Abort + Alloc<A = Global> + Sync>(
-    rt: &R,
-    run: &Run<'_, Workers>,
+pub fn is_right<R: Threads + Clock + Abort + Alloc<A = Global> + Sync>(
+    engine: &Engine<'_, R, Workers>,
     list: List,
     items: u32,
-) -> Result<bool, StreamError> {
+) -> Result<bool, NoMemory> {
+    let rt = engine.rt;
     let (alloc, all) = (rt.alloc(), numbers(rt, items));
     Ok(match list {
-        List::ToList => are_all(all.to_list(rt, alloc, run)?.as_slice(), items),
-        List::ToSet => all.to_set(rt, alloc, run)?.len() == items as usize,
+        List::ToList => are_all(all.to_list(engine)?.as_slice(), items),
+        List::ToSet => all.to_set(engine)?.len() == items as usize,
         List::ForEachOrdered => {
             let mut seen = Vec::new(alloc);
-            all.for_each_ordered(rt, alloc, run, &mut seen)?;
+            all.for_each_ordered(engine, &mut seen)?;
             are_all(seen.as_slice(), items)
         }
-        List::Joining => joined_length(rt, run, items)?
+        List::Joining => joined_length(engine, items)?
             == (items as usize).wrapping_mul(2).wrapping_sub(1),
-        List::StrictMap => entries(rt, run, items)? == items as usize,
+        List::StrictMap => entries(engine, items)? == items as usize,
         List::Sorted => {
             let shuffled = all.map(Times(PRIME)).map(below(items));
-            are_all(sorted(rt, alloc, run, &shuffled)?.as_slice(), items)
+            are_all(shuffled.sorted(engine)?.as_slice(), items)
         }
         List::SortedByKey => {
-            let found = sorted_by_key(rt, alloc, run, &all, &Modulo::by(10))?;
+            let found = all.sorted_by_key(engine, &Modulo::by(10))?;
             found.len() == items as usize && are_by_digits(found.as_slice(), i64::from(items))
         }
         List::FirstSorted => {
             let first = FirstSorted::<i64, _>::new(alloc, Itself, 100);
-            let found = all.collect(rt, alloc, run, &first)?;
+            let found = all.collect_on(engine, &first)?;
             are_all(found.as_slice(), items.min(100))
         }
         List::SortedList => {
             let shuffled = all.map(Times(PRIME)).map(below(items));
-            let found = shuffled.collect(rt, alloc, run, &to_sorted_list::<i64>(alloc))?;
+            let found = shuffled.collect_on(engine, &to_sorted_list::<i64>(alloc))?;
             are_all(found.as_slice(), items)
         }
     })

@@ -1,19 +1,21 @@
 //! Each terminal operation of the libraries, and each barrier, over the numbers from 0 on: how many leaves and how many workers there are.
 //! checks/memory.py runs one of them by its name over many numbers, and counts the memory that it takes.
 
+mod apart;
 mod behind;
 mod folds;
 mod lists;
-mod two_behind;
 mod workers;
 
-use parallel_streams::{Run, Source, Stream, StreamError, of};
+use parallel_streams::{Engine, Run, Source, Stream, StreamError, of};
 use sources::RangeSplit;
+use spliterator::NoMemory;
 use std::alloc::Global;
 use std::env;
 use std::process::Abort;
 use std::test::Fail;
 use std::thread::Threads;
+use std::time::Clock;
 use workers::Workers;
 
 /// A terminal operation, or one behind a barrier.
@@ -41,16 +43,15 @@ fn sum_of(items: u32) -> i64 {
 }
 
 /// Whether the answer over so many numbers is right.
-fn is_right<R: Threads + Abort + Alloc<A = Global> + Sync>(
-    rt: &R,
-    run: &Run<'_, Workers>,
+fn is_right<R: Threads + Clock + Abort + Alloc<A = Global> + Sync>(
+    engine: &Engine<'_, R, Workers>,
     terminal: Terminal,
     items: u32,
-) -> Result<bool, StreamError> {
+) -> Result<bool, NoMemory> {
     match terminal {
-        Terminal::Fold(fold) => folds::is_right(rt, run, fold, items),
-        Terminal::List(list) => lists::is_right(rt, run, list, items),
-        Terminal::Behind(behind) => behind::is_right(rt, run, behind, items),
+        Terminal::Fold(fold) => folds::is_right(engine, fold, items),
+        Terminal::List(list) => lists::is_right(engine, list, items),
+        Terminal::Behind(behind) => behind::is_right(engine, behind, items),
     }
 }
 
@@ -91,11 +92,7 @@ static ALL: [(&str, Terminal, u64); 28] = [
     ("take_while", Terminal::Behind(behind::Behind::TakeWhile), 2),
     ("drop_while", Terminal::Behind(behind::Behind::DropWhile), 2),
     ("distinct", Terminal::Behind(behind::Behind::Distinct), 2),
-    (
-        "collect_concat",
-        Terminal::Behind(behind::Behind::Concat),
-        2,
-    ),
+    ("concat", Terminal::Behind(behind::Behind::Concat), 2),
 ];
 
 /// Workers, a target, and how many leaves the split rule cuts 40 items into.
@@ -118,7 +115,8 @@ fn each_has_its_workers_and_leaves(rt: HostRuntime) -> Result<(), StreamError> {
                 target,
                 gate,
             };
-            let is_right = is_right(&rt, &run, terminal, 40)?;
+            let engine = Engine::new(&rt, rt.alloc(), &run)?;
+            let is_right = is_right(&engine, terminal, 40)?;
             let counts = gate.counts();
             assert!(rt;
                 is_right && counts == (runs.wrapping_mul(leaves), 0),
@@ -150,24 +148,25 @@ fn the_named_are_right(rt: HostRuntime) -> Result<(), Fail> {
                 target: 0,
                 gate: &Workers::new(0, 1),
             };
-            assert!(rt; is_right(&rt, &run, terminal, items)?, "{name}");
+            let engine = Engine::new(&rt, rt.alloc(), &run)?;
+            assert!(rt; is_right(&engine, terminal, items)?, "{name}");
         }
     }
     Ok(())
 }
 
 /// Each barrier over so many numbers, cut at a place or number.
-fn check_cut<R: Threads + Abort + Alloc<A = Global> + Sync>(
-    rt: &R,
-    run: &Run<'_, Workers>,
+fn check_cut<R: Threads + Clock + Abort + Alloc<A = Global> + Sync>(
+    engine: &Engine<'_, R, Workers>,
     items: u32,
     cut: u32,
-) -> Result<(), StreamError> {
+) -> Result<(), NoMemory> {
+    let rt = engine.rt;
     for &(name, terminal, _) in &ALL {
         let Terminal::Behind(behind) = terminal else {
             continue;
         };
-        let found = behind::sum_behind(rt, run, behind, i64::from(items), cut)?;
+        let found = behind::sum_behind(engine, behind, i64::from(items), cut)?;
         let wanted = behind::wanted(behind, items, cut);
         assert!(rt;
             found == wanted,
@@ -180,7 +179,6 @@ fn check_cut<R: Threads + Abort + Alloc<A = Global> + Sync>(
 // Segments end where there are 2,560, 5,120 and 10,240 of 20,480 numbers.
 #[test]
 fn barriers_cut_at_each_place_of_segments(rt: HostRuntime) -> Result<(), StreamError> {
-    let numbers: Vec<i64> = (0..20_480).collect(rt.alloc())?;
     for workers in [1, 2, 7, 64] {
         let gate = &Workers::new(0, 1);
         let run = Run {
@@ -188,13 +186,16 @@ fn barriers_cut_at_each_place_of_segments(rt: HostRuntime) -> Result<(), StreamE
             target: 0,
             gate,
         };
+        let engine = Engine::new(&rt, rt.alloc(), &run)?;
         for items in [0, 20_480] {
             for cut in [
                 0, 1, 2_559, 2_560, 2_561, 5_119, 5_120, 10_241, 20_479, 20_480, 20_481,
             ] {
-                check_cut(&rt, &run, items, cut)?;
-                let slice: &[i64] = if items == 0 { &[] } else { &numbers };
-                two_behind::check(&rt, &run, i64::from(items), slice, cut)?;
+                check_cut(&engine, items, cut)?;
+                assert!(&rt;
+                    apart::are_right(&engine, i64::from(items), cut)?,
+                    "{cut} of {items}"
+                );
             }
         }
     }
@@ -214,7 +215,8 @@ fn long_segments_have_all_workers(rt: HostRuntime) -> Result<(), StreamError> {
             target: 0,
             gate,
         };
-        let is_right = is_right(&rt, &run, terminal, 1 << 17)?;
+        let engine = Engine::new(&rt, rt.alloc(), &run)?;
+        let is_right = is_right(&engine, terminal, 1 << 17)?;
         let (_, missed) = gate.counts();
         assert!(rt;
             is_right && missed == 0 && gate.workers() == 4,
@@ -233,14 +235,15 @@ fn fronts_of_a_great_source_end(rt: HostRuntime) -> Result<(), StreamError> {
         target: 0,
         gate: &Workers::new(0, 1),
     };
+    let engine = Engine::new(&rt, rt.alloc(), &run)?;
     for cut in [0, 1, 5_000, 100_000] {
         for behind in [behind::Behind::Limit, behind::Behind::TakeWhile] {
-            let found = behind::sum_behind(&rt, &run, behind, end, cut)?;
+            let found = behind::sum_behind(&engine, behind, end, cut)?;
             assert!(rt; found == sum_of(cut), "{cut}: {found}");
         }
-        two_behind::check(&rt, &run, end, &[], cut)?;
+        assert!(rt; apart::are_right(&engine, end, cut)?, "{cut}");
         let behind = numbers_below(&rt, end).skip(u64::from(cut));
-        let found = behind.find_first(&rt, rt.alloc(), &run)?;
+        let found = behind.find_first_on(&engine)?;
         assert!(rt; found == Some(i64::from(cut)), "{cut}: {found:?}");
     }
     Ok(())

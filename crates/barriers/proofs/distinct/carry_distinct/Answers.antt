@@ -13,7 +13,7 @@ within g c =
     let ran = c.in_ok-extend.ensures.ran in
     let all : c.extend.new.self.keys ≡ fold (insert_key eq) old c.args.items.items =
     ran.3.0 ∙ ap (fold (insert_key eq) old) (Drains-YieldsInOrder _ _ ran.0 ran.1 ran.2.3 ran.4 ∙ ran.2.0) in
-    let longer = known-within g.T.Value.same g.met.T.Value.same_decides g.T.Value.content eq g.met.T.Value.eq_is_same old c.extend.new.self.keys c.args.items.items all in
+    let longer = known-within g.T.Value.same g.met.T.Value.same_decides g.T.Value.content eq g.met.T.EqualValue.eq_is_same old c.extend.new.self.keys c.args.items.items all in
     omega (arith, longer, c.len-known.ensures.len, ap length c.as_slice.ensures.keys)
 
 pub offset_bounds-as_slice-known : goal.offset_bounds-as_slice-known
@@ -38,7 +38,7 @@ returns g c = λ more.
     ran.3.0 ∙ ap (fold (insert_key eq) old) (Drains-YieldsInOrder _ _ ran.0 ran.1 ran.2.3 ran.4 ∙ ran.2.0) in
     let clones : map content c.in_ok-from_clones.field-0.items ≡ map content (take (length slice - known) (drop known slice)) =
     clones-contents g.T.Clone.is_clone content c.requires _ _ c.in_ok-from_clones.ensures.items in
-    distinct-goes_on g.T.Value.same g.met.T.Value.same_decides content eq g.met.T.Value.eq_is_same old now c.args.items.items (map content c.in_ok-from_clones.field-0.items) more all
+    distinct-goes_on g.T.Value.same g.met.T.Value.same_decides content eq g.met.T.EqualValue.eq_is_same old now c.args.items.items (map content c.in_ok-from_clones.field-0.items) more all
     (clones
     ∙ ap (map content) (all-behind known slice)
     ∙ ap (λ l. map content (drop known l)) c.as_slice.ensures.keys

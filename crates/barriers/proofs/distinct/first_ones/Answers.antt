@@ -13,4 +13,4 @@ returns g c =
     ran.3.0 ∙ ap (fold (insert_key eq) c.args.empty.keys) (Drains-YieldsInOrder _ _ ran.0 ran.1 ran.2.3 ran.4 ∙ ran.2.0) in
     let items : c.in_ok-collect.field-0.items ≡ c.extend.new.self.keys = search rules in
     let kept : c.in_ok-collect.field-0.items ≡ fold (insert_key eq) [] given = items ∙ all ∙ ap (λ keys. fold (insert_key eq) keys given) c.requires in
-    ap (map g.T.Value.content) kept ∙ kept-distinct g.T.Value.same g.met.T.Value.same_decides g.T.Value.content eq g.met.T.Value.eq_is_same given
+    ap (map g.T.Value.content) kept ∙ kept-distinct g.T.Value.same g.met.T.Value.same_decides g.T.Value.content eq g.met.T.EqualValue.eq_is_same given

@@ -15,6 +15,6 @@ returns g c =
     let absent : lookup (g.K.PartialEq.eq c.args.key) es ≡ None = absent-place g.K.PartialEq.eq c.args.key es c.requires.absent in
     on_ok_weaker c.push.result
     (λ pushed. ap (contents keys kept) pushed
-    ∙ put-insert_entry g.K.PartialEq.eq g.K.Value.same keys kept g.met.K.Value.eq_is_same c.args.key c.in_ok-kept.kept (λ a. g.D.Collector.add d a x) es absent
+    ∙ put-insert_entry g.K.PartialEq.eq g.K.Value.same keys kept g.met.K.EqualValue.eq_is_same c.args.key c.in_ok-kept.kept (λ a. g.D.Collector.add d a x) es absent
     ∙ ap (λ a. put g.K.Value.same (keys c.args.key) a (λ a. g.D.Collector.add d a x) (contents keys kept es)) c.in_ok-kept.ensures)
     c.push.ensures

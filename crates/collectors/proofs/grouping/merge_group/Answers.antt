@@ -15,7 +15,7 @@ returns-in-Some g c =
     let written = c.get_mut.follows.holds c.combine.new.left in
     on_ok_weaker c.combine.result
     (λ merged. ap (contents keys kept) written.0
-    ∙ put-set_value g.K.PartialEq.eq g.K.Value.same keys kept g.met.K.Value.eq_is_same c.args.group.0 c.in-Some.earlier.now c.combine.new.left
+    ∙ put-set_value g.K.PartialEq.eq g.K.Value.same keys kept g.met.K.EqualValue.eq_is_same c.args.group.0 c.in-Some.earlier.now c.combine.new.left
     later (λ a. g.D.Collector.merge d a later) merged c.args.left.now.entries (sym c.in-Some.ensures.value))
     c.combine.ensures
 
@@ -29,6 +29,6 @@ returns g c =
     let absent : lookup (g.K.PartialEq.eq c.args.group.0) es ≡ None = sym c.in_default.ensures.value in
     on_ok_weaker c.add_entry.result
     (λ added. ap (contents keys kept) (added ∙ ap (λ es. insert_entry g.K.PartialEq.eq es c.args.group.0 c.args.group.1) unchanged)
-    ∙ put-insert_entry g.K.PartialEq.eq g.K.Value.same keys kept g.met.K.Value.eq_is_same c.args.group.0 c.args.group.1
+    ∙ put-insert_entry g.K.PartialEq.eq g.K.Value.same keys kept g.met.K.EqualValue.eq_is_same c.args.group.0 c.args.group.1
     (λ a. g.D.Collector.merge d a (kept c.args.group.1)) es absent)
     c.add_entry.ensures

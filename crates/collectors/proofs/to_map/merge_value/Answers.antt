@@ -15,7 +15,7 @@ returns-in-Some g c =
     let written = c.get_mut.follows.holds c.join_into.new.joined in
     on_ok_weaker c.join_into.result
     (λ joined. ap (contents keys values) written.0
-    ∙ put-set_value g.K.PartialEq.eq g.K.Value.same keys values g.met.K.Value.eq_is_same c.args.entry.0 c.in-Some.earlier.now c.join_into.new.joined
+    ∙ put-set_value g.K.PartialEq.eq g.K.Value.same keys values g.met.K.EqualValue.eq_is_same c.args.entry.0 c.in-Some.earlier.now c.join_into.new.joined
     value (λ a. join a value) joined c.args.map.now.entries (sym c.in-Some.ensures.value))
     c.join_into.ensures
 
@@ -29,6 +29,6 @@ returns g c =
     let absent : lookup (g.K.PartialEq.eq c.args.entry.0) es ≡ None = sym c.in_default.ensures.value in
     on_ok_weaker c.add_entry.result
     (λ added. ap (contents keys values) (added ∙ ap (λ es. insert_entry g.K.PartialEq.eq es c.args.entry.0 c.args.entry.1) unchanged)
-    ∙ put-insert_entry g.K.PartialEq.eq g.K.Value.same keys values g.met.K.Value.eq_is_same c.args.entry.0 c.args.entry.1
+    ∙ put-insert_entry g.K.PartialEq.eq g.K.Value.same keys values g.met.K.EqualValue.eq_is_same c.args.entry.0 c.args.entry.1
     (λ a. join a (values c.args.entry.1)) es absent)
     c.add_entry.ensures

@@ -1,5 +1,5 @@
 -- The digits reach up to the space.
-use Rattle.std.proofs.Common.{◌≡◌, ◌∙◌, ◌+◌, ◌-◌, ◌≤◌, ℕ, refl, List, All, false, length, take, drop, get_or, ap, subst, arith, le_refl}
+use Rattle.std.proofs.Common.{◌≡◌, ◌∙◌, ◌+◌, ◌-◌, ◌≤◌, ℕ, List, All, false, length, take, drop, get_or, ap, subst, arith, le_refl}
 use Rattle.std.specs.Prelude.{◌==◌}
 use Rattle.std.proofs.lemmas.List.{get_or-drop}
 use Rattle.std.proofs.lemmas.Slice.{between_to_end}
@@ -16,7 +16,7 @@ returns-then-sign-count c =
     let end : ℕ = c.in_ok-end.end in
     let digits : List ℕ = take (length line - sign) (drop sign line) in
     let rest : digits ≡ drop sign line = between_to_end line sign (length line) (le_refl _) in
-    let split : IsSplit line digits sign = split_line line digits sign c.sign_len-sign.ensures refl in
+    let split : IsSplit line digits sign = split_line line sign c.sign_len-sign.ensures in
     let count : ℕ = c.read_digits-count.result.0 in
     let value : ℕ = c.read_digits-count.result.1 in
     let e = c.read_digits-count.ensures in

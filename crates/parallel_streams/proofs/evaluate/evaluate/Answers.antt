@@ -7,7 +7,7 @@ returns g c =
     let ran = c.in_ok-progress in
     let planned = begun.planned refl in
     record {
-      lists = g.X.Stream.parts c.args.stream.now ran.progress;
+      lists = g.X.Plumbing.parts c.args.stream.now ran.progress;
       cut = ran.ensures.cut planned;
       joins = ran.ensures.whole planned;
       before = ran.entries.items;

@@ -17,12 +17,12 @@ returns-in-Some-clause-run g c =
     let told = c.in-Some.ensures in
     let list = map content listed.items.items in
     let joins = ap joined told.parts ∙ joined-listed content listed (told.cut c.requires.holds) in
-    idle-run-ok g.X.Item.Value.is_value (C.empty taker) (C.add taker) (C.content taker) (g.X.Stream.parts c.args.stream.now c.args.progress.now) list list (ends_of listed.places)
+    idle-run-ok g.X.Item.Value.is_value (C.empty taker) (C.add taker) (C.content taker) (g.X.Plumbing.parts c.args.stream.now c.args.progress.now) list list (ends_of listed.places)
     c.hand_over.result joins refl told.parts c.hand_over.ensures.acc c.hand_over.ensures.entry
 
 pub returns-in-None-clause-run : goal.returns-in-None-clause-run
 returns-in-None-clause-run g c =
-    let X = g.X.Stream in
+    let X = g.X.Plumbing in
     let C = g.C.Collector in
     let s = c.args.stream.now in
     let taker = c.args.collector.now in

@@ -6,8 +6,8 @@ pub loop-leaf-preserved : goal.loop-leaf-preserved
 loop-leaf-preserved g c =
     let stream = c.args.stream.now in
     let progress = c.args.progress.now in
-    let parts = g.X.Stream.parts stream progress in
-    let number = g.met.X.Stream.parts_count stream progress c.requires.done in
+    let parts = g.X.Plumbing.parts stream progress in
+    let number = (g.met.X.Plumbing g.world.𝓛 g.world.𝓜 g.world.𝓡 ((λ s x. x), (λ x. x), (λ x. x), λ x. x)).parts_count stream progress c.requires.done in
     let within : c.loop-leaf.leaf < length parts = omega (arith, c.loop-leaf-test.true, c.leaves-leaf-end.ensures, number) in
     listed-one g.X.Item.Value.content parts c.loop-leaf.leaf [] c.loop-leaf.list.items c.feed_last_leaf-fed.new.sink.items within c.loop-leaf.invariant c.in_ok-fed.ensures
 

@@ -4,4 +4,4 @@ use Rattle.stealing_pool.specs.Spans.{joined}
 use Rattle.parallel_streams.proofs.handover.list_leaves.Given as goal
 
 abbrev pub invariant-loop-leaf : goal.invariant-loop-leaf
-invariant-loop-leaf g l = Appends g.X.Item.Value.content (joined (take l.leaf (g.X.Stream.parts l.stream l.progress))) [] l.list.items
+invariant-loop-leaf g l = Appends g.X.Item.Value.content (joined (take l.leaf (g.X.Plumbing.parts l.stream l.progress))) [] l.list.items

@@ -4,14 +4,14 @@ use Rattle.parallel_streams.specs.Reading.{ReadsLittle}
 use Rattle.parallel_streams.proofs.segments.collect_segments.Given as goal
 
 -- what was read is in the container, and stands before what is behind; and it is little
-abbrev pub invariant-loop-alloc : goal.invariant-loop-alloc
-invariant-loop-alloc g l =
+abbrev pub invariant-loop-extent : goal.invariant-loop-extent
+invariant-loop-extent g l =
     let made : List g.row.X-Item-Content.Denot → g.row.C-Acc.Denot → Type 0 = IsContainerOf g.X.Item.Value.is_value (g.C.Collector.content l.collector) (g.C.Collector.empty l.collector) (g.C.Collector.add l.collector) in
     record {
-      holds : g.X.Stream.holds l.stream l.progress;
-      taken : (done : List g.row.X-Item-Content.Denot) × (g.X.Stream.value l.stream ≡ done ++ g.X.Stream.behind l.stream l.progress) × made done l.whole;
-      read : (n : ℕ) × g.X.Stream.read l.stream l.progress n × (g.X.Stream.fine l.stream → ReadsLittle (g.X.Stream.decided l.stream) n);
+      holds : g.X.Plumbing.holds l.stream l.progress;
+      taken : (done : List g.row.X-Item-Content.Denot) × (g.X.Plumbing.value l.stream ≡ done ++ g.X.Plumbing.behind l.stream l.progress) × made done l.whole;
+      read : (n : ℕ) × g.X.Plumbing.read l.stream l.progress n × (g.X.Plumbing.fine l.stream → ReadsLittle (g.X.Plumbing.decided l.stream) n);
     }
 
-abbrev pub decreases-loop-alloc : goal.decreases-loop-alloc
-decreases-loop-alloc g l = g.X.Stream.still l.stream l.progress
+abbrev pub decreases-loop-extent : goal.decreases-loop-extent
+decreases-loop-extent g l = g.X.Plumbing.still l.stream l.progress

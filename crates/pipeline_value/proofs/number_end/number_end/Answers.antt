@@ -29,5 +29,5 @@ returns-in-ToMap g c = rw c.in-ToMap.is (search rules fits 200 depth 4)
 pub returns-in-ToMapStrict : goal.returns-in-ToMapStrict
 returns-in-ToMapStrict g c =
     let P : Told → Type 0 = λ told. Tells told c.strict_value.result in
-    let numbers = g.X.Stream.value c.args.stream.now in
+    let numbers = g.X.Plumbing.value c.args.stream.now in
     rw c.in-ToMapStrict.is (subst P (ap₂ (λ key value. strict_told signed_decimal signed_decimal int_eq key value numbers) c.of-in-ToMapStrict.ensures c.of-in-ToMapStrict-2.ensures) c.strict_value.ensures)

@@ -28,12 +28,12 @@ pub returns-in-Own-Plain : goal.returns-in-Own-Plain
 returns-in-Own-Plain g c =
     let outer : c.args.terminal.now ≡ Own c.in-Own-Plain.field-0 = c.in-Own-Plain.is in
     let inner : c.in-Own-Plain.field-0 ≡ Plain c.in-Own-Plain.between = rw outer at c.in-Own-Plain.field-0-is in
-    rw (outer, inner) (c.ran_text-in-Own-Plain.ensures _ (IfOk-weaker c.collect-in-Own-Plain.result _ _ (λ text is. (rw (c.requires.spelling, c.new-joining.ensures.front, c.new-joining.ensures.between, c.new-joining.ensures.back) at is) ∙ append-nil _ ∙ ap (delimited c.in-Own-Plain.between.now) (map-id (g.X.Stream.value c.args.stream.now))) c.collect-in-Own-Plain.ensures.value))
+    rw (outer, inner) (c.ran_text-in-Own-Plain.ensures _ (IfOk-weaker c.collect-in-Own-Plain.result _ _ (λ text is. (rw (c.requires.spelling, c.new-joining.ensures.front, c.new-joining.ensures.between, c.new-joining.ensures.back) at is) ∙ append-nil _ ∙ ap (delimited c.in-Own-Plain.between.now) (map-id (g.X.Plumbing.value c.args.stream.now))) c.collect-in-Own-Plain.ensures.value))
 
 pub returns-in-Own-Within : goal.returns-in-Own-Within
 returns-in-Own-Within g c =
     let outer : c.args.terminal.now ≡ Own c.in-Own-Within.field-0 = c.in-Own-Within.is in
     let inner : c.in-Own-Within.field-0 ≡ Within c.in-Own-Within.between c.in-Own-Within.front c.in-Own-Within.back = rw outer at c.in-Own-Within.field-0-is in
     rw (outer, inner) (c.ran_text-in-Own-Within.ensures _ (IfOk-weaker c.collect-in-Own-Within.result _ _
-    (λ text is. (rw (c.requires.spelling, c.within-joining.ensures.front, c.within-joining.ensures.between, c.within-joining.ensures.back) at is) ∙ ap (λ t. c.in-Own-Within.front.now ++ t ++ c.in-Own-Within.back.now) (ap (delimited c.in-Own-Within.between.now) (map-id (g.X.Stream.value c.args.stream.now))))
+    (λ text is. (rw (c.requires.spelling, c.within-joining.ensures.front, c.within-joining.ensures.between, c.within-joining.ensures.back) at is) ∙ ap (λ t. c.in-Own-Within.front.now ++ t ++ c.in-Own-Within.back.now) (ap (delimited c.in-Own-Within.between.now) (map-id (g.X.Plumbing.value c.args.stream.now))))
     c.collect-in-Own-Within.ensures.value))

@@ -1,7 +1,6 @@
 use Rattle.std.specs.Fmt.{signed_decimal}
 use Rattle.std.proofs.Common.{rules, ◌≡◌, ℕ, List, Ok, ap, map, of_z, subst, sym, to_z, w64, ◌∙◌}
 use Rattle.pipeline_meaning.specs.Stages.{text_stages}
-use Rattle.pipeline_plan.specs.Agreement.{texts-planned}
 use Rattle.pipeline_value.specs.Typed.{text_end_told}
 use Rattle.pipeline_value.specs.Value.{Tells}
 use Rattle.pipeline_value.proofs.texts.text_value.Goals as goal
@@ -14,13 +13,12 @@ returns-in-Some g c =
     let same : to_z w64 (of_z w64 count) ≡ count = search rules in
     let counted : Tells (Ok (signed_decimal count)) c.told.result = rw same at c.told.ensures in
     let told = subst (λ t. Tells t c.told.result) (sym (c.in-Some.ensures _ c.outlook_of.ensures)) counted in
-    subst Q (c.optimised.ensures ∙ sym (texts-planned stages (map (λ t. t.now) c.new.result.items.now)) ∙ ap (text_stages stages) c.new.ensures) told
+    subst Q (c.optimised.ensures ∙ ap (text_stages stages) c.new.ensures) told
 
 pub returns : goal.returns
 returns g c =
     let stages = c.args.body.stages.items in
-    let kept = c.optimised.new.plan.stages.items in
     let items = map (λ t. t.now) c.optimised.new.plan.source.source.items.now in
     let Q : List (List ℕ) → Type 0 = λ l. Tells (text_end_told c.args.body.end l) c.end_value.result in
-    subst Q (rw c.as_slice.ensures.value at (c.in_ok-linked.ensures.means items) ∙ texts-planned kept items ∙ c.optimised.ensures ∙ sym (texts-planned stages (map (λ t. t.now) c.new.result.items.now)) ∙ ap (text_stages stages) c.new.ensures)
+    subst Q (rw c.as_slice.ensures.value at (c.in_ok-linked.ensures.means items) ∙ c.optimised.ensures ∙ ap (text_stages stages) c.new.ensures)
     (rw (c.then.ensures.upstream, c.then.ensures.stage, c.of.ensures) at c.end_value.ensures)

@@ -5,7 +5,7 @@ use Rattle.pipeline_value.proofs.totals.total_value.Goals as goal
 
 pub returns-in-Sum : goal.returns-in-Sum
 returns-in-Sum g c =
-    let l = g.X.Stream.value c.args.stream.now in
+    let l = g.X.Plumbing.value c.args.stream.now in
     rw c.in-Sum.is (c.ran_told.ensures _ (IfOk-weaker c.collect.result _ _ (λ n is. is ∙ sym (total (λ x. x) l)) c.collect.ensures.value))
 
 pub returns-in-Product : goal.returns-in-Product

@@ -1,7 +1,7 @@
-use Rattle.std.proofs.Common.{rules, ◌≡◌, ◌<◌, ◌∷◌, ℕ, [], length, slice_index_or}
+use Rattle.std.proofs.Common.{rules, ◌<◌, ℕ, length, slice_index_or}
 use denote.Param.Send.{sendable}
 use Rattle.std.proofs.lemmas.Result.{IfOk-at_ok}
-use Rattle.stealing_pool.proofs.Shifts.{each_of_all, head_of_each, put_before, tail_of_each}
+use Rattle.stealing_pool.proofs.Shifts.{each_of_made, head_of_each, tail_of_each}
 use Rattle.stealing_pool.proofs.crew.+starts.Goals as goal
 
 pub join-shift-requires-after_bounds : goal.join-shift-requires-after_bounds
@@ -33,9 +33,6 @@ pub returns-clause-each : goal.returns-clause-each
 returns-clause-each g t c =
     let Gives = g.W.Worker.gives c.args.worker.now in
     let seats = c.next.new.self.rest.items in
-    let mine : c.push.new.self.items ≡ c.join-shift.result.0 ∷ [] = search rules in
-    let others = c.in_ok-others.field-0.items in
-    let made : c.append.new.self.items ≡ c.join-shift.result.0 ∷ others = put_before c.join-shift.result.0 c.push.new.self.items others c.append.new.self.items mine c.in_ok-append.ensures.items in
-    each_of_all Gives c.in-Some.seat seats c.args.seats.rest.items c.join-shift.result.0 others c.append.new.self.items c.in-Some.ensures.items made
-    c.join-shift.ensures.first
-    (IfOk-at_ok (λ v. (k : ℕ) (d : _) (e : _) → k < length seats → Gives (slice_index_or seats k d) (slice_index_or v.items k e)) c.in_ok-others.was c.join-shift.ensures.second.1)
+    let behind : (k : ℕ) (d : _) (e : _) → k < length seats → Gives (slice_index_or seats k d) (slice_index_or c.in_ok-others.field-0.items k e) =
+    IfOk-at_ok (λ v. (k : ℕ) (d : _) (e : _) → k < length seats → Gives (slice_index_or seats k d) (slice_index_or v.items k e)) c.in_ok-others.was c.join-shift.ensures.second.1 in
+    each_of_made Gives c.in-Some.seat seats c.args.seats.rest.items c.join-shift.result.0 c.in_ok-others.field-0.items c.put_first.result c.in-Some.ensures.items c.put_first.ensures c.join-shift.ensures.first behind

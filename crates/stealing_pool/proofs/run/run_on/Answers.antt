@@ -7,7 +7,7 @@ use Rattle.stealing_pool.proofs.run.run_on.Goals as goal
 
 pub sort_shifts-requires : goal.sort_shifts-requires
 sort_shifts-requires g c =
-    shifts_within (g.J.LeafJob.work c.args.job.now) (g.B.Handout.is_of c.args.opened.board) g.B.Handout.number g.B.Handout.status g.B.Handout.drained g.B.Handout.made_cut c.args.opened.seats.items c.in_ok-shifts.shifts.items c.in_ok-shifts.ensures.len c.in_ok-shifts.ensures.each c.leaves.result c.leaves.ensures
+    shifts_within (g.J.LeafJob.work c.args.job.now) (g.B.Handout.is_of c.args.opened.board) g.B.Handout.number g.B.Handout.status g.B.Handout.drained g.B.Handout.made_cut c.args.opened.seats.items c.in_ok-shifts.shifts.items c.in_ok-shifts.ensures.len c.in_ok-shifts.ensures.each c.leaves-2.result c.leaves-2.ensures
 
 pub close-record-requires : goal.close-record-requires
 close-record-requires g c = record {
@@ -17,7 +17,7 @@ close-record-requires g c = record {
 }
 
 pub pick_row-requires-clause-all : goal.pick_row-requires-clause-all
-pick_row-requires-clause-all g c = placed_len c.leaves.result c.in_ok-shifts.shifts.items c.in_ok-seats.places.items c.in_ok-seats.ensures.places ∙ c.leaves.ensures
+pick_row-requires-clause-all g c = placed_len c.leaves-2.result c.in_ok-shifts.shifts.items c.in_ok-seats.places.items c.in_ok-seats.ensures.places ∙ c.leaves-2.ensures
 
 pub pick_row-requires-clause-some : goal.pick_row-requires-clause-some
 pick_row-requires-clause-some g c =
@@ -29,16 +29,16 @@ pick_row-requires-clause-some g c =
 pub pick_row-requires-clause-holds : goal.pick_row-requires-clause-holds
 pick_row-requires-clause-holds g c =
     let same = c.in_ok-shifts.ensures.len in
-    placed_holds (g.J.LeafJob.work c.args.job.now) c.leaves.result c.in_ok-shifts.shifts.items c.in_ok-seats.places.items c.leaves.ensures c.in_ok-seats.ensures.places (λ k e within. (c.in_ok-shifts.ensures.each k e.seat e (omega arith)).ran)
+    placed_holds (g.J.LeafJob.work c.args.job.now) c.leaves-2.result c.in_ok-shifts.shifts.items c.in_ok-seats.places.items c.leaves-2.ensures c.in_ok-seats.ensures.places (λ k e within. (c.in_ok-shifts.ensures.each k e.seat e (omega arith)).ran)
 
 pub pick_row-requires-clause-has : goal.pick_row-requires-clause-has
 pick_row-requires-clause-has g c =
     all_filled (g.J.LeafJob.work c.args.job.now) (g.B.Handout.is_of c.args.opened.board) g.B.Handout.number g.B.Handout.status g.B.Handout.drained g.B.Handout.made_cut c.args.opened.seats.items c.in_ok-shifts.shifts.items c.in_ok-shifts.ensures.len c.in_ok-shifts.ensures.each
-    c.leaves.result c.leaves.ensures c.in_ok-seats.ensures.served c.in_ok-seats.seats.items c.in_ok-seats.ensures.seats c.in_ok-seats.places.items c.in_ok-seats.ensures.places
+    c.leaves-2.result c.leaves-2.ensures c.in_ok-seats.ensures.served c.in_ok-seats.seats.items c.in_ok-seats.ensures.seats c.in_ok-seats.places.items c.in_ok-seats.ensures.places
     (g.B.Handout.leaves c.args.opened.board) (g.B.Handout.full c.args.opened.board) (g.B.Handout.need c.args.opened.board) c.requires.case _ _ _ c.close-record.ensures c.requires.some
 
 pub returns-clause-reports : goal.returns-clause-reports
 returns-clause-reports g c =
     all_reported (g.J.LeafJob.work c.args.job.now) (g.B.Handout.is_of c.args.opened.board) g.B.Handout.number g.B.Handout.status g.B.Handout.drained g.B.Handout.made_cut c.args.opened.seats.items c.in_ok-shifts.shifts.items c.in_ok-shifts.ensures.len c.in_ok-shifts.ensures.each
-    c.leaves.result c.leaves.ensures c.in_ok-seats.ensures.served c.in_ok-seats.seats.items c.in_ok-seats.ensures.seats c.in_ok-seats.places.items c.in_ok-seats.ensures.places
+    c.leaves-2.result c.leaves-2.ensures c.in_ok-seats.ensures.served c.in_ok-seats.seats.items c.in_ok-seats.ensures.seats c.in_ok-seats.places.items c.in_ok-seats.ensures.places
     (g.B.Handout.leaves c.args.opened.board) (g.B.Handout.full c.args.opened.board) (g.B.Handout.need c.args.opened.board) c.requires.case _ _ _ c.close-record.ensures c.requires.some

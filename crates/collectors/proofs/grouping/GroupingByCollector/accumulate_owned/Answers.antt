@@ -16,7 +16,7 @@ returns-in-Some g c =
     let value : slice_get (values_of es) c.in-Some.at ≡ Some c.unwrap-kept.result.now = sym c.get_index_mut.ensures.value ∙ ap option_copied_mut c.unwrap-kept.ensures in
     on_ok_weaker c.accumulate_owned.result
     (λ added.
-    put-set_value_at g.K.Out.PartialEq.eq g.K.Out.Value.same keys kept g.met.K.Out.Value.eq_is_same c.in_ok-key.key c.unwrap-kept.result.now c.accumulate_owned.new.acc
+    put-set_value_at g.K.Out.PartialEq.eq g.K.Out.Value.same keys kept g.met.K.Out.EqualValue.eq_is_same c.in_ok-key.key c.unwrap-kept.result.now c.accumulate_owned.new.acc
     (g.D.Collector.add d (g.D.Collector.empty d) x) (λ a. g.D.Collector.add d a x) added es c.in-Some.at (sym c.in-Some.ensures) value
     ∙ ap (λ k. put g.K.Out.Value.same k (g.D.Collector.add d (g.D.Collector.empty d) x) (λ a. g.D.Collector.add d a x) (contents keys kept es)) c.in_ok-key.ensures)
     c.accumulate_owned.ensures

@@ -4,5 +4,5 @@ use Rattle.derived_collectors.proofs.to_set.ToSetCollector.accumulate_owned.Goal
 
 pub returns : goal.returns
 returns g c =
-    set_add-put g.T.Value.content g.T.PartialEq.eq g.T.Value.same g.met.T.Value.eq_is_same c.args.acc.now.keys _ c.args.x c.args.x
+    set_add-put g.T.Value.content g.T.PartialEq.eq g.T.Value.same g.met.T.EqualValue.eq_is_same c.args.acc.now.keys _ c.args.x c.args.x
     c.in_ok-insert.ensures.keys refl

@@ -8,4 +8,4 @@ returns g c =
     let D = g.D.Demand in
     let C = g.C.Collector in
     let f = folding (D.needed j.demand.now) (D.counted j.demand.now) g.X.Item.Value.is_value (C.empty j.collector.now) (C.add j.collector.now) in
-    spans-combine-ok f (C.content j.collector.now) (g.X.Stream.parts j.stream.now j.progress.now) c.combine_containers.result c.args.left.now c.args.right c.combine_containers.new.left c.combine_containers.ensures
+    spans-combine-ok f (C.content j.collector.now) (g.X.Plumbing.parts j.stream.now j.progress.now) c.combine_containers.result c.args.left.now c.args.right c.combine_containers.new.left c.combine_containers.ensures

@@ -1,5 +1,5 @@
 use Rattle.std.proofs.Common.{◌<◌, length, take, List, ap, subst, sym, ◌∙◌}
-use Rattle.pipeline_plan.specs.Meanings.{stage_list, stages_list}
+use Rattle.pipeline_meaning.specs.Stages.{stage_list, stages_list}
 use Rattle.pipeline_plan.specs.Outlooks.{IsOutlook}
 use Rattle.pipeline_plan.specs.Plans.{stage-more}
 use Rattle.pipeline_plan.proofs.outlook.Outlook.through.Goals as goal

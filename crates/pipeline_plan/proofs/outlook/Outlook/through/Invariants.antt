@@ -1,5 +1,5 @@
 use Rattle.std.proofs.Common.{List, take}
-use Rattle.pipeline_plan.specs.Meanings.{stages_list}
+use Rattle.pipeline_meaning.specs.Stages.{stages_list}
 use Rattle.pipeline_plan.specs.Outlooks.{IsOutlook}
 use Rattle.pipeline_plan.proofs.outlook.Outlook.through.Given as goal
 

@@ -1,7 +1,6 @@
-use Rattle.std.proofs.Common.{arith}
-use Rattle.std.proofs.lemmas.Grind.{common_steps}
+use Rattle.std.proofs.Common.{map, ap, sym, ◌∙◌}
+use Rattle.std.proofs.lemmas.List.{drop-map}
 use Rattle.sources.proofs.slice.SliceSplitWindowed.after_first.Goals as goal
 
--- bounded: a wrong body would search to its limit
 pub returns : goal.returns
-returns g c = grind (arith, common_steps) steps 400000
+returns g c = ap (map g.T.Value.content) c.rest_of.ensures ∙ sym (drop-map g.T.Value.content c.args.number c.args.self.items.now)

@@ -1,7 +1,6 @@
-use Rattle.std.proofs.Common.{arith}
-use Rattle.std.proofs.lemmas.Grind.{common_steps}
+use Rattle.std.proofs.Common.{map, ap, sym, ◌∙◌}
+use Rattle.std.proofs.lemmas.List.{take-map}
 use Rattle.sources.proofs.slice.SliceSplitWindowed.first.Goals as goal
 
--- bounded: a wrong body would search to its limit
 pub returns : goal.returns
-returns g c = grind (arith, common_steps) steps 40000
+returns g c = ap (map g.T.Value.content) c.front_of.ensures ∙ sym (take-map g.T.Value.content c.args.most c.args.self.items.now)

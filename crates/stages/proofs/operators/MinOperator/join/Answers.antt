@@ -7,6 +7,7 @@ pub returns : goal.returns
 returns g c =
     let content = g.T.Value.content in
     let alike = clones-tested g.T.Value.same g.met.T.Value.same_decides g.T.Clone.is_clone content c.args.self.now.clones_alike in
+    let ordered = g.met.T.SortedValue.cmp_is_order c.args.a.now c.args.b.now in
     let chosen = smaller g.T.OrderedValue.order (content c.args.a.now) (content c.args.b.now) in
     let is_smaller : content c.match-cmp.smaller.now ≡ chosen = search rules fits 200 depth 4 in
     alike c.match-cmp.smaller.now c.in_ok-clone.field-0 c.in_ok-clone.ensures.cases ∙ is_smaller

@@ -1,2 +1,0 @@
-pub mod AscendingParts
-pub mod DifferingParts

@@ -1,8 +1,0 @@
-use Rattle.std.proofs.Common.{sym}
-use Rattle.derived_sources.specs.Entries.{length-contents}
-use Rattle.derived_sources.proofs.entries.EntriesSplitSpliterator.estimate_size.Goals as goal
-
-pub returns : goal.returns
-returns g c =
-    let s = c.args.self.now in
-    sym (length-contents g.K.Value.content g.V.Value.content s.keys.now s.values.now s.paired)

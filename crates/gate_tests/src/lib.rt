@@ -1,0 +1,5 @@
+//! The tests of `gates`.
+#![tactic(auto)]
+
+#[cfg(test)]
+mod of_gates;

@@ -1,0 +1,143 @@
+//! What stands in the place of a user's gate, mapping and clock.
+
+use gates::Stop;
+use spliterator::NoMemory;
+use stages::Mapping;
+use std::fmt::Display;
+use std::io;
+use std::sync::atomic::{AtomicU64, Ordering};
+use std::time::{Clock, Duration};
+use stealing_pool::Gate;
+
+/// Counts the runs and the leaves that begin.
+#[derive(Drop)]
+pub struct Counts {
+    runs: AtomicU64,
+    begun: AtomicU64,
+}
+
+impl Counts {
+    pub fn new() -> Counts {
+        Counts {
+            runs: AtomicU64::new(0),
+            begun: AtomicU64::new(0),
+        }
+    }
+
+    pub fn runs(&self) -> u64 {
+        self.runs.load(Ordering::SeqCst)
+    }
+
+    pub fn begun(&self) -> u64 {
+        self.begun.load(Ordering::SeqCst)
+    }
+}
+
+impl Gate for Counts {
+    fn before_run(&self, _leaves: usize) {
+        self.runs.fetch_add(1, Ordering::SeqCst);
+    }
+
+    fn before_leaf(&self, _worker: u32, _leaf: usize) {
+        self.begun.fetch_add(1, Ordering::SeqCst);
+    }
+
+    fn after_leaf(&self, _worker: u32, _leaf: usize) {}
+}
+
+/// Each number as it is. It counts the numbers, and sets a stop at one of them.
+#[derive(Clone, Copy)]
+pub struct SetsAt<'a> {
+    pub stop: &'a Stop,
+    pub at: i64,
+    pub met: &'a AtomicU64,
+}
+
+impl<'a> SetsAt<'a> {
+    /// One that sets no stop.
+    pub fn never(stop: &'a Stop, met: &'a AtomicU64) -> SetsAt<'a> {
+        SetsAt { stop, at: -1, met }
+    }
+}
+
+impl<'a> Mapping<i64> for SetsAt<'a> {
+    type Out = i64;
+
+    ghost image = { λ _ n. n };
+
+    ghost images_are_values = { λ _ _ value. value };
+
+    fn image(&self, x: &i64) -> Result<i64, NoMemory> {
+        self.met.fetch_add(1, Ordering::SeqCst);
+        if *x == self.at {
+            self.stop.set();
+        }
+        Ok(*x)
+    }
+}
+
+/// A clock that goes on by a millisecond a reading.
+#[derive(Drop)]
+pub struct Ticks {
+    read: AtomicU64,
+}
+
+impl Ticks {
+    pub fn new() -> Ticks {
+        Ticks {
+            read: AtomicU64::new(0),
+        }
+    }
+}
+
+impl Clock for Ticks {
+    fn monotonic(&self) -> io::Result<Duration> {
+        Ok(Duration::from_millis(self.read.fetch_add(1, Ordering::SeqCst)))
+    }
+
+    fn since_1970(&self) -> io::Result<Duration> {
+        self.monotonic()
+    }
+}
+
+/// A standard error that counts what is told, beside a clock.
+#[derive(Drop)]
+pub struct Screen {
+    pub clock: Ticks,
+    told: AtomicU64,
+}
+
+impl Screen {
+    pub fn new() -> Screen {
+        Screen {
+            clock: Ticks::new(),
+            told: AtomicU64::new(0),
+        }
+    }
+
+    pub fn told(&self) -> u64 {
+        self.told.load(Ordering::SeqCst)
+    }
+}
+
+impl Clock for Screen {
+    fn monotonic(&self) -> io::Result<Duration> {
+        self.clock.monotonic()
+    }
+
+    fn since_1970(&self) -> io::Result<Duration> {
+        self.clock.since_1970()
+    }
+}
+
+impl Eprint for Screen {
+    fn eprint<D: Display + Drop>(&self, _value: D) -> io::Result<()> {
+        self.told.fetch_add(1, Ordering::SeqCst);
+        Ok(())
+    }
+
+    fn eprintln<D: Display + Drop>(&self, _value: D) -> io::Result<()> {
+        self.told.fetch_add(1, Ordering::SeqCst);
+        Ok(())
+    }
+}

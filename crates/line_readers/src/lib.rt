@@ -1,0 +1,20 @@
+//! The lines of a reader in parallel, in bounded memory.
+//!
+//! ```text
+//! let engine = Engine::new(&rt, rt.alloc(), &Run::new(4))?;
+//! let numbers = lines_of(File::open(&rt, "numbers")?).map_lines(NumberOr(0));
+//! let sum = numbers.collect_on(&engine, &SummingLong::new(Itself))?;
+//! ```
+#![tactic(auto)]
+
+mod ending;
+mod line_function;
+mod lines;
+mod reading;
+mod steps;
+mod stream;
+
+pub use line_function::{LineFunction, OfLine, OwnLine};
+pub use lines::{BLOCK, LinesOf, ReadLines, lines_of};
+pub use steps::LineSteps;
+pub use stream::LineStream;

@@ -1,0 +1,60 @@
+//! Functions of a line.
+ghost use Rattle.std.specs.Prelude.{◌≡◌, ℕ, List, IfOk, ⊤};
+
+use spliterator::{NoMemory, OrderedValue};
+use stages::Mapping;
+use std::alloc::Global;
+
+/// What a line is read as: a value that holds nothing of the line, so that one function serves the lines of each block.
+pub trait LineFunction {
+    type Out: OrderedValue + Clone + Drop + Send + Sync;
+
+    ghost ready: { Self → Type 0 } = { λ _. ⊤ };
+
+    // The content of what a line is read as.
+    ghost image: { Self → List ℕ → Self.Out.Content };
+
+    fn read(&self, line: &str) -> Result<Self::Out, NoMemory>
+        requires { ready self.now }
+        ensures { IfOk result (λ out. Self.Out.content out ≡ image self.now line.now) };
+
+    ghost images_are_values: { (f : Self) (line : List ℕ) → Self.Out.is_value (image f line) };
+}
+
+/// A function of a line as a mapping of the lines of one text.
+#[derive(Drop)]
+pub struct OfLine<'f, F> {
+    pub function: &'f F,
+}
+
+impl<'a, 'f, F: LineFunction> Mapping<&'a str> for OfLine<'f, F> {
+    type Out = F::Out;
+
+    ghost ready = { λ m. F.ready m.function.now };
+
+    ghost image = { λ m line. F.image m.function.now line };
+
+    ghost images_are_values = { λ m line _. F.images_are_values m.function.now line };
+
+    fn image(&self, x: &&'a str) -> Result<F::Out, NoMemory> {
+        self.function.read(*x)
+    }
+}
+
+/// The line as a text of its own.
+#[derive(Clone, Copy, Drop)]
+pub struct OwnLine {
+    pub alloc: Global,
+}
+
+impl LineFunction for OwnLine {
+    type Out = String;
+
+    ghost image = { λ _ line. line };
+
+    ghost images_are_values = { λ _ _. tt };
+
+    fn read(&self, line: &str) -> Result<String, NoMemory> {
+        Ok(String::from_str(self.alloc, line)?)
+    }
+}

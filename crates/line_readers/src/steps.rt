@@ -1,0 +1,57 @@
+//! What becomes of each line, and the lines of one text.
+ghost use Rattle.std.specs.Prelude.{◌≡◌, ◌++◌, ℕ, List, IfOk, string_bytes};
+ghost use Rattle.collectors.specs.Laws.{IsContainerOf};
+ghost use Rattle.sources.specs.Lines.{text_lines};
+ghost use Rattle.line_readers.specs.Values.{values_of};
+
+use crate::{LineFunction, OfLine};
+use collectors::Collector;
+use parallel_streams::{Engine, Stream, fold_into, of};
+use sources::LinesSplit;
+use spliterator::NoMemory;
+use stages::Stage;
+use std::thread::Threads;
+use std::time::Clock;
+use stealing_pool::Gate;
+
+/// What becomes of each line: a function of it, and a stage behind that.
+#[derive(Drop)]
+pub struct LineSteps<F, A> {
+    pub function: F,
+    pub stage: A,
+}
+
+/// Takes what becomes of the lines of a text into a container, behind what is in it.
+pub(crate) fn work<
+    R: Threads + Clock + Sync,
+    H: Gate + Sync,
+    F: LineFunction + Sync,
+    A: Stage<In = F::Out> + Sync,
+    C: Collector<Item = A::Out> + Sync,
+>(
+    engine: &Engine<'_, R, H>,
+    steps: &LineSteps<F, A>,
+    collector: &C,
+    acc: C::Acc,
+    text: String,
+) -> Result<C::Acc, NoMemory>
+where
+    A::Out: Clone + Send + Sync,
+    C::Acc: Send,
+    C::Out: Send,
+    requires function { F.ready steps.now.function }
+    requires stage { A.ready steps.now.stage }
+    requires collector { C.ready collector.now }
+    ensures { let it = collector.now in
+        let made = IsContainerOf A.Out.is_value (C.content it) (C.empty it) (C.add it) in
+        let values = values_of (F.image steps.now.function) (A.expand steps.now.stage) in
+        (l : List (List ℕ)) → made (values l) acc
+        → IfOk result (made (values (l ++ text_lines (string_bytes text)))) }
+{
+    let mut acc = acc;
+    let lines = of(LinesSplit::new(text.as_str()));
+    let function = &steps.function;
+    let stream = lines.map(OfLine { function }).then(&steps.stage);
+    fold_into(engine, &stream, collector, &mut acc)?;
+    Ok(acc)
+}

@@ -1,3 +1,0 @@
-//! Two streams, one behind another.
-
-pub use joined_streams::collect_concat;

@@ -1,3 +1,0 @@
-//! Terminal operations as methods.
-
-pub use stream_terminals::{LongTerminals, Terminals};

@@ -1,5 +1,0 @@
-pub mod BlockSteps
-pub mod CopySteps
-pub mod Inverses
-pub mod NearNumbers
-pub mod Quotients

@@ -1,6 +1,0 @@
-use Rattle.std.proofs.Common.{◌<◌, ◌^◌, ◌↔◌, take, All}
-use Rattle.parts.specs.Near.{IsNearNatural}
-use Rattle.parts.proofs.small_divisor.all_near_natural.Given as goal
-
-abbrev pub invariant-loop-x : goal.invariant-loop-x
-invariant-loop-x l = l.digits < 2 ^ 31 ↔ All IsNearNatural (take l.x-index l.items)

@@ -1,6 +1,0 @@
-use Rattle.std.proofs.Common.{rules}
-use Rattle.pipeline_meaning.proofs.text_inners.text_inner.Goals as goal
-
--- bounded: a wrong body would search to its limit
-pub returns-clause-summary : goal.returns-clause-summary
-returns-clause-summary c = search rules fits 60 depth 3

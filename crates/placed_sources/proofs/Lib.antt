@@ -1,0 +1,4 @@
+pub mod ZipLaws
+pub mod Reverses
+pub mod StepLaws
+pub mod SlideLaws

@@ -1,0 +1,3 @@
+pub mod Zips
+pub mod Steps
+pub mod Slides

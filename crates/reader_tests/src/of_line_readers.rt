@@ -1,0 +1,184 @@
+//! Lines of readers that give few bytes at a time, are interrupted, or fail.
+ghost use Rattle.reader_tests.specs.Checked.{checked, checked-value};
+
+use crate::slow::{fails_behind, slow};
+use collectors::{Counting, ToList};
+use derived_collectors::Trying;
+use line_blocks::LinesError;
+use line_readers::{LineFunction, LineStream, OwnLine, lines_of};
+use parallel_streams::{Engine, Run};
+use spliterator::NoMemory;
+use std::alloc::Global;
+use std::process::Abort;
+use std::thread::Threads;
+use std::time::Clock;
+use stealing_pool::NoGate;
+
+/// Bytes, a block's size, and their lines, or what is at fault and where.
+type Row<'a> = (&'a [u8], usize, Result<&'a [&'a str], (&'a str, u64)>);
+
+static ROWS: [Row<'static>; 20] = [
+    (b"", 4, Ok(&[])),
+    (b"\n", 1, Ok(&[""])),
+    (b"\n\n", 1, Ok(&["", ""])),
+    (b"\n\n", 4, Ok(&["", ""])),
+    (b"a", 2, Ok(&["a"])),
+    (b"a", 1, Err(("long", 0))),
+    (b"ab\n", 3, Ok(&["ab"])),
+    (b"ab\n", 2, Err(("long", 0))),
+    (b"ab\ncd\nefg", 4, Ok(&["ab", "cd", "efg"])),
+    (b"ab\ncd\nefg\n", 4, Ok(&["ab", "cd", "efg"])),
+    (b"ab\ncd\nefgh", 4, Err(("long", 6))),
+    (b"ab\ncdef\ng", 4, Err(("long", 3))),
+    (b"abcd\ne", 4, Err(("long", 0))),
+    (b"a\r\n\n \nb", 4, Ok(&["a\r", "", " ", "b"])),
+    (
+        b"a\n\xc3\xa4\xc3\xb6\nb",
+        5,
+        Ok(&["a", "\u{e4}\u{f6}", "b"]),
+    ),
+    (b"\xffab\n", 8, Err(("bytes", 0))),
+    (b"ab\nc\n\xffd\n", 4, Err(("bytes", 5))),
+    (b"ab\nc\nd\xc3\ne\n", 4, Err(("bytes", 6))),
+    (b"a\xc3", 8, Err(("bytes", 1))),
+    (b"ab\n\xc3\n\xa4\n", 4, Err(("bytes", 3))),
+];
+
+/// What is at fault, and where.
+fn told(error: &LinesError) -> (&'static str, u64) {
+    match error {
+        LinesError::NotUtf8(place) => ("bytes", *place),
+        LinesError::LongLine(place) => ("long", *place),
+        LinesError::Read(_) => ("read", 0),
+        LinesError::NoMemory => ("memory", 0),
+        LinesError::TooLong => ("end", 0),
+    }
+}
+
+fn rows<R: Threads + Clock + Abort + Alloc<A = Global> + Sync>(
+    engine: &Engine<'_, R, NoGate>,
+) -> Result<(), LinesError> {
+    let rt = engine.rt;
+    let alloc = engine.alloc;
+    let list = ToList::<String>::new(alloc);
+    for &(bytes, size, wanted) in &ROWS {
+        let lines = lines_of(slow(bytes)).in_blocks_of(size);
+        match lines.map_lines(OwnLine { alloc }).collect_on(engine, &list) {
+            Ok(texts) => {
+                let lines = wanted.expect(rt, "lines");
+                assert!(rt; texts.len() == lines.len());
+                for (text, line) in texts.iter().zip(lines) {
+                    assert!(rt; text.as_str() == *line);
+                }
+            }
+            Err(LinesError::NoMemory) => return Err(LinesError::NoMemory),
+            Err(error) => assert!(rt; wanted.err() == Some(told(&error))),
+        }
+    }
+    Ok(())
+}
+
+/// What a run of so many workers uses.
+fn engine_of<R: Abort + Alloc<A = Global>>(rt: &R, workers: u32) -> Engine<'_, R, NoGate> {
+    Engine::new(rt, rt.alloc(), &Run::new(workers)).expect(rt, "lawful workers")
+}
+
+#[test]
+fn lines_or_the_place_of_a_fault(rt: HostRuntime) -> Result<(), LinesError> {
+    for workers in [1, 2, 7, 64] {
+        rows(&engine_of(&rt, workers))?;
+    }
+    Ok(())
+}
+
+#[test]
+fn one_text_in_blocks_of_each_size(rt: HostRuntime) -> Result<(), LinesError> {
+    let alloc = rt.alloc();
+    let engine = engine_of(&rt, 4);
+    for size in 4..=12 {
+        let lines = lines_of(slow(b"abc\nd\n\nef\nghi")).in_blocks_of(size);
+        let texts = lines
+            .map_lines(OwnLine { alloc })
+            .collect_on(&engine, &ToList::<String>::new(alloc))?;
+        let wanted = ["abc", "d", "", "ef", "ghi"];
+        assert!(&rt; texts.len() == wanted.len());
+        for (text, line) in texts.iter().zip(&wanted) {
+            assert!(&rt; text.as_str() == *line);
+        }
+    }
+    Ok(())
+}
+
+// A line as it is; an empty one has failed.
+#[derive(Drop)]
+struct Checked {
+    alloc: Global,
+}
+
+impl LineFunction for Checked {
+    type Out = Result<String, String>;
+
+    ghost image = { λ _ line. checked line };
+
+    ghost images_are_values = { λ _ line. checked-value line };
+
+    fn read(&self, line: &str) -> Result<Result<String, String>, NoMemory> {
+        let text = String::from_str(self.alloc, line)?;
+        if line.is_empty() {
+            return Ok(Err(text));
+        }
+        Ok(Ok(text))
+    }
+}
+
+#[test]
+fn nothing_is_told_of_what_stands_behind_a_line_that_decides(
+    rt: HostRuntime,
+) -> Result<(), LinesError> {
+    let alloc = rt.alloc();
+    let engine = engine_of(&rt, 4);
+    let list = Trying::<_, String>::new(ToList::<String>::new(alloc));
+    let lines = lines_of(slow(b"ab\n\nc\nd\ne\nf\ng\nh\ni\n\xff")).in_blocks_of(4);
+    let decided = lines
+        .map_lines(Checked { alloc })
+        .collect_decided(&engine, &list)?;
+    assert!(&rt; decided.is_err());
+    let lines = lines_of(slow(b"ab\n\nc\nd\ne\nf\ng\nh\ni\n\xff")).in_blocks_of(4);
+    let whole = lines
+        .map_lines(Checked { alloc })
+        .collect_on(&engine, &list);
+    assert!(&rt; matches!(whole, Err(LinesError::NotUtf8(18) | LinesError::NoMemory)));
+    let lines = lines_of(slow(b"ab\nc\n\xffd\n\n")).in_blocks_of(4);
+    let early = lines
+        .map_lines(Checked { alloc })
+        .collect_decided(&engine, &list);
+    assert!(&rt; matches!(early, Err(LinesError::NotUtf8(5) | LinesError::NoMemory)));
+    Ok(())
+}
+
+#[test]
+fn the_error_of_a_reader_is_told(rt: HostRuntime) -> Result<(), LinesError> {
+    let alloc = rt.alloc();
+    let engine = engine_of(&rt, 4);
+    let lines = lines_of(fails_behind(b"ab\nc")).in_blocks_of(4);
+    let count = lines
+        .map_lines(OwnLine { alloc })
+        .collect_on(&engine, &Counting::<String>::new());
+    assert!(&rt; matches!(count, Err(LinesError::Read(_) | LinesError::NoMemory)));
+    Ok(())
+}
+
+#[test]
+fn first_and_count(rt: HostRuntime) -> Result<(), LinesError> {
+    let alloc = rt.alloc();
+    let engine = engine_of(&rt, 4);
+    let text = b"abc\nd\n\nef\nghi";
+    let count = lines_of(slow(text))
+        .map_lines(OwnLine { alloc })
+        .count_on(&engine)?;
+    assert!(&rt; count == 5);
+    let lines = lines_of(slow(b"abc\nd\n\xff")).in_blocks_of(4);
+    let first = lines.map_lines(OwnLine { alloc }).find_first_on(&engine)?;
+    assert!(&rt; first.is_some_and(|line| line.as_str() == "abc"));
+    Ok(())
+}

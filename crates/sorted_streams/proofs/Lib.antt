@@ -1,4 +1,0 @@
-mod Beside
-mod Images
-mod Inserted
-mod Told

@@ -1,5 +1,0 @@
-mod ascending;
-mod maps;
-mod steps;
-mod values;
-mod walks;

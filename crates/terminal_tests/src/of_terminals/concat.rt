@@ -1,0 +1,53 @@
+//! Two streams, one behind another, with 1 and with 7 workers, at target 1 and at the default.
+
+use crate::settings::SETTINGS;
+use collectors::{First, ToList};
+use parallel_streams::{Engine, Run, Stream, StreamError, of};
+use sources::{RangeSplit, SliceSplit};
+use spliterator::NoMemory;
+use std::alloc::Global;
+use std::process::Abort;
+use std::thread::Threads;
+use std::time::Clock;
+use stealing_pool::NoGate;
+use stream_functions::{Even, Plus};
+use terminals::Terminals;
+
+/// How far a range of even numbers goes, the numbers behind it of which each is one less, the list of both, and its first number.
+static ROWS: [(i64, &[i64], &[i64], Option<i64>); 4] = [
+    (5, &[6, 2], &[0, 2, 4, 7, 3], Some(0)),
+    (0, &[9], &[10], Some(10)),
+    (3, &[], &[0, 2], Some(0)),
+    (0, &[], &[], None),
+];
+
+fn rows<R: Threads + Clock + Abort + Alloc<A = Global> + Sync>(
+    engine: &Engine<'_, R, NoGate>,
+) -> Result<(), NoMemory> {
+    let rt = engine.rt;
+    for &(end, numbers, list, first) in &ROWS {
+        let even = of(RangeSplit::range(0, end).expect(rt, "a range")).filter(Even);
+        let more = of(SliceSplit::new(numbers)).map(Plus(1));
+        let earliest = even.concat(engine, &more, &First::new())?;
+        assert!(rt; earliest == first);
+        let found = even.concat(engine, &more, &ToList::new(rt.alloc()))?;
+        assert!(rt; found.as_slice() == list);
+    }
+    Ok(())
+}
+
+#[test]
+fn the_items_of_the_second_stand_behind_those_of_the_first(
+    rt: HostRuntime,
+) -> Result<(), StreamError> {
+    for &(workers, target) in &SETTINGS {
+        let run = Run {
+            workers,
+            target,
+            gate: &NoGate,
+        };
+        let engine = Engine::new(&rt, rt.alloc(), &run)?;
+        rows(&engine)?;
+    }
+    Ok(())
+}

@@ -1,0 +1,169 @@
+//! Streams sorted with 1 and with 7 workers, at target 1 and at the default. Longer ones are rows of each_terminal.
+
+use crate::settings::SETTINGS;
+use parallel_streams::{Engine, Run, Stream, StreamError, of};
+use sources::SliceSplit;
+use spliterator::NoMemory;
+use std::alloc::Global;
+use std::process::Abort;
+use std::thread::Threads;
+use std::time::Clock;
+use stealing_pool::NoGate;
+use stream_functions::{Itself, OnFirst};
+use terminals::{Descending, FirstSorted, Terminals, to_sorted_list, to_sorted_list_by_key};
+
+/// Numbers, and the same sorted.
+static NUMBERS: [(&[i64], &[i64]); 5] = [
+    (&[], &[]),
+    (&[5], &[5]),
+    (&[1, 2, 2, 3], &[1, 2, 2, 3]),
+    (&[3, -1, 3, 2, -1], &[-1, -1, 2, 3, 3]),
+    (
+        &[9223372036854775807, 0, -9223372036854775808],
+        &[-9223372036854775808, 0, 9223372036854775807],
+    ),
+];
+
+/// Pairs, and the same sorted by their first parts and by these from the greatest on.
+static PAIRS: [(&[(i64, i64)], &[(i64, i64)], &[(i64, i64)]); 3] = [
+    (&[], &[], &[]),
+    (&[(4, 1)], &[(4, 1)], &[(4, 1)]),
+    (
+        &[(2, 7), (1, 9), (2, 5), (-1, 0), (1, 8), (2, 7)],
+        &[(-1, 0), (1, 9), (1, 8), (2, 7), (2, 5), (2, 7)],
+        &[(2, 7), (2, 5), (2, 7), (1, 9), (1, 8), (-1, 0)],
+    ),
+];
+
+fn sorted<R: Threads + Clock + Alloc<A = Global> + Sync>(
+    engine: &Engine<'_, R, NoGate>,
+    numbers: &[i64],
+    wanted: &[i64],
+) -> Result<bool, NoMemory> {
+    let found = of(SliceSplit::new(numbers)).sorted(engine)?;
+    Ok(found.as_slice() == wanted)
+}
+
+fn by_first<R: Threads + Clock + Alloc<A = Global> + Sync>(
+    engine: &Engine<'_, R, NoGate>,
+    pairs: &[(i64, i64)],
+    wanted: &[(i64, i64)],
+) -> Result<bool, NoMemory> {
+    let found = of(SliceSplit::new(pairs)).sorted_by_key(engine, &OnFirst(Itself))?;
+    Ok(found.as_slice() == wanted)
+}
+
+fn by_first_descending<R: Threads + Clock + Alloc<A = Global> + Sync>(
+    engine: &Engine<'_, R, NoGate>,
+    pairs: &[(i64, i64)],
+    wanted: &[(i64, i64)],
+) -> Result<bool, NoMemory> {
+    let found = of(SliceSplit::new(pairs)).sorted_by_key(engine, &Descending(OnFirst(Itself)))?;
+    Ok(found.as_slice() == wanted)
+}
+
+fn rows<R: Threads + Clock + Abort + Alloc<A = Global> + Sync>(
+    engine: &Engine<'_, R, NoGate>,
+) -> Result<(), NoMemory> {
+    let rt = engine.rt;
+    for &(numbers, wanted) in &NUMBERS {
+        assert!(rt; sorted(engine, numbers, wanted)?, "{wanted:?}");
+    }
+    for &(pairs, ascending, descending) in &PAIRS {
+        assert!(rt; by_first(engine, pairs, ascending)?, "{ascending:?}");
+        assert!(rt;
+            by_first_descending(engine, pairs, descending)?,
+            "{descending:?}"
+        );
+    }
+    Ok(())
+}
+
+fn collected<R: Threads + Clock + Alloc<A = Global> + Sync>(
+    engine: &Engine<'_, R, NoGate>,
+    numbers: &[i64],
+    wanted: &[i64],
+) -> Result<bool, NoMemory> {
+    let to_list = to_sorted_list::<i64>(engine.alloc);
+    let found = of(SliceSplit::new(numbers)).collect_on(engine, &to_list)?;
+    Ok(found.as_slice() == wanted)
+}
+
+fn greatest_two<R: Threads + Clock + Alloc<A = Global> + Sync>(
+    engine: &Engine<'_, R, NoGate>,
+    numbers: &[i64],
+    wanted: &[i64],
+) -> Result<bool, NoMemory> {
+    let found = of(SliceSplit::new(numbers)).top(engine, 2)?;
+    Ok(found.iter().eq(wanted.iter().rev().take(2)))
+}
+
+fn collected_by_first<R: Threads + Clock + Alloc<A = Global> + Sync>(
+    engine: &Engine<'_, R, NoGate>,
+    pairs: &[(i64, i64)],
+    wanted: &[(i64, i64)],
+) -> Result<bool, NoMemory> {
+    let to_list = to_sorted_list_by_key::<(i64, i64), _>(engine.alloc, OnFirst(Itself));
+    let found = of(SliceSplit::new(pairs)).collect_on(engine, &to_list)?;
+    Ok(found.as_slice() == wanted)
+}
+
+fn first_by_first<R: Threads + Clock + Alloc<A = Global> + Sync>(
+    engine: &Engine<'_, R, NoGate>,
+    pairs: &[(i64, i64)],
+    wanted: &[(i64, i64)],
+    number: usize,
+) -> Result<bool, NoMemory> {
+    let first = FirstSorted::<(i64, i64), _>::new(engine.alloc, OnFirst(Itself), number);
+    let found = of(SliceSplit::new(pairs)).collect_on(engine, &first)?;
+    Ok(found.iter().eq(wanted.iter().take(number)))
+}
+
+fn collected_rows<R: Threads + Clock + Abort + Alloc<A = Global> + Sync>(
+    engine: &Engine<'_, R, NoGate>,
+) -> Result<(), NoMemory> {
+    let rt = engine.rt;
+    for &(numbers, wanted) in &NUMBERS {
+        assert!(rt; collected(engine, numbers, wanted)?, "{wanted:?}");
+        assert!(rt; greatest_two(engine, numbers, wanted)?, "{wanted:?}");
+    }
+    for &(pairs, ascending, _) in &PAIRS {
+        assert!(rt;
+            collected_by_first(engine, pairs, ascending)?,
+            "{ascending:?}"
+        );
+        for number in [0usize, 2, 4, 9] {
+            assert!(rt;
+                first_by_first(engine, pairs, ascending, number)?,
+                "{ascending:?}"
+            );
+        }
+    }
+    Ok(())
+}
+
+#[test]
+fn collected_rows_at_each_setting(rt: HostRuntime) -> Result<(), StreamError> {
+    for &(workers, target) in &SETTINGS {
+        let run = Run {
+            workers,
+            target,
+            gate: &NoGate,
+        };
+        collected_rows(&Engine::new(&rt, rt.alloc(), &run)?)?;
+    }
+    Ok(())
+}
+
+#[test]
+fn rows_at_each_setting(rt: HostRuntime) -> Result<(), StreamError> {
+    for &(workers, target) in &SETTINGS {
+        let run = Run {
+            workers,
+            target,
+            gate: &NoGate,
+        };
+        rows(&Engine::new(&rt, rt.alloc(), &run)?)?;
+    }
+    Ok(())
+}

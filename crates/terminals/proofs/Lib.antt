@@ -1,0 +1,6 @@
+mod Best
+mod Beside
+mod Images
+mod Inserted
+mod Told
+pub mod Decided
