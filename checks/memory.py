@@ -3,7 +3,7 @@
 
     checks/memory.py
 
-Those of the language run as pipelines, and the libraries' own as a test of crates/terminal_tests that takes its name from the environment (`rt ci`
+Those of the language run as pipelines, and the libraries' own as a test of crates/run_tests that takes its name from the environment (`rt ci`
 leaves both built). The library that refuses memory counts it too (refusing.py). A run takes what its plan, its board and its workers' blocks of
 1,024 items take, and a row tells what else, as a function of items and leaves: bytes and requests are at most a tenth above that, and none live on.
 """
@@ -15,7 +15,7 @@ import os
 from built import PSTREAM, ROOT, conclude, need_program, told_list, told_map
 from refusing import Refusing
 
-TESTS = ROOT / "crates/terminal_tests/out/terminal_tests_tests"
+TESTS = ROOT / "crates/run_tests/out/run_tests_tests"
 # how many items, by how many workers; what keeps no list takes no more of many items
 SHAPES, MANY = [(400_000, 1), (400_000, 4)], (10_000_000, 3)
 # bytes and requests of any run, and bytes of a worker; the program's have room for the largest file
@@ -147,7 +147,7 @@ PIPELINES = [
     Row("groupby self count", lambda n: counted([1] * n), 100, 0, entries(53), joins=1),
 ]
 
-# those of crates/terminal_tests/src/each_terminal, which look at their answers themselves
+# those of crates/run_tests/src/each_terminal, which look at their answers themselves
 FOLDS = "sum summary reduce reduce_optional min max min_by_key max_by_key count find_first any_match all_match none_match".split()
 TERMINALS = [
     *[Row(name, None, 4) for name in FOLDS],

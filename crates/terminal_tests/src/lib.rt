@@ -2,8 +2,6 @@
 #![tactic(auto)]
 
 #[cfg(test)]
-mod each_terminal;
-#[cfg(test)]
 mod of_terminals;
 #[cfg(test)]
 mod settings;
