@@ -20,6 +20,14 @@ module _ {Y Z : Type 0} (image : List ℕ → Y) (expand : Y → List Z) where
   pub values-behind : (l r : List (List ℕ)) → values_of image expand l ++ flat_map expand (flat_map (λ x. image x ∷ []) r) ≡ values_of image expand (l ++ r)
   values-behind l r = ap (λ m. values_of image expand l ++ flat_map expand m) (one-image image r) ∙ sym (values-append l r)
 
+  -- a sink that took what some lines became, and then what the next ones do
+  pub taken-behind : {S : Type 0} (Takes : S → List Z → S → Type 0) → ((a b c : S) (xs ys : List Z) → Takes a xs b → Takes b ys c → Takes a (xs ++ ys) c)
+      → (from now next : S) (items : List Z) (lines : List (List ℕ)) → items ≡ values_of image expand lines → Takes now items next
+      → (l : List (List ℕ)) → Takes from (values_of image expand l) now → Takes from (values_of image expand (l ++ lines)) next
+  taken-behind Takes both from now next items lines made taken l before =
+      subst (λ zs. Takes from zs next) (ap (λ zs. values_of image expand l ++ zs) made ∙ sym (values-append l lines))
+      (both from now next (values_of image expand l) items before taken)
+
   module _ {B O : Type 0} (is_container : List Z → B → Type 0) (Gives : List Z → O → Type 0) where
     -- what the lines so far decide, all lines give
     pub decided-at : (xs : List ℕ) (after : Option (List ℕ)) (next : B) (out : O) → IsFolded (λ lines. is_container (values_of image expand lines)) (Some xs) next after

@@ -1,7 +1,8 @@
 //! One block is worked on while the next one is read.
-ghost use Rattle.std.specs.Prelude.{◌≡◌, ◌<◌, ◌++◌, ℕ, List, Option, true, IfOk, IfErr, IfSome, string_bytes};
+ghost use Rattle.std.specs.Prelude.{◌≡◌, ◌<◌, ◌++◌, ℕ, List, Option, true, IfOk, IfErr, IfSome, OnOk, OnErr, string_bytes};
 ghost use Rattle.std.specs.Io.KnownBytes.{IsAtEnd, prepend_known};
 ghost use denote.Param.Send.{IsSend};
+ghost use Rattle.spliterator.specs.Clones.{ClonesAlike};
 ghost use Rattle.collectors.specs.Laws.{IsContainerOf};
 ghost use Rattle.sources.specs.Lines.{text_lines};
 ghost use Rattle.line_blocks.specs.Blocks.{TakesBlock};
@@ -9,13 +10,13 @@ ghost use Rattle.line_blocks.specs.Faults.{StandsAt, IsFault};
 ghost use Rattle.line_readers.specs.Values.{values_of, line_values};
 
 use crate::ending::Ending;
-use crate::steps::work;
+use crate::steps::{list_of, work};
 use crate::{LineFunction, LineSteps};
 use collectors::{Collector, finish_container, new_container};
 use line_blocks::{Block, LineBlocks, LinesError};
 use parallel_streams::Engine;
 use spliterator::NoMemory;
-use stages::Stage;
+use stages::{Sink, Stage};
 use std::alloc::Global;
 use std::io::Read;
 use std::thread::{Threads, join};
@@ -162,6 +163,47 @@ where
         blocks = behind;
         block = next;
         acc = more;
+    }
+    Err(LinesError::TooLong)
+}
+
+/// Hands what becomes of the lines that a reader has left to a sink, block after block.
+pub(crate) fn hand_lines<
+    R: Threads + Clock + Sync,
+    H: Gate + Sync,
+    I: Read + Drop,
+    F: LineFunction + Sync,
+    A: Stage<In = F::Out> + Sync,
+    K: Sink<A::Out>,
+>(
+    engine: &Engine<'_, R, H>,
+    reader: I,
+    size: usize,
+    steps: &LineSteps<F, A>,
+    action: &mut K,
+) -> Result<(), LinesError>
+where
+    A::Out: Clone + Send + Sync,
+    requires function { F.ready steps.now.function }
+    requires stage { A.ready steps.now.stage }
+    requires action { K.ready action.old }
+    requires clones { ClonesAlike A.Out.is_clone A.Out.content }
+    requires size { 0 < size }
+    ensures faults { IfErr result (IsFault size (I.remaining reader)) }
+    ensures taken { let values = line_values (F.image steps.now.function) (A.expand steps.now.stage) in
+        OnOk result (IfSome (I.remaining reader)
+        (λ bytes. K.takes action.old (values bytes) action.new)) }
+    ensures spoilt { OnErr result (K.spoils action.old action.new) }
+{
+    let mut blocks = LineBlocks::new(engine.alloc, reader, size);
+    for _ in 0..u64::MAX {
+        let (behind, block) = read_ahead(engine.alloc, blocks)?;
+        let mut items = list_of(engine, steps, block.text)?;
+        action.take_all(&mut items)?;
+        if block.is_last {
+            return Ok(());
+        }
+        blocks = behind;
     }
     Err(LinesError::TooLong)
 }

@@ -1,11 +1,12 @@
 //! What becomes of each line, and the lines of one text.
-ghost use Rattle.std.specs.Prelude.{◌≡◌, ◌++◌, ℕ, List, IfOk, string_bytes};
+ghost use Rattle.std.specs.Prelude.{◌≡◌, ◌++◌, ℕ, List, IfOk, map, string_bytes};
+ghost use Rattle.spliterator.specs.Clones.{ClonesAlike};
 ghost use Rattle.collectors.specs.Laws.{IsContainerOf};
 ghost use Rattle.sources.specs.Lines.{text_lines};
 ghost use Rattle.line_readers.specs.Values.{values_of};
 
 use crate::{LineFunction, OfLine};
-use collectors::Collector;
+use collectors::{Collector, ToList, finish_container, new_container};
 use parallel_streams::{Engine, Stream, fold_into, of};
 use sources::LinesSplit;
 use spliterator::NoMemory;
@@ -54,4 +55,29 @@ where
     let stream = lines.map(OfLine { function }).then(&steps.stage);
     fold_into(engine, &stream, collector, &mut acc)?;
     Ok(acc)
+}
+
+/// What becomes of the lines of a text, as a list.
+pub(crate) fn list_of<
+    R: Threads + Clock + Sync,
+    H: Gate + Sync,
+    F: LineFunction + Sync,
+    A: Stage<In = F::Out> + Sync,
+>(
+    engine: &Engine<'_, R, H>,
+    steps: &LineSteps<F, A>,
+    text: String,
+) -> Result<Vec<A::Out>, NoMemory>
+where
+    A::Out: Clone + Send + Sync,
+    requires function { F.ready steps.now.function }
+    requires stage { A.ready steps.now.stage }
+    requires clones { ClonesAlike A.Out.is_clone A.Out.content }
+    ensures { let values = values_of (F.image steps.now.function) (A.expand steps.now.stage) in
+        IfOk result (λ list. map A.Out.content list.items ≡ values (text_lines (string_bytes text))) }
+{
+    let list = ToList::new(engine.alloc);
+    let fresh = new_container(&list)?;
+    let whole = work(engine, steps, &list, fresh, text)?;
+    finish_container(&list, whole)
 }

@@ -1,5 +1,5 @@
 //! What is made of the lines of a reader.
-ghost use Rattle.std.specs.Prelude.{◌≡◌, ℕ, List, Option, length, pos, option_map, IfOk, IfErr, IfSome, ⊤};
+ghost use Rattle.std.specs.Prelude.{◌≡◌, ℕ, List, Option, length, pos, option_map, IfOk, IfErr, IfSome, OnOk, OnErr, ⊤};
 ghost use Rattle.spliterator.specs.Clones.{ClonesAlike};
 ghost use Rattle.stages.specs.Wrapping.{wrapped};
 ghost use Rattle.collectors.specs.Reductions.{first};
@@ -7,14 +7,14 @@ ghost use Rattle.line_blocks.specs.Faults.{IsFault};
 ghost use Rattle.line_readers.specs.Values.{line_values};
 
 use crate::ending::{AtTheEnd, OnceDecided, OnceFound};
-use crate::reading::collect_lines;
+use crate::reading::{collect_lines, hand_lines};
 use crate::{LineFunction, ReadLines};
 use collectors::{Collector, Counting, First};
 use derived_collectors::Deciding;
 use line_blocks::LinesError;
 use parallel_streams::Engine;
 use spliterator::OrderedValue;
-use stages::Stage;
+use stages::{Sink, Stage};
 use std::io::Read;
 use std::thread::Threads;
 use std::time::Clock;
@@ -156,5 +156,29 @@ pub trait LineStream: Sized {
             &First::new(),
             &OnceFound,
         )
+    }
+
+    /// Hands the items to a sink, in encounter order and in the caller's thread, those of a block as soon as they are made. Where there is an error,
+    /// the items before its block have been handed over.
+    ///
+    /// ```text
+    /// lines_of(log).map_lines(OwnLine { alloc }).filter(Failed).for_each_ordered(&engine, &mut list)?
+    /// ```
+    // java.util.stream.Stream, forEachOrdered
+    final fn for_each_ordered<K: Sink<Self::Item>>(
+        self,
+        engine: &Engine<'_, impl Threads + Clock + Sync, impl Gate + Sync>,
+        action: &mut K,
+    ) -> Result<(), LinesError>
+        requires lines { Self.ready self }
+        requires action { K.ready action.old }
+        requires clones { ClonesAlike Self.Item.is_clone Self.Item.content }
+        ensures faults { IfErr result (IsFault (Self.size self) (Self.known self)) }
+        ensures taken { OnOk result (IfSome (Self.known self)
+            (λ bytes. K.takes action.old (Self.value self bytes) action.new)) }
+        ensures spoilt { OnErr result (K.spoils action.old action.new) }
+    {
+        let lines = self.into_lines();
+        hand_lines(engine, lines.reader, lines.size, &lines.steps, action)
     }
 }

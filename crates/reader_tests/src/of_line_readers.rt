@@ -55,6 +55,15 @@ fn told(error: &LinesError) -> (&'static str, u64) {
     }
 }
 
+/// Whether these are the lines.
+fn are(texts: &[String], lines: &[&str]) -> bool {
+    texts.len() == lines.len()
+        && texts
+            .iter()
+            .zip(lines)
+            .all(|(text, line)| text.as_str() == *line)
+}
+
 fn rows<R: Threads + Clock + Abort + Alloc<A = Global> + Sync>(
     engine: &Engine<'_, R, NoGate>,
 ) -> Result<(), LinesError> {
@@ -64,13 +73,7 @@ fn rows<R: Threads + Clock + Abort + Alloc<A = Global> + Sync>(
     for &(bytes, size, wanted) in &ROWS {
         let lines = lines_of(slow(bytes)).in_blocks_of(size);
         match lines.map_lines(OwnLine { alloc }).collect_on(engine, &list) {
-            Ok(texts) => {
-                let lines = wanted.expect(rt, "lines");
-                assert!(rt; texts.len() == lines.len());
-                for (text, line) in texts.iter().zip(lines) {
-                    assert!(rt; text.as_str() == *line);
-                }
-            }
+            Ok(texts) => assert!(rt; are(&texts, wanted.expect(rt, "lines"))),
             Err(LinesError::NoMemory) => return Err(LinesError::NoMemory),
             Err(error) => assert!(rt; wanted.err() == Some(told(&error))),
         }
@@ -97,14 +100,9 @@ fn one_text_in_blocks_of_each_size(rt: HostRuntime) -> Result<(), LinesError> {
     let engine = engine_of(&rt, 4);
     for size in 4..=12 {
         let lines = lines_of(slow(b"abc\nd\n\nef\nghi")).in_blocks_of(size);
-        let texts = lines
-            .map_lines(OwnLine { alloc })
-            .collect_on(&engine, &ToList::<String>::new(alloc))?;
-        let wanted = ["abc", "d", "", "ef", "ghi"];
-        assert!(&rt; texts.len() == wanted.len());
-        for (text, line) in texts.iter().zip(&wanted) {
-            assert!(&rt; text.as_str() == *line);
-        }
+        let lines = lines.map_lines(OwnLine { alloc });
+        let texts = lines.collect_on(&engine, &ToList::<String>::new(alloc))?;
+        assert!(&rt; are(&texts, &["abc", "d", "", "ef", "ghi"]));
     }
     Ok(())
 }
@@ -180,5 +178,29 @@ fn first_and_count(rt: HostRuntime) -> Result<(), LinesError> {
     let lines = lines_of(slow(b"abc\nd\n\xff")).in_blocks_of(4);
     let first = lines.map_lines(OwnLine { alloc }).find_first_on(&engine)?;
     assert!(&rt; first.is_some_and(|line| line.as_str() == "abc"));
+    Ok(())
+}
+
+/// Bytes, and the lines that are handed over before their end or their fault, in blocks of four bytes.
+static HANDED: [(&[u8], &[&str]); 4] = [
+    (b"", &[]),
+    (b"a\nbc\n\nd", &["a", "bc", "", "d"]),
+    (b"ab\n\xff\nc", &["ab"]),
+    (b"ab\ncdef\ng", &["ab"]),
+];
+
+#[test]
+fn lines_are_handed_over_up_to_a_fault(rt: HostRuntime) -> Result<(), LinesError> {
+    let alloc = rt.alloc();
+    for &(bytes, wanted) in &HANDED {
+        let mut texts = Vec::new(alloc);
+        let lines = lines_of(slow(bytes)).in_blocks_of(4);
+        let lines = lines.map_lines(OwnLine { alloc });
+        let ended = lines.for_each_ordered(&engine_of(&rt, 2), &mut texts);
+        match ended {
+            Err(LinesError::NoMemory) => return Err(LinesError::NoMemory),
+            _ => assert!(&rt; are(&texts, wanted)),
+        }
+    }
     Ok(())
 }
