@@ -92,16 +92,23 @@ fn collected<R: Threads + Clock + Alloc<A = Global> + Sync>(
     Ok(found.map_err(|fault| fault.place))
 }
 
+/// Whether both tell this.
+fn are_told<R: Threads + Clock + Alloc<A = Global> + Sync>(
+    engine: &Engine<'_, R, NoGate>,
+    items: &[Result<i64, Fault>],
+    wanted: Result<i64, i64>,
+) -> Result<bool, NoMemory> {
+    Ok(decided(engine, items)? == wanted && collected(engine, items)? == wanted)
+}
+
 fn rows<R: Threads + Clock + Abort + Alloc<A = Global> + Sync>(
     engine: &Engine<'_, R, NoGate>,
 ) -> Result<(), NoMemory> {
     let rt = engine.rt;
     for &(first, second, wanted) in &ROWS {
         let items = numbers(rt, first, second)?;
-        let decided = decided(engine, items.as_slice());
-        let collected = collected(engine, items.as_slice());
         assert!(rt;
-            decided == Ok(wanted) && collected == Ok(wanted),
+            are_told(engine, items.as_slice(), wanted)?,
             "{first}, {second}"
         );
     }
