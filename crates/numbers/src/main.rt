@@ -1,12 +1,24 @@
-//! Seven questions to ten million numbers.
+//! Seven questions to the numbers of a file, or to ten million that are made.
 #![tactic(auto)]
 
 ghost use Rattle.std.specs.Prelude.{◌*ℤ◌};
 ghost use Rattle.mohairjade.specs.Words.{wrapped_product, wrapped-value};
 
+mod line;
+
+use line::NumberOrLine;
 use mohairjade::*;
-use std::thread::Threads;
-use std::time::Clock;
+use program_frame::{ArgMatches, Both, Failure, Host, Progress, Words, file_of, run};
+use std::alloc::Global;
+use std::io::IsTerminal;
+use std::process::ExitCode;
+
+const WORDS: Words = Words {
+    name: "numbers",
+    about: "Answers seven questions to the numbers of a file, or to ten million that are made",
+    file: "Whole numbers between -2^31 and 2^31, one a line",
+    options: &[],
+};
 
 #[derive(Clone, Copy)]
 struct Square;
@@ -23,37 +35,70 @@ impl Mapping<i64> for Square {
     }
 }
 
-/// How many numbers there are: to a check any number, since it would write out a list of so many.
+/// How many numbers are made: to a check any number, since it would write out a list of so many.
 fn count() -> i64 {
     10_000_000
 }
 
-/// The sum of the squares of the even ones, how many are above 900,000, the first above 999,990, and whether all are below 1,000,003.
-fn answers<X: Stream<Item = i64> + Copy + Drop>(
-    engine: &Engine<'_, impl Threads + Clock + Sync, impl Gate + Sync>,
-    numbers: X,
-) -> Result<(i64, i64, Option<i64>, bool), NoMemory>
-    requires { X.ready numbers }
-{
-    let sum = numbers.filter(Even).map(Square).sum(engine)?;
-    let great = numbers.filter(Above(900_000)).count_on(engine)?;
-    let first = numbers.filter(Above(999_990)).find_first_on(engine)?;
-    let all_below = numbers.all_match_on(engine, &Below(1_000_003))?;
-    Ok((sum, great, first, all_below))
+fn main(rt: HostRuntime) -> ExitCode {
+    run(&rt, rt.stderr().is_terminal(), &WORDS, |engine, words| -> Result<String, Failure> {
+        answer(engine, words)
+    })
 }
 
-fn main(rt: HostRuntime) -> anyhow::Result<()> {
-    let engine = Engine::new(&rt, rt.alloc(), &Run::new(4))?;
-    let scattered = Composed(Composed(Times(7_919), Plus(13)), Modulo::by(1_000_003));
-    let numbers = of(RangeSplit::range(0, count())?).map(scattered);
-    let (sum, great, first, all_below) = answers(&engine, numbers)?;
-    println!(rt; "sum of the squares of even ones: {sum}\nabove 900000: {great}")?;
-    println!(rt; "first above 999990: {}", first.unwrap_or(-1))?;
-    println!(rt; "all below 1000003: {all_below}")?;
-    println!(rt; "that differ: {}", numbers.distinct().count_on(&engine)?)?;
-    println!(rt; "greatest: {:?}", numbers.top(&engine, 3)?)?;
-    let digits = GroupingBy::new(rt.alloc(), Modulo::by(10), Counting::<i64>::new());
-    let digits = numbers.collect_on(&engine, &digits)?;
-    println!(rt; "by last digit: {digits:?}")?;
-    Ok(())
+/// The seven answers, of one pass over the numbers.
+fn answer<R: Host>(
+    engine: &Engine<'_, R, Progress<'_, R>>,
+    words: &ArgMatches<'_>,
+) -> Result<String, Failure>
+where
+    R::File: Send,
+{
+    let alloc = engine.alloc;
+    let squares = FilteringTo::new(Even, SummingExact::new(Square));
+    let great = FilteringTo::new(Above(900_000), Counting::<i64>::new());
+    let first = FilteringTo::new(Above(999_990), First::<i64>::new());
+    let beyond = FilteringTo::new(Not(Below(1_000_003)), First::<i64>::new());
+    let greatest = FirstSorted::new(alloc, Descending(Itself), 3);
+    let digits = GroupingBy::new(alloc, Modulo::by(10), Counting::<i64>::new());
+    let above = Teeing::new(Teeing::new(great, first, Both), beyond, Both);
+    let found = Teeing::new(Teeing::new(ToSet::new(alloc), greatest, Both), digits, Both);
+    let questions = Teeing::new(Teeing::new(squares, above, Both), found, Both);
+    let ((squares, ((great, first), beyond)), ((differ, greatest), digits)) =
+        match words.get_str("FILE") {
+            None => {
+                let scattered = Composed(Composed(Times(7_919), Plus(13)), Modulo::by(1_000_003));
+                let numbers = of(RangeSplit::range(0, count()).unwrap()).map(scattered);
+                numbers.collect_on(engine, &questions)?
+            }
+            Some(name) => {
+                let lines = lines_of(file_of(engine.rt, name)?).map_lines(NumberOrLine(alloc));
+                match lines.collect_decided(engine, &Trying::<_, String>::new(questions)) {
+                    Ok(Ok(answers)) => answers,
+                    Ok(Err(line)) => return Err(no_number(alloc, name, &line)),
+                    Err(error) => return Err(Failure::of_lines(alloc, name, error)),
+                }
+            }
+        };
+    let first = match first {
+        Some(first) => format!(in alloc; "{first}")?,
+        None => String::from_str(alloc, "none")?,
+    };
+    Ok(format!(in alloc; "\
+sum of the squares of even ones: {squares}
+above 900000: {great}
+first above 999990: {first}
+all below 1000003: {}
+that differ: {}
+greatest: {greatest:?}
+by last digit: {digits:?}
+", beyond.is_none(), differ.len())?)
+}
+
+/// Of a line that is no number.
+fn no_number(alloc: Global, name: &str, line: &str) -> Failure {
+    match format!(in alloc; "{name}: {line:?} is no whole number between -2^31 and 2^31") {
+        Ok(text) => Failure::BadData(text),
+        Err(refused) => Failure::NoMemory(refused),
+    }
 }

@@ -1,17 +1,30 @@
-//! The ten customers who spent most by orders above ten euros: a CSV text on standard input, and JSON on standard output.
+//! The ten customers who spent most by orders above ten euros: of a CSV text or of a table, as JSON.
 #![tactic(auto)]
 
 ghost use Rattle.mohairjade.specs.Words.{int_lt, string_bytes};
 
-use csv::Reader;
-use mohairjade::*;
-use serde::{Deserialize, Serialize};
+mod order;
+mod table;
 
-#[derive(Deserialize, Drop)]
-struct Order {
-    customer: String,
-    cents: i64,
-}
+use mohairjade::*;
+use order::{Order, orders_of_text};
+use program_frame::{ArgMatches, Failure, Host, Progress, ValueOption, Words, name_of, run};
+use serde::Serialize;
+use std::alloc::AllocError;
+use std::io::IsTerminal;
+use std::process::ExitCode;
+use table::orders_of_table;
+
+const WORDS: Words = Words {
+    name: "orders",
+    about: "The ten customers who spent most by orders above ten euros, as JSON",
+    file: "CSV with the header customer,cents, or with --table a SQLite database; standard input where none is named",
+    options: &[ValueOption {
+        name: "table",
+        value_name: "NAME",
+        help: "The table of the database that has the columns customer and cents",
+    }],
+};
 
 #[derive(Drop)]
 struct Customer;
@@ -37,26 +50,39 @@ impl Tells<Order> for Above {
 #[derive(Serialize, Drop)]
 struct Spent<'a> {
     customer: &'a str,
-    cents: i64,
+    cents: Option<i64>,
 }
 
-fn main(rt: HostRuntime) -> anyhow::Result<()> {
-    let alloc = rt.alloc();
-    let engine = Engine::new(&rt, alloc, &Run::new(4))?;
-    let mut orders = Vec::new(alloc);
-    for order in Reader::from_reader(alloc, rt.stdin()).deserialize::<Order>() {
-        orders.push(order?)?;
-    }
+fn main(rt: HostRuntime) -> ExitCode {
+    run(&rt, rt.stderr().is_terminal(), &WORDS, |engine, words| -> Result<String, Failure> {
+        answer(engine, words)
+    })
+}
+
+fn answer<R: Host>(
+    engine: &Engine<'_, R, Progress<'_, R>>,
+    words: &ArgMatches<'_>,
+) -> Result<String, Failure> {
+    let alloc = engine.alloc;
+    let orders = match words.get_str("table") {
+        Some(table) => orders_of_table(engine.rt, words, table)?,
+        None => orders_of_text(engine.rt, words)?,
+    };
     let customer = made_by(Customer, |o: &Row<Order>| -> &str { o.0.customer.as_str() });
     let cents = made_by(Cents, |o: &Row<Order>| -> i64 { o.0.cents });
     let dear = rows(&orders).filter(such(Above(1000), |o: &Row<Order>| o.0.cents > 1000));
-    let sums = GroupingBy::new(alloc, customer, SummingLong::new(cents));
-    let sums = dear.collect_on(&engine, &sums)?;
+    let sums = GroupingBy::new(alloc, customer, summing_checked(cents));
+    let sums = dear.collect_on(engine, &sums)?;
+    if let Some((customer, _)) = sums.iter().find(|(_, sum)| sum.is_none()) {
+        let what = format!(in alloc; "the cents of {customer:?} come to 2^63 or more")?;
+        return Err(Failure::of_data(alloc, name_of(words), &what));
+    }
     let most = FirstSorted::new(alloc, Descending(OnSecond(Itself)), 10);
     let mut spent = Vec::new(alloc);
-    for (&customer, &cents) in of(EntriesSplit::new(&sums)).collect_on(&engine, &most)? {
+    for (&customer, &cents) in of(EntriesSplit::new(&sums)).collect_on(engine, &most)? {
         spent.push(Spent { customer, cents })?;
     }
-    println!(rt; "{}", serde_json::to_string(alloc, &spent)?)?;
-    Ok(())
+    let mut text = serde_json::to_string(alloc, &spent).map_err(|_| Failure::NoMemory(AllocError))?;
+    text.push_str("\n")?;
+    Ok(text)
 }

@@ -1,0 +1,76 @@
+//! Why a program gives no answer, and the status that tells it.
+ghost use Rattle.std.specs.Prelude.{◌≡◌};
+ghost use Rattle.program_frame.specs.Status.{status_of};
+
+use mohairjade::{LinesError, NoMemory};
+use std::alloc::{AllocError, Global};
+use std::fmt::Display;
+use std::io;
+use thiserror::Error;
+
+/// The statuses with which a program ends.
+pub(crate) const SUCCESS: u8 = 0;
+
+const BAD_DATA: u8 = 1;
+
+pub(crate) const BAD_WORDS: u8 = 2;
+
+pub(crate) const FAILED: u8 = 3;
+
+/// Why a program gives no answer.
+#[derive(Debug, Drop, Error)]
+pub enum Failure {
+    /// What is wrong with the data, and where.
+    #[error("{0}")]
+    BadData(String),
+    #[error("out of memory")]
+    NoMemory(#[from(alloc)] AllocError),
+    /// What isn't read, and why.
+    #[error("{0}: {1}")]
+    Unread(String, io::Error),
+    #[error("standard output: {0}")]
+    Unwritten(io::Error),
+}
+
+impl From<NoMemory> for Failure {
+    fn from(_refused: NoMemory) -> Failure {
+        Failure::NoMemory(AllocError)
+    }
+}
+
+impl Failure {
+    /// Of data that are read under this name.
+    pub fn of_data(alloc: Global, name: &str, what: &impl Display) -> Failure {
+        match format!(in alloc; "{name}: {what}") {
+            Ok(text) => Failure::BadData(text),
+            Err(refused) => Failure::NoMemory(refused),
+        }
+    }
+
+    /// Of a reader that is read under this name.
+    pub fn of_reader(alloc: Global, name: &str, error: io::Error) -> Failure {
+        match String::from_str(alloc, name) {
+            Ok(name) => Failure::Unread(name, error),
+            Err(refused) => Failure::NoMemory(refused),
+        }
+    }
+
+    /// Of lines that are read under this name.
+    pub fn of_lines(alloc: Global, name: &str, error: LinesError) -> Failure {
+        match error {
+            LinesError::NoMemory => Failure::NoMemory(AllocError),
+            LinesError::Read(error) => Failure::of_reader(alloc, name, error),
+            error => Failure::of_data(alloc, name, &error),
+        }
+    }
+
+    /// The status with which the program ends.
+    pub fn status(&self) -> u8
+        ensures { result ≡ status_of self.now }
+    {
+        match self {
+            Failure::BadData(_) => BAD_DATA,
+            Failure::NoMemory(_) | Failure::Unread(_, _) | Failure::Unwritten(_) => FAILED,
+        }
+    }
+}
