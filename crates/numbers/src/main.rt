@@ -41,9 +41,12 @@ fn count() -> i64 {
 }
 
 fn main(rt: HostRuntime) -> ExitCode {
-    run(&rt, rt.stderr().is_terminal(), &WORDS, |engine, words| -> Result<String, Failure> {
-        answer(engine, words)
-    })
+    run(
+        &rt,
+        rt.stderr().is_terminal(),
+        &WORDS,
+        |engine, words| -> Result<String, Failure> { answer(engine, words) },
+    )
 }
 
 /// The seven answers, of one pass over the numbers.
@@ -64,27 +67,29 @@ where
     let above = Teeing::new(Teeing::new(great, first, Both), beyond, Both);
     let found = Teeing::new(Teeing::new(ToSet::new(alloc), greatest, Both), digits, Both);
     let questions = Teeing::new(Teeing::new(squares, above, Both), found, Both);
-    let ((squares, ((great, first), beyond)), ((differ, greatest), digits)) =
-        match words.get_str("FILE") {
-            None => {
-                let scattered = Composed(Composed(Times(7_919), Plus(13)), Modulo::by(1_000_003));
-                let numbers = of(RangeSplit::range(0, count()).unwrap()).map(scattered);
-                numbers.collect_on(engine, &questions)?
+    let ((squares, ((great, first), beyond)), ((differ, greatest), digits)) = match words.get_str(
+        "FILE",
+    ) {
+        None => {
+            let scattered = Composed(Composed(Times(7_919), Plus(13)), Modulo::by(1_000_003));
+            let numbers = of(RangeSplit::range(0, count()).unwrap()).map(scattered);
+            numbers.collect_on(engine, &questions)?
+        }
+        Some(name) => {
+            let lines = lines_of(file_of(engine.rt, name)?).map_lines(NumberOrLine(alloc));
+            match lines.collect_decided(engine, &Trying::<_, String>::new(questions)) {
+                Ok(Ok(answers)) => answers,
+                Ok(Err(line)) => return Err(no_number(alloc, name, &line)),
+                Err(error) => return Err(Failure::of_lines(alloc, name, error)),
             }
-            Some(name) => {
-                let lines = lines_of(file_of(engine.rt, name)?).map_lines(NumberOrLine(alloc));
-                match lines.collect_decided(engine, &Trying::<_, String>::new(questions)) {
-                    Ok(Ok(answers)) => answers,
-                    Ok(Err(line)) => return Err(no_number(alloc, name, &line)),
-                    Err(error) => return Err(Failure::of_lines(alloc, name, error)),
-                }
-            }
-        };
+        }
+    };
     let first = match first {
         Some(first) => format!(in alloc; "{first}")?,
         None => String::from_str(alloc, "none")?,
     };
-    Ok(format!(in alloc; "\
+    Ok(format!(in alloc;
+        "\
 sum of the squares of even ones: {squares}
 above 900000: {great}
 first above 999990: {first}
@@ -92,7 +97,10 @@ all below 1000003: {}
 that differ: {}
 greatest: {greatest:?}
 by last digit: {digits:?}
-", beyond.is_none(), differ.len())?)
+",
+        beyond.is_none(),
+        differ.len()
+    )?)
 }
 
 /// Of a line that is no number.

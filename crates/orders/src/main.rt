@@ -54,9 +54,12 @@ struct Spent<'a> {
 }
 
 fn main(rt: HostRuntime) -> ExitCode {
-    run(&rt, rt.stderr().is_terminal(), &WORDS, |engine, words| -> Result<String, Failure> {
-        answer(engine, words)
-    })
+    run(
+        &rt,
+        rt.stderr().is_terminal(),
+        &WORDS,
+        |engine, words| -> Result<String, Failure> { answer(engine, words) },
+    )
 }
 
 fn answer<R: Host>(

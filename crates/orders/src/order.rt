@@ -28,7 +28,10 @@ pub fn orders_of_text<R: Host>(rt: &R, words: &ArgMatches<'_>) -> Result<Vec<Ord
 fn failure_of(alloc: Global, name: &str, error: csv::Error) -> Failure {
     match error.kind() {
         ErrorKind::OutOfMemory => Failure::NoMemory(AllocError),
-        ErrorKind::Io(_) => match error.into_kind() { ErrorKind::Io(error) => Failure::of_reader(alloc, name, error), _ => Failure::NoMemory(AllocError) },
+        ErrorKind::Io(_) => match error.into_kind() {
+            ErrorKind::Io(error) => Failure::of_reader(alloc, name, error),
+            _ => Failure::NoMemory(AllocError)
+        },
         _ => Failure::of_data(alloc, name, &error),
     }
 }

@@ -44,7 +44,9 @@ fn order_of(alloc: Global, name: &str, row: &Row) -> Result<Order, Failure> {
 fn no_order(alloc: Global, name: &str, row: &Row, what: &str, error: Error) -> Failure {
     let id = row.get::<i64>(2).unwrap_or(0);
     match (error, format!(in alloc; "{name}: row {id}: {what}")) {
-        (Error::SqliteFailure(ErrorCode::OutOfMemory), _) | (_, Err(_)) => Failure::NoMemory(AllocError),
+        (Error::SqliteFailure(ErrorCode::OutOfMemory), _) | (_, Err(_)) => Failure::NoMemory(
+            AllocError,
+        ),
         (_, Ok(text)) => Failure::BadData(text),
     }
 }
@@ -60,11 +62,23 @@ fn database_of<R: Host>(
     if let Err(error) = input_of(rt, words)?.read_to_end(&mut bytes) {
         return Err(Failure::of_reader(alloc, name, error));
     }
-    if beside(rt, name, "-journal")?.first().is_some_and(|&byte| byte != 0) {
-        return Err(Failure::of_data(alloc, name, &"a write was not ended: open it with sqlite3 first"));
+    if beside(rt, name, "-journal")?
+        .first()
+        .is_some_and(|&byte| byte != 0)
+    {
+        return Err(Failure::of_data(
+            alloc,
+            name,
+            &"a write was not ended: open it with sqlite3 first",
+        ));
     }
-    let files = Files { log: disk_of(alloc, &beside(rt, name, "-wal")?)?, db: disk_of(alloc, &bytes)? };
-    let seed = RandomState::new(rt).map_err(|error| Failure::of_reader(alloc, "random numbers", error))?.hash_one(&0u8);
+    let files = Files {
+        log: disk_of(alloc, &beside(rt, name, "-wal")?)?,
+        db: disk_of(alloc, &bytes)?,
+    };
+    let seed = RandomState::new(rt)
+        .map_err(|error| Failure::of_reader(alloc, "random numbers", error))?
+        .hash_one(&0u8);
     match Connection::open_files(alloc, files, Options::new(seed)) {
         Ok(database) => Ok(database),
         Err((error, _)) => Err(failure_of(alloc, name, error)),
@@ -74,7 +88,8 @@ fn database_of<R: Host>(
 /// A disk in memory.
 fn disk_of(alloc: Global, bytes: &[u8]) -> Result<Memory, Failure> {
     let mut disk = Memory::new(alloc);
-    disk.write_at(0, bytes).map_err(|_| Failure::NoMemory(AllocError))?;
+    disk.write_at(0, bytes)
+        .map_err(|_| Failure::NoMemory(AllocError))?;
     Ok(disk)
 }
 

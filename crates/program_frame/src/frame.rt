@@ -1,9 +1,9 @@
 //! A program from its words to its end.
 ghost use Rattle.std.specs.Prelude.{◌≡◌, ◌≤◌};
 
-use crate::{Failure, Host};
 use crate::failure::{BAD_WORDS, FAILED, SUCCESS};
 use crate::progress::Progress;
+use crate::{Failure, Host};
 use clap::error::ErrorKind;
 use clap::{Arg, ArgAction, ArgMatches, Command, value_parser};
 use mohairjade::{Engine, Looks, Run};
@@ -83,7 +83,11 @@ fn parse<'a, S: AsStr>(
         .about(words.about)
         .after_help(STATUSES)
         .no_binary_name(true)
-        .arg(Arg::new(alloc, "FILE").action(ArgAction::Set).help(words.file))?
+        .arg(
+            Arg::new(alloc, "FILE")
+                .action(ArgAction::Set)
+                .help(words.file),
+        )?
         .arg(workers(alloc))?
         .arg(progress(alloc))?;
     for option in words.options {
