@@ -8,8 +8,7 @@ mod line;
 
 use line::NumberOrLine;
 use mohairjade::*;
-use program_frame::{ArgMatches, Both, Failure, Host, Progress, Words, file_of, run};
-use std::alloc::Global;
+use program_frame::{Both, Failure, Host, Task, Words, run};
 use std::io::IsTerminal;
 use std::process::ExitCode;
 
@@ -41,22 +40,16 @@ fn count() -> i64 {
 }
 
 fn main(rt: HostRuntime) -> ExitCode {
-    run(
-        &rt,
-        rt.stderr().is_terminal(),
-        &WORDS,
-        |engine, words| -> Result<String, Failure> { answer(engine, words) },
-    )
+    run(&rt, rt.stderr().is_terminal(), &WORDS, answer)
 }
 
 /// The seven answers, of one pass over the numbers.
-fn answer<R: Host>(
-    engine: &Engine<'_, R, Progress<'_, R>>,
-    words: &ArgMatches<'_>,
-) -> Result<String, Failure>
+fn answer<R: Host>(task: &Task<'_, R>) -> Result<String, Failure>
 where
     R::File: Send,
+    R::Reader: Send,
 {
+    let engine = &task.engine;
     let alloc = engine.alloc;
     let squares = FilteringTo::new(Even, SummingExact::new(Square));
     let great = FilteringTo::new(Above(900_000), Counting::<i64>::new());
@@ -67,20 +60,18 @@ where
     let above = Teeing::new(Teeing::new(great, first, Both), beyond, Both);
     let found = Teeing::new(Teeing::new(ToSet::new(alloc), greatest, Both), digits, Both);
     let questions = Teeing::new(Teeing::new(squares, above, Both), found, Both);
-    let ((squares, ((great, first), beyond)), ((differ, greatest), digits)) = match words.get_str(
-        "FILE",
-    ) {
+    let ((squares, ((great, first), beyond)), ((differ, greatest), digits)) = match task.file() {
         None => {
             let scattered = Composed(Composed(Times(7_919), Plus(13)), Modulo::by(1_000_003));
             let numbers = of(RangeSplit::range(0, count()).unwrap()).map(scattered);
             numbers.collect_on(engine, &questions)?
         }
-        Some(name) => {
-            let lines = lines_of(file_of(engine.rt, name)?).map_lines(NumberOrLine(alloc));
+        Some(_) => {
+            let lines = lines_of(task.input()?).map_lines(NumberOrLine(alloc));
             match lines.collect_decided(engine, &Trying::<_, String>::new(questions)) {
                 Ok(Ok(answers)) => answers,
-                Ok(Err(line)) => return Err(no_number(alloc, name, &line)),
-                Err(error) => return Err(Failure::of_lines(alloc, name, error)),
+                Ok(Err(line)) => return Err(no_number(task, &line)),
+                Err(error) => return Err(task.bad_lines(error)),
             }
         }
     };
@@ -103,10 +94,10 @@ by last digit: {digits:?}
     )?)
 }
 
-/// Of a line that is no number.
-fn no_number(alloc: Global, name: &str, line: &str) -> Failure {
-    match format!(in alloc; "{name}: {line:?} is no whole number between -2^31 and 2^31") {
-        Ok(text) => Failure::BadData(text),
+/// The failure of a line.
+fn no_number<R: Host>(task: &Task<'_, R>, line: &str) -> Failure {
+    match format!(in task.engine.alloc; "{line:?} is no whole number between -2^31 and 2^31") {
+        Ok(what) => task.bad_data(&what),
         Err(refused) => Failure::NoMemory(refused),
     }
 }

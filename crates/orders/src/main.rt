@@ -8,7 +8,7 @@ mod table;
 
 use mohairjade::*;
 use order::{Order, orders_of_text};
-use program_frame::{ArgMatches, Failure, Host, Progress, ValueOption, Words, name_of, run};
+use program_frame::{Failure, Host, Task, ValueOption, Words, run};
 use serde::Serialize;
 use std::alloc::AllocError;
 use std::io::IsTerminal;
@@ -54,35 +54,27 @@ struct Spent<'a> {
 }
 
 fn main(rt: HostRuntime) -> ExitCode {
-    run(
-        &rt,
-        rt.stderr().is_terminal(),
-        &WORDS,
-        |engine, words| -> Result<String, Failure> { answer(engine, words) },
-    )
+    run(&rt, rt.stderr().is_terminal(), &WORDS, answer)
 }
 
-fn answer<R: Host>(
-    engine: &Engine<'_, R, Progress<'_, R>>,
-    words: &ArgMatches<'_>,
-) -> Result<String, Failure> {
-    let alloc = engine.alloc;
-    let orders = match words.get_str("table") {
-        Some(table) => orders_of_table(engine.rt, words, table)?,
-        None => orders_of_text(engine.rt, words)?,
+fn answer<R: Host>(task: &Task<'_, R>) -> Result<String, Failure> {
+    let alloc = task.engine.alloc;
+    let orders = match task.words.get_str("table") {
+        Some(table) => orders_of_table(task, table)?,
+        None => orders_of_text(task)?,
     };
     let customer = made_by(Customer, |o: &Row<Order>| -> &str { o.0.customer.as_str() });
     let cents = made_by(Cents, |o: &Row<Order>| -> i64 { o.0.cents });
     let dear = rows(&orders).filter(such(Above(1000), |o: &Row<Order>| o.0.cents > 1000));
     let sums = GroupingBy::new(alloc, customer, summing_checked(cents));
-    let sums = dear.collect_on(engine, &sums)?;
+    let sums = dear.collect_on(&task.engine, &sums)?;
     if let Some((customer, _)) = sums.iter().find(|(_, sum)| sum.is_none()) {
         let what = format!(in alloc; "the cents of {customer:?} come to 2^63 or more")?;
-        return Err(Failure::of_data(alloc, name_of(words), &what));
+        return Err(task.bad_data(&what));
     }
     let most = FirstSorted::new(alloc, Descending(OnSecond(Itself)), 10);
     let mut spent = Vec::new(alloc);
-    for (&customer, &cents) in of(EntriesSplit::new(&sums)).collect_on(engine, &most)? {
+    for (&customer, &cents) in of(EntriesSplit::new(&sums)).collect_on(&task.engine, &most)? {
         spent.push(Spent { customer, cents })?;
     }
     let mut text = serde_json::to_string(alloc, &spent).map_err(|_| Failure::NoMemory(AllocError))?;

@@ -1,8 +1,8 @@
 //! The orders of a CSV text.
-use csv::{ErrorKind, Reader};
-use program_frame::{ArgMatches, Failure, Host, input_of, name_of};
+use csv::{Error, ErrorKind, Reader};
+use program_frame::{Failure, Host, Task};
 use serde::Deserialize;
-use std::alloc::{AllocError, Global};
+use std::alloc::AllocError;
 
 /// An order: who ordered, and for how much.
 #[derive(Deserialize, Drop)]
@@ -12,26 +12,24 @@ pub struct Order {
 }
 
 /// The orders of a CSV text.
-pub fn orders_of_text<R: Host>(rt: &R, words: &ArgMatches<'_>) -> Result<Vec<Order>, Failure> {
-    let alloc = rt.alloc();
+pub fn orders_of_text<R: Host>(task: &Task<'_, R>) -> Result<Vec<Order>, Failure> {
+    let alloc = task.engine.alloc;
     let mut orders = Vec::new(alloc);
-    for order in Reader::from_reader(alloc, input_of(rt, words)?).deserialize::<Order>() {
-        match order {
-            Ok(order) => orders.push(order)?,
-            Err(error) => return Err(failure_of(alloc, name_of(words), error)),
-        }
+    for order in Reader::from_reader(alloc, task.input()?).deserialize() {
+        orders.push(order.map_err(|error| no_text(task, error))?)?;
     }
     Ok(orders)
 }
 
-/// Why a text has no orders.
-fn failure_of(alloc: Global, name: &str, error: csv::Error) -> Failure {
+/// The failure of a text.
+fn no_text<R: Host>(task: &Task<'_, R>, error: Error) -> Failure {
+    if error.is_io_error() {
+        if let ErrorKind::Io(error) = error.into_kind() {
+            return task.unread(error);
+        }
+    }
     match error.kind() {
         ErrorKind::OutOfMemory => Failure::NoMemory(AllocError),
-        ErrorKind::Io(_) => match error.into_kind() {
-            ErrorKind::Io(error) => Failure::of_reader(alloc, name, error),
-            _ => Failure::NoMemory(AllocError)
-        },
-        _ => Failure::of_data(alloc, name, &error),
+        _ => task.bad_data(&error),
     }
 }

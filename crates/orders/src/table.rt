@@ -1,113 +1,107 @@
-//! The orders of a table of a SQLite database. The files are read into memory, and never written.
+//! The orders of a table of a SQLite database. Its files are read into memory, and never written.
+ghost use Rattle.std.specs.Prelude.{IsTrue, IfOk};
+ghost use Rattle.sqlite_disk.specs.Memory.{memory_is_usable};
+
 use crate::order::Order;
-use program_frame::{ArgMatches, Failure, Host, input_of, name_of};
+use program_frame::{Failure, Host, Task};
 use sqlite::{Connection, Error, ErrorCode, FileStore, Files, Options, Row};
 use sqlite_disk::{Disk, Memory};
 use std::alloc::{AllocError, Global};
 use std::fs;
 use std::hash::{BuildHasher, RandomState};
-use std::io::{self, Read};
+use std::io::{ErrorKind, Read};
 
-/// The orders of a table.
-pub fn orders_of_table<R: Host>(
-    rt: &R,
-    words: &ArgMatches<'_>,
-    table: &str,
-) -> Result<Vec<Order>, Failure> {
-    let alloc = rt.alloc();
-    let name = name_of(words);
-    let mut database = database_of(rt, words)?;
-    let table = table.replace(alloc, "\"", "\"\"")?;
-    let sql = format!(in alloc; "SELECT customer, cents, rowid FROM \"{table}\"")?;
-    let told = |error| failure_of(alloc, name, error);
-    let mut rows = database.query(&sql, &[]).map_err(told)?;
+/// The orders of a table, by its rowids.
+pub fn orders_of_table<R: Host>(task: &Task<'_, R>, table: &str) -> Result<Vec<Order>, Failure> {
+    let alloc = task.engine.alloc;
+    let told = |error| failed(task, table, error);
+    let name = table.replace(alloc, "\"", "\"\"")?;
+    let query = format!(in alloc; "SELECT customer, cents, rowid FROM \"{name}\"")?;
+    let mut database = database_of(task)?;
+    let mut rows = database.query(&query, &[]).map_err(told)?;
     let mut orders = Vec::new(alloc);
     for _ in 0..u64::MAX {
         let Some(row) = rows.next().map_err(told)? else {
-            return Ok(orders);
+            break;
         };
-        orders.push(order_of(alloc, name, row)?)?;
+        orders.push(order_of(task, row)?)?;
     }
     Ok(orders)
 }
 
 /// The order of a row.
-fn order_of(alloc: Global, name: &str, row: &Row) -> Result<Order, Failure> {
-    match (row.get(0), row.get(1)) {
-        (Ok(customer), Ok(cents)) => Ok(Order { customer, cents }),
-        (Err(error), _) => Err(no_order(alloc, name, row, "customer is no text", error)),
-        (_, Err(error)) => Err(no_order(alloc, name, row, "cents is no whole number", error)),
+fn order_of<R: Host>(task: &Task<'_, R>, row: &Row) -> Result<Order, Failure> {
+    let (what, error) = match (row.get(0), row.get(1)) {
+        (Ok(customer), Ok(cents)) => return Ok(Order { customer, cents }),
+        (Err(error), _) => ("customer is no text", error),
+        (_, Err(error)) => ("cents is no whole number of 64 bits", error),
+    };
+    if error == NO_MEMORY {
+        return Err(Failure::NoMemory(AllocError));
     }
-}
-
-/// Of a row that is no order.
-fn no_order(alloc: Global, name: &str, row: &Row, what: &str, error: Error) -> Failure {
-    let id = row.get::<i64>(2).unwrap_or(0);
-    match (error, format!(in alloc; "{name}: row {id}: {what}")) {
-        (Error::SqliteFailure(ErrorCode::OutOfMemory), _) | (_, Err(_)) => Failure::NoMemory(
-            AllocError,
-        ),
-        (_, Ok(text)) => Failure::BadData(text),
-    }
+    let id: i64 = row.get(2).unwrap_or(0);
+    let what = format!(in task.engine.alloc; "row {id}: {what}")?;
+    Err(task.bad_data(&what))
 }
 
 /// The database of the file, with what its log holds.
-fn database_of<R: Host>(
-    rt: &R,
-    words: &ArgMatches<'_>,
-) -> Result<Connection<FileStore<Memory>>, Failure> {
-    let alloc = rt.alloc();
-    let name = name_of(words);
+fn database_of<R: Host>(task: &Task<'_, R>) -> Result<Connection<FileStore<Memory>>, Failure> {
+    let alloc = task.engine.alloc;
     let mut bytes = Vec::new(alloc);
-    if let Err(error) = input_of(rt, words)?.read_to_end(&mut bytes) {
-        return Err(Failure::of_reader(alloc, name, error));
-    }
-    if beside(rt, name, "-journal")?
+    task.input()?
+        .read_to_end(&mut bytes)
+        .map_err(|error| task.unread(error))?;
+    if beside(task, "-journal")?
         .first()
         .is_some_and(|&byte| byte != 0)
     {
-        return Err(Failure::of_data(
-            alloc,
-            name,
-            &"a write was not ended: open it with sqlite3 first",
-        ));
+        return Err(task.bad_data(&"a write was cut off: open it with sqlite3 first"));
     }
     let files = Files {
-        log: disk_of(alloc, &beside(rt, name, "-wal")?)?,
+        log: disk_of(alloc, &beside(task, "-wal")?)?,
         db: disk_of(alloc, &bytes)?,
     };
-    let seed = RandomState::new(rt)
-        .map_err(|error| Failure::of_reader(alloc, "random numbers", error))?
+    let seed = RandomState::new(task.engine.rt)
+        .map_err(|error| task.unread(error))?
         .hash_one(&0u8);
-    match Connection::open_files(alloc, files, Options::new(seed)) {
-        Ok(database) => Ok(database),
-        Err((error, _)) => Err(failure_of(alloc, name, error)),
+    Connection::open_files(alloc, files, Options::new(seed)).map_err(|(error, _)| failed(
+        task,
+        "sqlite_schema",
+        error,
+    ))
+}
+
+/// The bytes of a file beside the database's; none where it is missing.
+fn beside<R: Host>(task: &Task<'_, R>, ending: &str) -> Result<Vec<u8>, Failure> {
+    let alloc = task.engine.alloc;
+    let name = format!(in alloc; "{}{ending}", task.name())?;
+    match fs::read(task.engine.rt, &name) {
+        Ok(bytes) => Ok(bytes),
+        Err(error) if error.kind() == ErrorKind::NotFound => Ok(Vec::new(alloc)),
+        Err(error) => Err(task.unread(error)),
     }
 }
 
 /// A disk in memory.
-fn disk_of(alloc: Global, bytes: &[u8]) -> Result<Memory, Failure> {
+fn disk_of(alloc: Global, bytes: &[u8]) -> Result<Memory, AllocError>
+    ensures { IfOk result (λ disk. IsTrue (memory_is_usable disk)) }
+{
     let mut disk = Memory::new(alloc);
-    disk.write_at(0, bytes)
-        .map_err(|_| Failure::NoMemory(AllocError))?;
-    Ok(disk)
-}
-
-/// The bytes of a file beside the database's, none where it is missing.
-fn beside<R: Host>(rt: &R, name: &str, end: &str) -> Result<Vec<u8>, Failure> {
-    let alloc = rt.alloc();
-    let path = format!(in alloc; "{name}{end}")?;
-    match fs::read(rt, &path) {
-        Ok(bytes) => Ok(bytes),
-        Err(error) if error.kind() == io::ErrorKind::NotFound => Ok(Vec::new(alloc)),
-        Err(error) => Err(Failure::of_reader(alloc, &path, error)),
+    match disk.write_at(0, bytes) {
+        Ok(()) => Ok(disk),
+        Err(_) => Err(AllocError),
     }
 }
 
-/// Why a database has no orders.
-fn failure_of(alloc: Global, name: &str, error: Error) -> Failure {
-    match error {
-        Error::SqliteFailure(ErrorCode::OutOfMemory) => Failure::NoMemory(AllocError),
-        error => Failure::of_data(alloc, name, &error),
+const NO_MEMORY: Error = Error::SqliteFailure(ErrorCode::OutOfMemory);
+
+/// The failure of a database.
+fn failed<R: Host>(task: &Task<'_, R>, table: &str, error: Error) -> Failure {
+    if error == NO_MEMORY {
+        return Failure::NoMemory(AllocError);
+    }
+    match format!(in task.engine.alloc; "table {table}: {error}") {
+        Ok(what) => task.bad_data(&what),
+        Err(refused) => Failure::NoMemory(refused),
     }
 }

@@ -2,7 +2,7 @@
 ghost use Rattle.std.specs.Prelude.{◌≡◌};
 ghost use Rattle.program_frame.specs.Status.{status_of};
 
-use mohairjade::{LinesError, NoMemory};
+use mohairjade::NoMemory;
 use std::alloc::{AllocError, Global};
 use std::fmt::Display;
 use std::io;
@@ -39,31 +39,6 @@ impl From<NoMemory> for Failure {
 }
 
 impl Failure {
-    /// Of data that are read under this name.
-    pub fn of_data(alloc: Global, name: &str, what: &impl Display) -> Failure {
-        match format!(in alloc; "{name}: {what}") {
-            Ok(text) => Failure::BadData(text),
-            Err(refused) => Failure::NoMemory(refused),
-        }
-    }
-
-    /// Of a reader that is read under this name.
-    pub fn of_reader(alloc: Global, name: &str, error: io::Error) -> Failure {
-        match String::from_str(alloc, name) {
-            Ok(name) => Failure::Unread(name, error),
-            Err(refused) => Failure::NoMemory(refused),
-        }
-    }
-
-    /// Of lines that are read under this name.
-    pub fn of_lines(alloc: Global, name: &str, error: LinesError) -> Failure {
-        match error {
-            LinesError::NoMemory => Failure::NoMemory(AllocError),
-            LinesError::Read(error) => Failure::of_reader(alloc, name, error),
-            error => Failure::of_data(alloc, name, &error),
-        }
-    }
-
     /// The status with which the program ends.
     pub fn status(&self) -> u8
         ensures { result ≡ status_of self.now }
@@ -72,5 +47,21 @@ impl Failure {
             Failure::BadData(_) => BAD_DATA,
             Failure::NoMemory(_) | Failure::Unread(_, _) | Failure::Unwritten(_) => FAILED,
         }
+    }
+}
+
+/// The failure of data that are read under this name.
+pub(crate) fn bad_data(alloc: Global, name: &str, what: &impl Display) -> Failure {
+    match format!(in alloc; "{name}: {what}") {
+        Ok(text) => Failure::BadData(text),
+        Err(refused) => Failure::NoMemory(refused),
+    }
+}
+
+/// The failure of a reader of this name.
+pub(crate) fn unread(alloc: Global, name: &str, error: io::Error) -> Failure {
+    match String::from_str(alloc, name) {
+        Ok(name) => Failure::Unread(name, error),
+        Err(refused) => Failure::NoMemory(refused),
     }
 }

@@ -4,22 +4,25 @@
 //! const WORDS: Words = Words { name: "lines", about: "How many lines there are", file: "The text", options: &[] };
 //!
 //! fn main(rt: HostRuntime) -> ExitCode {
-//!     run(&rt, rt.stderr().is_terminal(), &WORDS, |engine, words| -> Result<String, Failure> { answer(engine, words) })
+//!     run(&rt, rt.stderr().is_terminal(), &WORDS, |task| -> Result<String, Failure> { answer(task) })
 //! }
+//!
+//! fn answer<R: Host>(task: &Task<'_, R>) -> Result<String, Failure>
 //! ```
 #![tactic(auto)]
 
 mod both;
+mod command_line;
 mod failure;
 mod frame;
 mod host;
-mod input;
 mod progress;
+mod task;
 
 pub use both::Both;
-pub use clap::ArgMatches;
+pub use command_line::{ValueOption, Words};
 pub use failure::Failure;
-pub use frame::{ValueOption, Words, run};
+pub use frame::run;
 pub use host::Host;
-pub use input::{file_of, input_of, name_of};
 pub use progress::Progress;
+pub use task::Task;

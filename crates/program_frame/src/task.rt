@@ -1,0 +1,58 @@
+//! What a program is asked to do.
+use crate::failure::{Failure, bad_data, unread};
+use crate::{Host, Progress};
+use clap::ArgMatches;
+use either::Either;
+use mohairjade::{Engine, LinesError};
+use std::alloc::AllocError;
+use std::fmt::Display;
+use std::{fs, io};
+
+/// What a program is asked to do: the words of its command line, and the engine that it runs on.
+#[derive(Drop)]
+pub struct Task<'a, R> {
+    pub engine: Engine<'a, R, Progress<'a, R>>,
+    pub words: &'a ArgMatches<'a>,
+}
+
+impl<R: Host> Task<'_, R> {
+    /// The file that is named.
+    pub fn file(&self) -> Option<&str> {
+        self.words.get_str("FILE")
+    }
+
+    /// What is read, as messages name it.
+    pub fn name(&self) -> &str {
+        self.file().unwrap_or("standard input")
+    }
+
+    /// The file that is named, or else standard input.
+    pub fn input(&self) -> Result<Either<R::File, R::Reader>, Failure> {
+        let Some(name) = self.file() else {
+            return Ok(Either::Right(self.engine.rt.reader()));
+        };
+        match fs::open(self.engine.rt, name) {
+            Ok(file) => Ok(Either::Left(file)),
+            Err(error) => Err(self.unread(error)),
+        }
+    }
+
+    /// The failure of data that are at fault.
+    pub fn bad_data(&self, what: &impl Display) -> Failure {
+        bad_data(self.engine.alloc, self.name(), what)
+    }
+
+    /// The failure of an input that isn't read.
+    pub fn unread(&self, error: io::Error) -> Failure {
+        unread(self.engine.alloc, self.name(), error)
+    }
+
+    /// The failure of the input's lines.
+    pub fn bad_lines(&self, error: LinesError) -> Failure {
+        match error {
+            LinesError::NoMemory => Failure::NoMemory(AllocError),
+            LinesError::Read(error) => self.unread(error),
+            error => self.bad_data(&error),
+        }
+    }
+}
