@@ -12,7 +12,7 @@ pub struct Order {
 }
 
 /// The orders of a CSV text.
-pub fn orders_of_text<R: Host>(task: &Task<'_, R>) -> Result<Vec<Order>, Failure> {
+pub fn orders_of_text<R: Host, G>(task: &Task<'_, R, G>) -> Result<Vec<Order>, Failure> {
     let alloc = task.engine.alloc;
     let mut orders = Vec::new(alloc);
     for order in Reader::from_reader(alloc, task.input()?).deserialize() {
@@ -22,14 +22,11 @@ pub fn orders_of_text<R: Host>(task: &Task<'_, R>) -> Result<Vec<Order>, Failure
 }
 
 /// The failure of a text.
-fn no_text<R: Host>(task: &Task<'_, R>, error: Error) -> Failure {
-    if error.is_io_error() {
-        if let ErrorKind::Io(error) = error.into_kind() {
-            return task.unread(error);
-        }
-    }
-    match error.kind() {
-        ErrorKind::OutOfMemory => Failure::NoMemory(AllocError),
-        _ => task.bad_data(&error),
+fn no_text<R: Host, G>(task: &Task<'_, R, G>, error: Error) -> Failure {
+    let what = format!(in task.engine.alloc; "{error}");
+    match (error.into_kind(), what) {
+        (ErrorKind::Io(error), _) => task.unread(error),
+        (ErrorKind::OutOfMemory, _) | (_, Err(_)) => Failure::NoMemory(AllocError),
+        (_, Ok(what)) => task.bad_data(&what),
     }
 }

@@ -12,7 +12,10 @@ use std::hash::{BuildHasher, RandomState};
 use std::io::{ErrorKind, Read};
 
 /// The orders of a table, by its rowids.
-pub fn orders_of_table<R: Host>(task: &Task<'_, R>, table: &str) -> Result<Vec<Order>, Failure> {
+pub fn orders_of_table<R: Host, G>(
+    task: &Task<'_, R, G>,
+    table: &str,
+) -> Result<Vec<Order>, Failure> {
     let alloc = task.engine.alloc;
     let told = |error| failed(task, table, error);
     let name = table.replace(alloc, "\"", "\"\"")?;
@@ -30,7 +33,7 @@ pub fn orders_of_table<R: Host>(task: &Task<'_, R>, table: &str) -> Result<Vec<O
 }
 
 /// The order of a row.
-fn order_of<R: Host>(task: &Task<'_, R>, row: &Row) -> Result<Order, Failure> {
+fn order_of<R: Host, G>(task: &Task<'_, R, G>, row: &Row) -> Result<Order, Failure> {
     let (what, error) = match (row.get(0), row.get(1)) {
         (Ok(customer), Ok(cents)) => return Ok(Order { customer, cents }),
         (Err(error), _) => ("customer is no text", error),
@@ -45,7 +48,9 @@ fn order_of<R: Host>(task: &Task<'_, R>, row: &Row) -> Result<Order, Failure> {
 }
 
 /// The database of the file, with what its log holds.
-fn database_of<R: Host>(task: &Task<'_, R>) -> Result<Connection<FileStore<Memory>>, Failure> {
+fn database_of<R: Host, G>(
+    task: &Task<'_, R, G>,
+) -> Result<Connection<FileStore<Memory>>, Failure> {
     let alloc = task.engine.alloc;
     let mut bytes = Vec::new(alloc);
     task.input()?
@@ -72,7 +77,7 @@ fn database_of<R: Host>(task: &Task<'_, R>) -> Result<Connection<FileStore<Memor
 }
 
 /// The bytes of a file beside the database's; none where it is missing.
-fn beside<R: Host>(task: &Task<'_, R>, ending: &str) -> Result<Vec<u8>, Failure> {
+fn beside<R: Host, G>(task: &Task<'_, R, G>, ending: &str) -> Result<Vec<u8>, Failure> {
     let alloc = task.engine.alloc;
     let name = format!(in alloc; "{}{ending}", task.name())?;
     match fs::read(task.engine.rt, &name) {
@@ -96,7 +101,7 @@ fn disk_of(alloc: Global, bytes: &[u8]) -> Result<Memory, AllocError>
 const NO_MEMORY: Error = Error::SqliteFailure(ErrorCode::OutOfMemory);
 
 /// The failure of a database.
-fn failed<R: Host>(task: &Task<'_, R>, table: &str, error: Error) -> Failure {
+fn failed<R: Host, G>(task: &Task<'_, R, G>, table: &str, error: Error) -> Failure {
     if error == NO_MEMORY {
         return Failure::NoMemory(AllocError);
     }

@@ -1,21 +1,30 @@
 //! A program from its words to its end.
 use crate::command_line::{MOST_WORKERS, Words, given_words, parse};
 use crate::failure::{BAD_WORDS, FAILED, Failure, SUCCESS};
-use crate::{Host, Progress, Task};
+use crate::{Host, Task};
 use clap::ArgMatches;
 use clap::error::ErrorKind;
-use mohairjade::{Engine, Looks, Run};
+use mohairjade::{Engine, Gate, Looks, Meter, Run};
 use std::fmt::Display;
 use std::process::ExitCode;
 
 const DEFAULT_WORKERS: u32 = 4;
 
+/// A program that makes one text of its data.
+pub trait Program {
+    /// The text that is written to standard output.
+    fn answer<R: Host, G: Gate + Sync>(&self, task: &Task<'_, R, G>) -> Result<String, Failure>
+    where
+        R::File: Send,
+        R::Reader: Send;
+}
+
 /// Runs a program: reads its words, has its answer made, and writes it to standard output. What goes wrong is told on standard error, which
 /// is a terminal or isn't.
-pub fn run<R: Host, A>(rt: &R, is_terminal: bool, words: &Words, answer: A) -> ExitCode
+pub fn run<R: Host, P: Program>(rt: &R, is_terminal: bool, words: &Words, program: &P) -> ExitCode
 where
-    A: FnOnce(&Task<'_, R>) -> Result<String, Failure>,
-    requires { A.IsAlwaysCallable answer }
+    R::File: Send,
+    R::Reader: Send,
 {
     let given = match given_words(rt) {
         Ok(given) => given,
@@ -25,35 +34,35 @@ where
         Ok(matches) => matches,
         Err(error) => return explain(rt, words.name, &error),
     };
-    match answer_to(rt, is_terminal, &matches, answer) {
+    let looks = Looks::of_terminal(rt, is_terminal);
+    match answer(rt, looks, &matches, program).and_then(|text| write(rt, &text)) {
         Ok(()) => ExitCode::from(SUCCESS),
         Err(failure) => tell(rt, words.name, &failure, failure.status()),
     }
 }
 
-/// Has the answer made, and writes it.
-fn answer_to<R: Host, A>(
-    rt: &R,
-    is_terminal: bool,
-    matches: &ArgMatches<'_>,
-    answer: A,
-) -> Result<(), Failure>
+/// The answer, made by so many workers as the words say, and watched if they say so.
+fn answer<'a, R: Host, P: Program>(
+    rt: &'a R,
+    looks: Looks,
+    words: &'a ArgMatches<'a>,
+    program: &P,
+) -> Result<String, Failure>
 where
-    A: FnOnce(&Task<'_, R>) -> Result<String, Failure>,
-    requires { A.IsAlwaysCallable answer }
+    R::File: Send,
+    R::Reader: Send,
 {
-    let workers = matches.get_one("workers").unwrap_or(DEFAULT_WORKERS);
-    let is_watched = matches.get_flag("progress");
-    let looks = is_watched.then(|| Looks::of_terminal(rt, is_terminal));
-    let progress = Progress::new(rt, looks);
-    let run = Run::new(workers.clamp(1, MOST_WORKERS)).with_gate(&progress);
-    let engine = Engine::new(rt, rt.alloc(), &run).unwrap();
-    let answered = answer(&Task {
-        engine,
-        words: matches,
-    });
-    progress.finish();
-    write(rt, &answered?)
+    let workers = words.get_one("workers").unwrap_or(DEFAULT_WORKERS);
+    let run = Run::new(workers.clamp(1, MOST_WORKERS));
+    if !words.get_flag("progress") {
+        let engine = Engine::new(rt, rt.alloc(), &run).unwrap();
+        return program.answer(&Task { engine, words });
+    }
+    let meter = Meter::new(rt, looks);
+    let engine = Engine::new(rt, rt.alloc(), &run.with_gate(&meter)).unwrap();
+    let answered = program.answer(&Task { engine, words });
+    meter.finish();
+    answered
 }
 
 /// Writes a whole text to standard output.

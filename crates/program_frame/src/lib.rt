@@ -4,10 +4,14 @@
 //! const WORDS: Words = Words { name: "lines", about: "How many lines there are", file: "The text", options: &[] };
 //!
 //! fn main(rt: HostRuntime) -> ExitCode {
-//!     run(&rt, rt.stderr().is_terminal(), &WORDS, |task| -> Result<String, Failure> { answer(task) })
+//!     run(&rt, rt.stderr().is_terminal(), &WORDS, &Lines)
 //! }
 //!
-//! fn answer<R: Host>(task: &Task<'_, R>) -> Result<String, Failure>
+//! impl Program for Lines {
+//!     fn answer<R: Host, G: Gate + Sync>(&self, task: &Task<'_, R, G>) -> Result<String, Failure> {
+//!         ..
+//!     }
+//! }
 //! ```
 #![tactic(auto)]
 
@@ -16,13 +20,11 @@ mod command_line;
 mod failure;
 mod frame;
 mod host;
-mod progress;
 mod task;
 
 pub use both::Both;
 pub use command_line::{ValueOption, Words};
 pub use failure::Failure;
-pub use frame::run;
+pub use frame::{Program, run};
 pub use host::Host;
-pub use progress::Progress;
 pub use task::Task;

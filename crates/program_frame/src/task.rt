@@ -1,6 +1,6 @@
 //! What a program is asked to do.
+use crate::Host;
 use crate::failure::{Failure, bad_data, unread};
-use crate::{Host, Progress};
 use clap::ArgMatches;
 use either::Either;
 use mohairjade::{Engine, LinesError};
@@ -10,12 +10,12 @@ use std::{fs, io};
 
 /// What a program is asked to do: the words of its command line, and the engine that it runs on.
 #[derive(Drop)]
-pub struct Task<'a, R> {
-    pub engine: Engine<'a, R, Progress<'a, R>>,
+pub struct Task<'a, R, G> {
+    pub engine: Engine<'a, R, G>,
     pub words: &'a ArgMatches<'a>,
 }
 
-impl<R: Host> Task<'_, R> {
+impl<R: Host, G> Task<'_, R, G> {
     /// The file that is named.
     pub fn file(&self) -> Option<&str> {
         self.words.get_str("FILE")
