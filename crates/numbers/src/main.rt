@@ -47,7 +47,7 @@ struct Numbers;
 
 impl Program for Numbers {
     /// The seven answers, of one pass over the numbers.
-    fn answer<R: Host, G: Gate + Sync>(&self, task: &Task<'_, R, G>) -> Result<String, Failure>
+    fn answer<R: Host, G: Gate + Sync>(&self, task: &Task<'_, '_, R, G>) -> Result<String, Failure>
     where
         R::File: Send,
         R::Reader: Send,
@@ -103,7 +103,7 @@ by last digit: {digits:?}
 }
 
 /// The failure of a line.
-fn no_number<R: Host, G>(task: &Task<'_, R, G>, line: &str) -> Failure {
+fn no_number<R: Host, G>(task: &Task<'_, '_, R, G>, line: &str) -> Failure {
     match format!(in task.engine.alloc; "{line:?} is no whole number between -2^31 and 2^31") {
         Ok(what) => task.bad_data(&what),
         Err(refused) => Failure::NoMemory(refused),

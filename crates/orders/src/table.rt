@@ -13,7 +13,7 @@ use std::io::{ErrorKind, Read};
 
 /// The orders of a table, by its rowids.
 pub fn orders_of_table<R: Host, G>(
-    task: &Task<'_, R, G>,
+    task: &Task<'_, '_, R, G>,
     table: &str,
 ) -> Result<Vec<Order>, Failure> {
     let alloc = task.engine.alloc;
@@ -33,7 +33,7 @@ pub fn orders_of_table<R: Host, G>(
 }
 
 /// The order of a row.
-fn order_of<R: Host, G>(task: &Task<'_, R, G>, row: &Row) -> Result<Order, Failure> {
+fn order_of<R: Host, G>(task: &Task<'_, '_, R, G>, row: &Row) -> Result<Order, Failure> {
     let (what, error) = match (row.get(0), row.get(1)) {
         (Ok(customer), Ok(cents)) => return Ok(Order { customer, cents }),
         (Err(error), _) => ("customer is no text", error),
@@ -49,7 +49,7 @@ fn order_of<R: Host, G>(task: &Task<'_, R, G>, row: &Row) -> Result<Order, Failu
 
 /// The database of the file, with what its log holds.
 fn database_of<R: Host, G>(
-    task: &Task<'_, R, G>,
+    task: &Task<'_, '_, R, G>,
 ) -> Result<Connection<FileStore<Memory>>, Failure> {
     let alloc = task.engine.alloc;
     let mut bytes = Vec::new(alloc);
@@ -77,7 +77,7 @@ fn database_of<R: Host, G>(
 }
 
 /// The bytes of a file beside the database's; none where it is missing.
-fn beside<R: Host, G>(task: &Task<'_, R, G>, ending: &str) -> Result<Vec<u8>, Failure> {
+fn beside<R: Host, G>(task: &Task<'_, '_, R, G>, ending: &str) -> Result<Vec<u8>, Failure> {
     let alloc = task.engine.alloc;
     let name = format!(in alloc; "{}{ending}", task.name())?;
     match fs::read(task.engine.rt, &name) {
@@ -101,7 +101,7 @@ fn disk_of(alloc: Global, bytes: &[u8]) -> Result<Memory, AllocError>
 const NO_MEMORY: Error = Error::SqliteFailure(ErrorCode::OutOfMemory);
 
 /// The failure of a database.
-fn failed<R: Host, G>(task: &Task<'_, R, G>, table: &str, error: Error) -> Failure {
+fn failed<R: Host, G>(task: &Task<'_, '_, R, G>, table: &str, error: Error) -> Failure {
     if error == NO_MEMORY {
         return Failure::NoMemory(AllocError);
     }

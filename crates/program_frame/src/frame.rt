@@ -13,7 +13,7 @@ const DEFAULT_WORKERS: u32 = 4;
 /// A program that makes one text of its data.
 pub trait Program {
     /// The text that is written to standard output.
-    fn answer<R: Host, G: Gate + Sync>(&self, task: &Task<'_, R, G>) -> Result<String, Failure>
+    fn answer<R: Host, G: Gate + Sync>(&self, task: &Task<'_, '_, R, G>) -> Result<String, Failure>
     where
         R::File: Send,
         R::Reader: Send;
@@ -42,10 +42,10 @@ where
 }
 
 /// The answer, made by so many workers as the words say, and watched if they say so.
-fn answer<'a, R: Host, P: Program>(
-    rt: &'a R,
+fn answer<R: Host, P: Program>(
+    rt: &R,
     looks: Looks,
-    words: &'a ArgMatches<'a>,
+    words: &ArgMatches<'_>,
     program: &P,
 ) -> Result<String, Failure>
 where

@@ -10,12 +10,12 @@ use std::{fs, io};
 
 /// What a program is asked to do: the words of its command line, and the engine that it runs on.
 #[derive(Drop)]
-pub struct Task<'a, R, G> {
+pub struct Task<'a, 'w, R, G> {
     pub engine: Engine<'a, R, G>,
-    pub words: &'a ArgMatches<'a>,
+    pub words: &'a ArgMatches<'w>,
 }
 
-impl<R: Host, G> Task<'_, R, G> {
+impl<R: Host, G> Task<'_, '_, R, G> {
     /// The file that is named.
     pub fn file(&self) -> Option<&str> {
         self.words.get_str("FILE")
