@@ -42,10 +42,10 @@ where
 }
 
 /// The answer, made by so many workers as the words say, and watched if they say so.
-fn answer<R: Host, P: Program>(
-    rt: &R,
+fn answer<'a, R: Host, P: Program>(
+    rt: &'a R,
     looks: Looks,
-    words: &ArgMatches<'_>,
+    words: &'a ArgMatches<'_>,
     program: &P,
 ) -> Result<String, Failure>
 where
