@@ -4,6 +4,7 @@ import static java.util.stream.Collectors.*;
 import java.io.IOException;
 import java.io.UncheckedIOException;
 import java.math.BigInteger;
+import java.nio.charset.MalformedInputException;
 import java.nio.file.Files;
 import java.nio.file.Path;
 import java.util.LinkedHashMap;
@@ -73,8 +74,11 @@ public class Numbers {
         try {
             System.out.println(new ForkJoinPool(workers).submit(Numbers::answers).get());
         } catch (Exception error) {
-            boolean isOfData = error.toString().contains("NumberFormat") || error.toString().contains("MalformedInput");
-            end(isOfData ? 1 : 3, error.getMessage());
+            Throwable why = error;
+            while (why.getCause() != null) {
+                why = why.getCause();
+            }
+            end(why instanceof NumberFormatException || why instanceof MalformedInputException ? 1 : 3, why.toString());
         }
     }
 }

@@ -11,7 +11,7 @@ import java.util.List;
 import java.util.Map;
 import java.util.concurrent.ForkJoinPool;
 
-/** The ten customers who spent most by orders above ten euros, of a CSV text, as JSON. A table has no twin: Java has no driver of SQLite. */
+/** The ten customers who spent most by orders above ten euros: of a CSV text, as JSON. Ours reads a SQLite table too, for which Java has no driver. */
 public class Orders {
     static final String USAGE = "Usage: orders [FILE] [--workers N]";
 

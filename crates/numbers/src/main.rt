@@ -58,10 +58,11 @@ impl Program for Numbers {
         let great = FilteringTo::new(Above(900_000), Counting::<i64>::new());
         let first = FilteringTo::new(Above(999_990), First::<i64>::new());
         let beyond = FilteringTo::new(Not(Below(1_000_003)), First::<i64>::new());
+        let differ = ToSet::<i64, _>::with_hasher(alloc, task.hashes()?);
         let greatest = FirstSorted::new(alloc, Descending(Itself), 3);
         let digits = GroupingBy::new(alloc, Modulo::by(10), Counting::<i64>::new());
         let above = Teeing::new(Teeing::new(great, first, Both), beyond, Both);
-        let found = Teeing::new(Teeing::new(ToSet::new(alloc), greatest, Both), digits, Both);
+        let found = Teeing::new(Teeing::new(differ, greatest, Both), digits, Both);
         let questions = Teeing::new(Teeing::new(squares, above, Both), found, Both);
         let ((squares, ((great, first), beyond)), ((differ, greatest), digits)) =
             match task.file() {

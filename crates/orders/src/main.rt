@@ -73,7 +73,7 @@ impl Program for Orders {
         let customer = made_by(Customer, |o: &Row<Order>| -> &str { o.0.customer.as_str() });
         let cents = made_by(Cents, |o: &Row<Order>| -> i64 { o.0.cents });
         let dear = rows(&orders).filter(such(Above(1000), |o: &Row<Order>| o.0.cents > 1000));
-        let sums = GroupingBy::new(alloc, customer, summing_checked(cents));
+        let sums = GroupingBy::with_hasher(alloc, customer, summing_checked(cents), task.hashes()?);
         let sums = dear.collect_on(&task.engine, &sums)?;
         if let Some((customer, _)) = sums.iter().find(|(_, sum)| sum.is_none()) {
             let what = format!(in alloc; "the cents of {customer:?} come to 2^63 or more")?;

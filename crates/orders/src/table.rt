@@ -8,7 +8,7 @@ use sqlite::{Connection, Error, ErrorCode, FileStore, Files, Options, Row};
 use sqlite_disk::{Disk, Memory};
 use std::alloc::{AllocError, Global};
 use std::fs;
-use std::hash::{BuildHasher, RandomState};
+use std::hash::BuildHasher;
 use std::io::{ErrorKind, Read};
 
 /// The orders of a table, by its rowids.
@@ -66,9 +66,7 @@ fn database_of<R: Host, G>(
         log: disk_of(alloc, &beside(task, "-wal")?)?,
         db: disk_of(alloc, &bytes)?,
     };
-    let seed = RandomState::new(task.engine.rt)
-        .map_err(|error| task.unread(error))?
-        .hash_one(&0u8);
+    let seed = task.hashes()?.hash_one(&0u8);
     Connection::open_files(alloc, files, Options::new(seed)).map_err(|(error, _)| failed(
         task,
         "sqlite_schema",

@@ -6,6 +6,7 @@ use either::Either;
 use mohairjade::{Engine, LinesError};
 use std::alloc::AllocError;
 use std::fmt::Display;
+use std::hash::RandomState;
 use std::{fs, io};
 
 /// What a program is asked to do: the words of its command line, and the engine that it runs on.
@@ -54,5 +55,14 @@ impl<R: Host, G> Task<'_, '_, R, G> {
             LinesError::Read(error) => self.unread(error),
             error => self.bad_data(&error),
         }
+    }
+
+    /// What hashes are drawn from, which nobody who makes the data foresees.
+    pub fn hashes(&self) -> Result<RandomState, Failure> {
+        RandomState::new(self.engine.rt).map_err(|error| unread(
+            self.engine.alloc,
+            "random numbers",
+            error,
+        ))
     }
 }
