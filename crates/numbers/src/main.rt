@@ -47,7 +47,10 @@ struct Numbers;
 
 impl Program for Numbers {
     /// The seven answers, of one pass over the numbers.
-    fn answer<R: Host, G: Gate + Sync>(&self, task: &Task<'_, '_, R, G>) -> Result<String, Failure>
+    fn answer<R: Host + Sync, G: Gate + Sync>(
+        &self,
+        task: &Task<'_, '_, R, G>,
+    ) -> Result<String, Failure>
     where
         R::File: Send,
         R::Reader: Send,

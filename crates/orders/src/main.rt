@@ -60,7 +60,10 @@ fn main(rt: HostRuntime) -> ExitCode {
 struct Orders;
 
 impl Program for Orders {
-    fn answer<R: Host, G: Gate + Sync>(&self, task: &Task<'_, '_, R, G>) -> Result<String, Failure>
+    fn answer<R: Host + Sync, G: Gate + Sync>(
+        &self,
+        task: &Task<'_, '_, R, G>,
+    ) -> Result<String, Failure>
     where
         R::File: Send,
         R::Reader: Send,

@@ -77,7 +77,10 @@ fn database_of<R: Host, G>(
 /// The bytes of a file beside the database's; none where it is missing.
 fn beside<R: Host, G>(task: &Task<'_, '_, R, G>, ending: &str) -> Result<Vec<u8>, Failure> {
     let alloc = task.engine.alloc;
-    let name = format!(in alloc; "{}{ending}", task.name())?;
+    let Some(name) = task.file() else {
+        return Ok(Vec::new(alloc));
+    };
+    let name = format!(in alloc; "{name}{ending}")?;
     match fs::read(task.engine.rt, &name) {
         Ok(bytes) => Ok(bytes),
         Err(error) if error.kind() == ErrorKind::NotFound => Ok(Vec::new(alloc)),

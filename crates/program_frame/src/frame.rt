@@ -13,7 +13,10 @@ const DEFAULT_WORKERS: u32 = 4;
 /// A program that makes one text of its data.
 pub trait Program {
     /// The text that is written to standard output.
-    fn answer<R: Host, G: Gate + Sync>(&self, task: &Task<'_, '_, R, G>) -> Result<String, Failure>
+    fn answer<R: Host + Sync, G: Gate + Sync>(
+        &self,
+        task: &Task<'_, '_, R, G>,
+    ) -> Result<String, Failure>
     where
         R::File: Send,
         R::Reader: Send;
@@ -21,7 +24,12 @@ pub trait Program {
 
 /// Runs a program: reads its words, has its answer made, and writes it to standard output. What goes wrong is told on standard error, which
 /// is a terminal or isn't.
-pub fn run<R: Host, P: Program>(rt: &R, is_terminal: bool, words: &Words, program: &P) -> ExitCode
+pub fn run<R: Host + Sync, P: Program>(
+    rt: &R,
+    is_terminal: bool,
+    words: &Words,
+    program: &P,
+) -> ExitCode
 where
     R::File: Send,
     R::Reader: Send,
@@ -42,7 +50,7 @@ where
 }
 
 /// The answer, made by so many workers as the words say, and watched if they say so.
-fn answer<'a, R: Host, P: Program>(
+fn answer<'a, R: Host + Sync, P: Program>(
     rt: &'a R,
     looks: Looks,
     words: &'a ArgMatches<'_>,
