@@ -26,7 +26,7 @@ from built import ROOT, conclude
 ORDERS, NUMBERS = 1_000_000, 3_000_000
 BOUND = 2**31
 # what `numbers` may use of addresses, less than its file has bytes: with one worker
-LIMIT = 32 << 20
+LIMIT = 48 << 20
 TABLE = 'all "orders"'
 QUOTED = '"' + TABLE.replace('"', '""') + '"'
 
@@ -150,7 +150,7 @@ def of_numbers(folder, draw):
     """The same of `numbers`, and what it refuses."""
     few = [draw.randrange(-BOUND + 1, BOUND) for _ in range(20_000)]
     numbers = draw.choices(few, k=NUMBERS)
-    text = "".join(f"{number}\n" for number in numbers)
+    text = "".join(f"{number:+016d}\n" for number in numbers)
     file = folder / "numbers"
     file.write_text(text)
     wanted = (0, answers(numbers), "")
