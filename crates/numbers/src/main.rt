@@ -11,6 +11,9 @@ use mohairjade::*;
 use program_frame::{Both, Failure, Host, Program, Task, Words, run};
 use std::io::IsTerminal;
 use std::process::ExitCode;
+use std::rt::Files;
+use std::thread::Threads;
+use std::time::Clock;
 
 const WORDS: Words = Words {
     name: "numbers",
@@ -47,7 +50,7 @@ struct Numbers;
 
 impl Program for Numbers {
     /// The seven answers, of one pass over the numbers.
-    fn answer<R: Host + Sync, G: Gate + Sync>(
+    fn answer<R: Host + Files + Input + Threads + Clock + Sync, G: Gate + Sync>(
         &self,
         task: &Task<'_, '_, R, G>,
     ) -> Result<String, Failure>
@@ -107,7 +110,7 @@ by last digit: {digits:?}
 }
 
 /// The failure of a line.
-fn no_number<R: Host, G>(task: &Task<'_, '_, R, G>, line: &str) -> Failure {
+fn no_number<R: Host + Files + Input, G>(task: &Task<'_, '_, R, G>, line: &str) -> Failure {
     match format!(in task.engine.alloc; "{line:?} is no whole number between -2^31 and 2^31") {
         Ok(what) => task.bad_data(&what),
         Err(refused) => Failure::NoMemory(refused),

@@ -13,6 +13,9 @@ use serde::Serialize;
 use std::alloc::AllocError;
 use std::io::IsTerminal;
 use std::process::ExitCode;
+use std::rt::Files;
+use std::thread::Threads;
+use std::time::Clock;
 use table::orders_of_table;
 
 const WORDS: Words = Words {
@@ -60,7 +63,7 @@ fn main(rt: HostRuntime) -> ExitCode {
 struct Orders;
 
 impl Program for Orders {
-    fn answer<R: Host + Sync, G: Gate + Sync>(
+    fn answer<R: Host + Files + Input + Threads + Clock + Sync, G: Gate + Sync>(
         &self,
         task: &Task<'_, '_, R, G>,
     ) -> Result<String, Failure>

@@ -3,6 +3,7 @@ use csv::{Error, ErrorKind, Reader};
 use program_frame::{Failure, Host, Task};
 use serde::Deserialize;
 use std::alloc::AllocError;
+use std::rt::Files;
 
 /// An order: who ordered, and for how much.
 #[derive(Deserialize, Drop)]
@@ -12,7 +13,9 @@ pub struct Order {
 }
 
 /// The orders of a CSV text.
-pub fn orders_of_text<R: Host, G>(task: &Task<'_, '_, R, G>) -> Result<Vec<Order>, Failure> {
+pub fn orders_of_text<R: Host + Files + Input, G>(
+    task: &Task<'_, '_, R, G>,
+) -> Result<Vec<Order>, Failure> {
     let alloc = task.engine.alloc;
     let mut orders = Vec::new(alloc);
     for order in Reader::from_reader(alloc, task.input()?).deserialize() {
@@ -22,7 +25,7 @@ pub fn orders_of_text<R: Host, G>(task: &Task<'_, '_, R, G>) -> Result<Vec<Order
 }
 
 /// The failure of a text.
-fn no_text<R: Host, G>(task: &Task<'_, '_, R, G>, error: Error) -> Failure {
+fn no_text<R: Host + Files + Input, G>(task: &Task<'_, '_, R, G>, error: Error) -> Failure {
     let what = format!(in task.engine.alloc; "{error}");
     match (error.into_kind(), what) {
         (ErrorKind::Io(error), _) => task.unread(error),

@@ -10,9 +10,10 @@ use std::alloc::{AllocError, Global};
 use std::fs;
 use std::hash::BuildHasher;
 use std::io::{ErrorKind, Read};
+use std::rt::Files;
 
 /// The orders of a table, by its rowids.
-pub fn orders_of_table<R: Host, G>(
+pub fn orders_of_table<R: Host + Files + Input, G>(
     task: &Task<'_, '_, R, G>,
     table: &str,
 ) -> Result<Vec<Order>, Failure> {
@@ -33,7 +34,10 @@ pub fn orders_of_table<R: Host, G>(
 }
 
 /// The order of a row.
-fn order_of<R: Host, G>(task: &Task<'_, '_, R, G>, row: &Row) -> Result<Order, Failure> {
+fn order_of<R: Host + Files + Input, G>(
+    task: &Task<'_, '_, R, G>,
+    row: &Row,
+) -> Result<Order, Failure> {
     let (what, error) = match (row.get(0), row.get(1)) {
         (Ok(customer), Ok(cents)) => return Ok(Order { customer, cents }),
         (Err(error), _) => ("customer is no text", error),
@@ -48,7 +52,7 @@ fn order_of<R: Host, G>(task: &Task<'_, '_, R, G>, row: &Row) -> Result<Order, F
 }
 
 /// The database of the file, with what its log holds.
-fn database_of<R: Host, G>(
+fn database_of<R: Host + Files + Input, G>(
     task: &Task<'_, '_, R, G>,
 ) -> Result<Connection<FileStore<Memory>>, Failure> {
     let alloc = task.engine.alloc;
@@ -75,7 +79,10 @@ fn database_of<R: Host, G>(
 }
 
 /// The bytes of a file beside the database's; none where it is missing.
-fn beside<R: Host, G>(task: &Task<'_, '_, R, G>, ending: &str) -> Result<Vec<u8>, Failure> {
+fn beside<R: Host + Files + Input, G>(
+    task: &Task<'_, '_, R, G>,
+    ending: &str,
+) -> Result<Vec<u8>, Failure> {
     let alloc = task.engine.alloc;
     let Some(name) = task.file() else {
         return Ok(Vec::new(alloc));
@@ -102,7 +109,11 @@ fn disk_of(alloc: Global, bytes: &[u8]) -> Result<Memory, AllocError>
 const NO_MEMORY: Error = Error::SqliteFailure(ErrorCode::OutOfMemory);
 
 /// The failure of a database.
-fn failed<R: Host, G>(task: &Task<'_, '_, R, G>, table: &str, error: Error) -> Failure {
+fn failed<R: Host + Files + Input, G>(
+    task: &Task<'_, '_, R, G>,
+    table: &str,
+    error: Error,
+) -> Failure {
     if error == NO_MEMORY {
         return Failure::NoMemory(AllocError);
     }

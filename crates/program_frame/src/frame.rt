@@ -7,13 +7,16 @@ use clap::error::ErrorKind;
 use mohairjade::{Engine, Gate, Looks, Meter, Run};
 use std::fmt::Display;
 use std::process::ExitCode;
+use std::rt::Files;
+use std::thread::Threads;
+use std::time::Clock;
 
 const DEFAULT_WORKERS: u32 = 4;
 
 /// A program that makes one text of its data.
 pub trait Program {
     /// The text that is written to standard output.
-    fn answer<R: Host + Sync, G: Gate + Sync>(
+    fn answer<R: Host + Files + Input + Threads + Clock + Sync, G: Gate + Sync>(
         &self,
         task: &Task<'_, '_, R, G>,
     ) -> Result<String, Failure>
@@ -24,7 +27,7 @@ pub trait Program {
 
 /// Runs a program: reads its words, has its answer made, and writes it to standard output. What goes wrong is told on standard error, which
 /// is a terminal or isn't.
-pub fn run<R: Host + Sync, P: Program>(
+pub fn run<R: Host + Files + Input + Threads + Clock + Sync, P: Program>(
     rt: &R,
     is_terminal: bool,
     words: &Words,
@@ -50,7 +53,7 @@ where
 }
 
 /// The answer, made by so many workers as the words say, and watched if they say so.
-fn answer<'a, R: Host + Sync, P: Program>(
+fn answer<'a, R: Host + Files + Input + Threads + Clock + Sync, P: Program>(
     rt: &'a R,
     looks: Looks,
     words: &'a ArgMatches<'_>,

@@ -1,9 +1,8 @@
-//! What a program takes of the system.
+//! What a program takes of the system beside its files, its threads and the clock.
 use std::random::RandomSource;
-use std::rt::Runtime;
-use std::thread::Threads;
+use std::rt::Env;
 
-/// The system as a program over data sees it: files, threads, the clock, random numbers, and the standard streams.
-pub trait Host: Runtime + AllocGlobal + RandomSource + Threads {}
+/// The words of the command line, random numbers, memory, and the standard streams that are written.
+pub trait Host: AllocGlobal + Env + Eprint + Print + RandomSource {}
 
-impl<R: Runtime + AllocGlobal + RandomSource + Threads> Host for R {}
+impl<R: AllocGlobal + Env + Eprint + Print + RandomSource> Host for R {}

@@ -8,7 +8,7 @@
 //! }
 //!
 //! impl Program for Lines {
-//!     fn answer<R: Host + Sync, G: Gate + Sync>(&self, task: &Task<'_, '_, R, G>) -> Result<String, Failure> {
+//!     fn answer<R: Host + Files + Input + Threads + Clock + Sync, G: Gate + Sync>(&self, task: &Task<'_, '_, R, G>) -> Result<String, Failure> {
 //!         ..
 //!     }
 //! }

@@ -7,6 +7,7 @@ use mohairjade::{Engine, LinesError};
 use std::alloc::AllocError;
 use std::fmt::Display;
 use std::hash::RandomState;
+use std::rt::Files;
 use std::{fs, io};
 
 /// What a program is asked to do: the words of its command line, and the engine that it runs on.
@@ -16,7 +17,7 @@ pub struct Task<'a, 'w, R, G> {
     pub words: &'a ArgMatches<'w>,
 }
 
-impl<R: Host, G> Task<'_, '_, R, G> {
+impl<R: Host + Files + Input, G> Task<'_, '_, R, G> {
     /// The file that is named.
     pub fn file(&self) -> Option<&str> {
         self.words.get_str("FILE")
