@@ -40,8 +40,8 @@ def run(name, *words, limit=None, **streams):
 
 
 def made_orders(draw):
-    """Customers and cents; some names have what CSV and JSON write otherwise."""
-    names = [f"customer {n}" for n in range(2_000)] + ["Ann, Bob", 'the "best"', "Zoë", "back\\slash", "a\tb"]
+    """Customers and cents; those who spend most have names that CSV and JSON write otherwise."""
+    names = [f"customer {n}" for n in range(2_000)] + ["Ann, Bob", 'the "best"', "Zoë", "back\\slash", "a\tb"] * 3
     return list(zip(draw.choices(names, k=ORDERS), draw.choices(range(-500, 100_000), k=ORDERS), strict=True))
 
 
