@@ -4,7 +4,7 @@ ghost use Rattle.sqlite_disk.specs.Memory.{memory_is_usable};
 
 use crate::order::Order;
 use program_frame::{Failure, Host, Task};
-use sqlite::{Connection, Error, ErrorCode, FileStore, Files, Options, Row};
+use sqlite::{Connection, Error, ErrorCode, FileStore, Options, Row};
 use sqlite_disk::{Disk, Memory};
 use std::alloc::{AllocError, Global};
 use std::fs;
@@ -66,7 +66,7 @@ fn database_of<R: Host + Files + Input, G>(
     {
         return Err(task.bad_data(&"a write was cut off: open it with sqlite3 first"));
     }
-    let files = Files {
+    let files = sqlite::Files {
         log: disk_of(alloc, &beside(task, "-wal")?)?,
         db: disk_of(alloc, &bytes)?,
     };
