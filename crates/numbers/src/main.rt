@@ -8,7 +8,9 @@ mod line;
 
 use line::NumberOrLine;
 use mohairjade::*;
-use program_frame::{Both, Failure, Host, Program, Task, Words, run};
+use program_frame::{
+    Both, Failure, Host, Task, Words, ended, given_words, meter_of, parse, run_of,
+};
 use std::io::IsTerminal;
 use std::process::ExitCode;
 use std::rt::Files;
@@ -43,58 +45,70 @@ fn count() -> i64 {
 }
 
 fn main(rt: HostRuntime) -> ExitCode {
-    run(&rt, rt.stderr().is_terminal(), &WORDS, &Numbers)
+    ended(&rt, WORDS.name, command(&rt, rt.stderr().is_terminal()))
 }
 
-struct Numbers;
+/// The answer to the words of the command line.
+fn command<R: Host + Files + Input + Threads + Clock + Sync>(
+    rt: &R,
+    is_terminal: bool,
+) -> Result<String, Failure>
+where
+    R::File: Send,
+    R::Reader: Send,
+{
+    let given = given_words(rt)?;
+    let words = parse(rt.alloc(), &WORDS, given.as_slice())?;
+    let run = run_of(&words);
+    let Some(meter) = meter_of(rt, is_terminal, &words) else {
+        return answer(&Task::new(rt, &run, &words)?);
+    };
+    let text = answer(&Task::new(rt, &run.with_gate(&meter), &words)?);
+    meter.finish();
+    text
+}
 
-impl Program for Numbers {
-    /// The seven answers, of one pass over the numbers.
-    fn answer<R: Host + Files + Input + Threads + Clock + Sync, G: Gate + Sync>(
-        &self,
-        task: &Task<'_, '_, R, G>,
-    ) -> Result<String, Failure>
-    where
-        R::File: Send,
-        R::Reader: Send,
-    {
-        let engine = &task.engine;
-        let alloc = engine.alloc;
-        let squares = FilteringTo::new(Even, SummingExact::new(Square));
-        let great = FilteringTo::new(Above(900_000), Counting::<i64>::new());
-        let first = FilteringTo::new(Above(999_990), First::<i64>::new());
-        let beyond = FilteringTo::new(Not(Below(1_000_003)), First::<i64>::new());
-        let differ = ToSet::<i64, _>::with_hasher(alloc, task.hashes()?);
-        let greatest = FirstSorted::new(alloc, Descending(Itself), 3);
-        let digits = GroupingBy::new(alloc, Modulo::by(10), Counting::<i64>::new());
-        let above = Teeing::new(Teeing::new(great, first, Both), beyond, Both);
-        let found = Teeing::new(Teeing::new(differ, greatest, Both), digits, Both);
-        let questions = Teeing::new(Teeing::new(squares, above, Both), found, Both);
-        let ((squares, ((great, first), beyond)), ((differ, greatest), digits)) =
-            match task.file() {
-                None => {
-                    let scattered = Composed(
-                        Composed(Times(7_919), Plus(13)),
-                        Modulo::by(1_000_003),
-                    );
-                    let numbers = of(RangeSplit::range(0, count()).unwrap()).map(scattered);
-                    numbers.collect_on(engine, &questions)?
-                }
-                Some(_) => {
-                    let lines = lines_of(task.input()?).map_lines(NumberOrLine(alloc));
-                    match lines.collect_decided(engine, &Trying::<_, String>::new(questions)) {
-                        Ok(Ok(answers)) => answers,
-                        Ok(Err(line)) => return Err(no_number(task, &line)),
-                        Err(error) => return Err(task.bad_lines(error)),
-                    }
-                }
-            };
-        let first = match first {
-            Some(first) => format!(in alloc; "{first}")?,
-            None => String::from_str(alloc, "none")?,
-        };
-        Ok(format!(in alloc;
-            "\
+/// The seven answers, of one pass over the numbers.
+fn answer<R: Host + Files + Input + Threads + Clock + Sync, G: Gate + Sync>(
+    task: &Task<'_, '_, R, G>,
+) -> Result<String, Failure>
+where
+    R::File: Send,
+    R::Reader: Send,
+{
+    let engine = &task.engine;
+    let alloc = engine.alloc;
+    let squares = FilteringTo::new(Even, SummingExact::new(Square));
+    let great = FilteringTo::new(Above(900_000), Counting::<i64>::new());
+    let first = FilteringTo::new(Above(999_990), First::<i64>::new());
+    let beyond = FilteringTo::new(Not(Below(1_000_003)), First::<i64>::new());
+    let differ = ToSet::<i64, _>::with_hasher(alloc, task.hashes()?);
+    let greatest = FirstSorted::new(alloc, Descending(Itself), 3);
+    let digits = GroupingBy::new(alloc, Modulo::by(10), Counting::<i64>::new());
+    let above = Teeing::new(Teeing::new(great, first, Both), beyond, Both);
+    let found = Teeing::new(Teeing::new(differ, greatest, Both), digits, Both);
+    let questions = Teeing::new(Teeing::new(squares, above, Both), found, Both);
+    let ((squares, ((great, first), beyond)), ((differ, greatest), digits)) = match task.file() {
+        None => {
+            let scattered = Composed(Composed(Times(7_919), Plus(13)), Modulo::by(1_000_003));
+            let numbers = of(RangeSplit::range(0, count()).unwrap()).map(scattered);
+            numbers.collect_on(engine, &questions)?
+        }
+        Some(_) => {
+            let lines = lines_of(task.input()?).map_lines(NumberOrLine(alloc));
+            match lines.collect_decided(engine, &Trying::<_, String>::new(questions)) {
+                Ok(Ok(answers)) => answers,
+                Ok(Err(line)) => return Err(no_number(task, &line)),
+                Err(error) => return Err(task.bad_lines(error)),
+            }
+        }
+    };
+    let first = match first {
+        Some(first) => format!(in alloc; "{first}")?,
+        None => String::from_str(alloc, "none")?,
+    };
+    Ok(format!(in alloc;
+        "\
 sum of the squares of even ones: {squares}
 above 900000: {great}
 first above 999990: {first}
@@ -103,10 +117,9 @@ that differ: {}
 greatest: {greatest:?}
 by last digit: {digits:?}
 ",
-            beyond.is_none(),
-            differ.len()
-        )?)
-    }
+        beyond.is_none(),
+        differ.len()
+    )?)
 }
 
 /// The failure of a line.

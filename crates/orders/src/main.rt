@@ -8,7 +8,9 @@ mod table;
 
 use mohairjade::*;
 use order::{Order, orders_of_text};
-use program_frame::{Failure, Host, Program, Task, ValueOption, Words, run};
+use program_frame::{
+    Failure, Host, Task, ValueOption, Words, ended, given_words, meter_of, parse, run_of,
+};
 use serde::Serialize;
 use std::alloc::AllocError;
 use std::io::IsTerminal;
@@ -57,43 +59,48 @@ struct Spent<'a> {
 }
 
 fn main(rt: HostRuntime) -> ExitCode {
-    run(&rt, rt.stderr().is_terminal(), &WORDS, &Orders)
+    ended(&rt, WORDS.name, command(&rt, rt.stderr().is_terminal()))
 }
 
-struct Orders;
+/// The answer to the words of the command line.
+fn command<R: Host + Files + Input + Threads + Clock + Sync>(
+    rt: &R,
+    is_terminal: bool,
+) -> Result<String, Failure> {
+    let given = given_words(rt)?;
+    let words = parse(rt.alloc(), &WORDS, given.as_slice())?;
+    let run = run_of(&words);
+    let Some(meter) = meter_of(rt, is_terminal, &words) else {
+        return answer(&Task::new(rt, &run, &words)?);
+    };
+    let text = answer(&Task::new(rt, &run.with_gate(&meter), &words)?);
+    meter.finish();
+    text
+}
 
-impl Program for Orders {
-    fn answer<R: Host + Files + Input + Threads + Clock + Sync, G: Gate + Sync>(
-        &self,
-        task: &Task<'_, '_, R, G>,
-    ) -> Result<String, Failure>
-    where
-        R::File: Send,
-        R::Reader: Send,
-    {
-        let alloc = task.engine.alloc;
-        let orders = match task.words.get_str("table") {
-            Some(table) => orders_of_table(task, table)?,
-            None => orders_of_text(task)?,
-        };
-        let customer = made_by(Customer, |o: &Row<Order>| -> &str { o.0.customer.as_str() });
-        let cents = made_by(Cents, |o: &Row<Order>| -> i64 { o.0.cents });
-        let dear = rows(&orders).filter(such(Above(1000), |o: &Row<Order>| o.0.cents > 1000));
-        let sums = GroupingBy::with_hasher(alloc, customer, summing_checked(cents), task.hashes()?);
-        let sums = dear.collect_on(&task.engine, &sums)?;
-        if let Some((customer, _)) = sums.iter().find(|(_, sum)| sum.is_none()) {
-            let what = format!(in alloc; "the cents of {customer:?} come to 2^63 or more")?;
-            return Err(task.bad_data(&what));
-        }
-        let most = FirstSorted::new(alloc, Descending(OnSecond(Itself)), 10);
-        let mut spent = Vec::new(alloc);
-        for (&customer, &cents) in of(EntriesSplit::new(&sums)).collect_on(&task.engine, &most)? {
-            spent.push(Spent { customer, cents })?;
-        }
-        let mut text = serde_json::to_string(alloc, &spent).map_err(|_| Failure::NoMemory(
-            AllocError,
-        ))?;
-        text.push_str("\n")?;
-        Ok(text)
+fn answer<R: Host + Files + Input + Threads + Clock + Sync, G: Gate + Sync>(
+    task: &Task<'_, '_, R, G>,
+) -> Result<String, Failure> {
+    let alloc = task.engine.alloc;
+    let orders = match task.words.get_str("table") {
+        Some(table) => orders_of_table(task, table)?,
+        None => orders_of_text(task)?,
+    };
+    let customer = made_by(Customer, |o: &Row<Order>| -> &str { o.0.customer.as_str() });
+    let cents = made_by(Cents, |o: &Row<Order>| -> i64 { o.0.cents });
+    let dear = rows(&orders).filter(such(Above(1000), |o: &Row<Order>| o.0.cents > 1000));
+    let sums = GroupingBy::with_hasher(alloc, customer, summing_checked(cents), task.hashes()?);
+    let sums = dear.collect_on(&task.engine, &sums)?;
+    if let Some((customer, _)) = sums.iter().find(|(_, sum)| sum.is_none()) {
+        let what = format!(in alloc; "the cents of {customer:?} come to 2^63 or more")?;
+        return Err(task.bad_data(&what));
     }
+    let most = FirstSorted::new(alloc, Descending(OnSecond(Itself)), 10);
+    let mut spent = Vec::new(alloc);
+    for (&customer, &cents) in of(EntriesSplit::new(&sums)).collect_on(&task.engine, &most)? {
+        spent.push(Spent { customer, cents })?;
+    }
+    let mut text = serde_json::to_string(alloc, &spent).map_err(|_| Failure::NoMemory(AllocError))?;
+    text.push_str("\n")?;
+    Ok(text)
 }

@@ -1,11 +1,15 @@
 //! The command line.
-use crate::Host;
+use crate::{Failure, Host};
 use clap::{Arg, ArgAction, ArgMatches, Command, value_parser};
+use mohairjade::{Looks, Meter, NoGate, Run};
 use std::alloc::Global;
 use std::convert::AsStr;
-use std::{env, io};
+use std::env;
+use std::time::Clock;
 
-pub(crate) const MOST_WORKERS: u32 = 64;
+const DEFAULT_WORKERS: u32 = 4;
+
+const MOST_WORKERS: u32 = 64;
 
 /// The end of the help.
 const STATUSES: &str = "\
@@ -38,16 +42,33 @@ pub struct ValueOption {
 }
 
 /// The words after the program's name.
-pub(crate) fn given_words<R: Host>(rt: &R) -> io::Result<Vec<String>> {
-    Ok(env::args(rt)?.skip(1).collect(rt.alloc())?)
+pub fn given_words<R: Host>(rt: &R) -> Result<Vec<String>, Failure> {
+    let words = env::args(rt).map_err(Failure::NoWords)?;
+    Ok(words.skip(1).collect(rt.alloc())?)
 }
 
-/// The command line.
-pub(crate) fn parse<'a, S: AsStr>(
+/// The run that the words ask for.
+pub fn run_of(words: &ArgMatches<'_>) -> Run<'static, NoGate> {
+    let workers = words.get_one("workers").unwrap_or(DEFAULT_WORKERS);
+    Run::new(workers.clamp(1, MOST_WORKERS))
+}
+
+/// The meter of a run that is watched, as the words ask for, on standard error.
+pub fn meter_of<'a, R: Host + Clock>(
+    rt: &'a R,
+    is_terminal: bool,
+    words: &ArgMatches<'_>,
+) -> Option<Meter<'a, R>> {
+    let is_watched = words.get_flag("progress");
+    is_watched.then(|| Meter::new(rt, Looks::of_terminal(rt, is_terminal)))
+}
+
+/// What the words of a command line say.
+pub fn parse<'a, S: AsStr>(
     alloc: Global,
     words: &Words,
     given: &'a [S],
-) -> Result<ArgMatches<'a>, clap::Error> {
+) -> Result<ArgMatches<'a>, Failure> {
     let mut command = Command::new(alloc, words.name)
         .about(words.about)
         .after_help(STATUSES)
@@ -62,7 +83,7 @@ pub(crate) fn parse<'a, S: AsStr>(
     for option in words.options {
         command = command.arg(valued(alloc, option))?;
     }
-    command.try_get_matches_from(given)
+    Ok(command.try_get_matches_from(given)?)
 }
 
 fn workers<'a>(alloc: Global) -> Arg<'a> {

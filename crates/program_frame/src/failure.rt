@@ -2,7 +2,8 @@
 ghost use Rattle.std.specs.Prelude.{◌≡◌};
 ghost use Rattle.program_frame.specs.Status.{status_of};
 
-use mohairjade::NoMemory;
+use clap::error::ErrorKind;
+use mohairjade::{NoMemory, StreamError};
 use std::alloc::{AllocError, Global};
 use std::fmt::Display;
 use std::io;
@@ -13,13 +14,18 @@ pub(crate) const SUCCESS: u8 = 0;
 
 const BAD_DATA: u8 = 1;
 
-pub(crate) const BAD_WORDS: u8 = 2;
+const BAD_WORDS: u8 = 2;
 
-pub(crate) const FAILED: u8 = 3;
+const FAILED: u8 = 3;
 
 /// Why a program gives no answer.
 #[derive(Debug, Drop, Error)]
 pub enum Failure {
+    /// What is wrong with the words of the command line, or the help that they ask for.
+    #[error("{0}")]
+    Words(clap::Error),
+    #[error("the words of the command line: {0}")]
+    NoWords(io::Error),
     /// What is wrong with the data, and where.
     #[error("{0}")]
     BadData(String),
@@ -30,6 +36,21 @@ pub enum Failure {
     Unread(String, io::Error),
     #[error("standard output: {0}")]
     Unwritten(io::Error),
+}
+
+impl From<clap::Error> for Failure {
+    fn from(why: clap::Error) -> Failure {
+        match why.kind() {
+            ErrorKind::OutOfMemory => Failure::NoMemory(AllocError),
+            _ => Failure::Words(why),
+        }
+    }
+}
+
+impl From<StreamError> for Failure {
+    fn from(_refused: StreamError) -> Failure {
+        Failure::NoMemory(AllocError)
+    }
 }
 
 impl From<NoMemory> for Failure {
@@ -45,6 +66,7 @@ impl Failure {
     {
         match self {
             Failure::BadData(_) => BAD_DATA,
+            Failure::Words(_) | Failure::NoWords(_) => BAD_WORDS,
             Failure::NoMemory(_) | Failure::Unread(_, _) | Failure::Unwritten(_) => FAILED,
         }
     }

@@ -1,17 +1,14 @@
 //! What the programs over data share: their command line, their input, the meter of a run, and how they end.
 //!
 //! ```text
-//! const WORDS: Words = Words { name: "lines", about: "How many lines there are", file: "The text", options: &[] };
-//!
-//! fn main(rt: HostRuntime) -> ExitCode {
-//!     run(&rt, rt.stderr().is_terminal(), &WORDS, &Lines)
-//! }
-//!
-//! impl Program for Lines {
-//!     fn answer<R: Host + Files + Input + Threads + Clock + Sync, G: Gate + Sync>(&self, task: &Task<'_, '_, R, G>) -> Result<String, Failure> {
-//!         ..
-//!     }
-//! }
+//! let given = given_words(rt)?;
+//! let words = parse(rt.alloc(), &WORDS, given.as_slice())?;
+//! let run = run_of(&words);
+//! let Some(meter) = meter_of(rt, is_terminal, &words) else {
+//!     return answer(&Task::new(rt, &run, &words)?);
+//! };
+//! let text = answer(&Task::new(rt, &run.with_gate(&meter), &words)?);
+//! meter.finish();
 //! ```
 #![tactic(auto)]
 
@@ -23,8 +20,8 @@ mod host;
 mod task;
 
 pub use both::Both;
-pub use command_line::{ValueOption, Words};
+pub use command_line::{ValueOption, Words, given_words, meter_of, parse, run_of};
 pub use failure::Failure;
-pub use frame::{Program, run};
+pub use frame::ended;
 pub use host::Host;
 pub use task::Task;

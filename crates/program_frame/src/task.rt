@@ -3,7 +3,7 @@ use crate::Host;
 use crate::failure::{Failure, bad_data, unread};
 use clap::ArgMatches;
 use either::Either;
-use mohairjade::{Engine, LinesError};
+use mohairjade::{Engine, LinesError, Run};
 use std::alloc::AllocError;
 use std::fmt::Display;
 use std::hash::RandomState;
@@ -15,6 +15,20 @@ use std::{fs, io};
 pub struct Task<'a, 'w, R, G> {
     pub engine: Engine<'a, R, G>,
     pub words: &'a ArgMatches<'w>,
+}
+
+impl<'a, 'w, R: Host, G> Task<'a, 'w, R, G> {
+    /// What these words ask of such a run.
+    pub fn new(
+        rt: &'a R,
+        run: &Run<'a, G>,
+        words: &'a ArgMatches<'w>,
+    ) -> Result<Task<'a, 'w, R, G>, Failure> {
+        Ok(Task {
+            engine: Engine::new(rt, rt.alloc(), run)?,
+            words,
+        })
+    }
 }
 
 impl<R: Host + Files + Input, G> Task<'_, '_, R, G> {
