@@ -13,7 +13,7 @@ import java.util.stream.LongStream;
 
 /** Seven questions to the numbers of a file, or to ten million that are made. */
 public class Numbers {
-    static final String USAGE = "Usage: numbers [FILE] [--workers N]";
+    static final String USAGE = "Usage: numbers [FILE] [--workers N] [--help]";
 
     static Path file;
 
@@ -21,7 +21,10 @@ public class Numbers {
 
     static void read(String[] words) {
         for (int at = 0; at < words.length; at++) {
-            if (words[at].equals("--workers")) {
+            if (words[at].equals("--help")) {
+                System.out.println(USAGE);
+                System.exit(0);
+            } else if (words[at].equals("--workers")) {
                 workers = Integer.parseInt(words[++at]);
             } else if (words[at].startsWith("-") || file != null) {
                 throw new IllegalArgumentException(words[at]);

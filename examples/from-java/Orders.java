@@ -13,7 +13,7 @@ import java.util.concurrent.ForkJoinPool;
 
 /** The ten customers who spent most by orders above ten euros: of a CSV text, as JSON. Ours reads a SQLite table too, for which Java has no driver. */
 public class Orders {
-    static final String USAGE = "Usage: orders [FILE] [--workers N]";
+    static final String USAGE = "Usage: orders [FILE] [--workers N] [--help]";
 
     static String file;
 
@@ -24,7 +24,10 @@ public class Orders {
 
     static void read(String[] words) {
         for (int at = 0; at < words.length; at++) {
-            if (words[at].equals("--workers")) {
+            if (words[at].equals("--help")) {
+                System.out.println(USAGE);
+                System.exit(0);
+            } else if (words[at].equals("--workers")) {
                 workers = Integer.parseInt(words[++at]);
             } else if (words[at].startsWith("-") || file != null) {
                 throw new IllegalArgumentException(words[at]);
