@@ -8,16 +8,23 @@ import java.nio.charset.MalformedInputException;
 import java.nio.file.Files;
 import java.nio.file.Path;
 import java.util.LinkedHashMap;
+import java.util.Timer;
+import java.util.TimerTask;
 import java.util.concurrent.ForkJoinPool;
+import java.util.concurrent.atomic.LongAdder;
 import java.util.stream.LongStream;
 
 /** Seven questions to the numbers of a file, or to ten million that are made. */
 public class Numbers {
-    static final String USAGE = "Usage: numbers [FILE] [--workers N] [--help]";
+    static final String USAGE = "Usage: numbers [FILE] [--workers N] [--progress] [--help]";
 
     static Path file;
 
     static int workers = 4;
+
+    static boolean isWatched;
+
+    static final LongAdder READ = new LongAdder();
 
     static void read(String[] words) {
         for (int at = 0; at < words.length; at++) {
@@ -26,6 +33,8 @@ public class Numbers {
                 System.exit(0);
             } else if (words[at].equals("--workers")) {
                 workers = Integer.parseInt(words[++at]);
+            } else if (words[at].equals("--progress")) {
+                isWatched = true;
             } else if (words[at].startsWith("-") || file != null) {
                 throw new IllegalArgumentException(words[at]);
             } else {
@@ -37,7 +46,21 @@ public class Numbers {
         }
     }
 
+    static void watch() {
+        TimerTask telling = new TimerTask() {
+            @Override
+            public void run() {
+                System.err.println(READ.sum() + " items");
+            }
+        };
+        new Timer(true).schedule(telling, 100, 100);
+    }
+
     static LongStream numbers() {
+        return isWatched ? source().peek(n -> READ.increment()) : source();
+    }
+
+    static LongStream source() {
         if (file == null) {
             LongStream range = LongStream.range(0, 10_000_000).parallel();
             return range.map(i -> (i * 7_919 + 13) % 1_000_003);
@@ -73,6 +96,9 @@ public class Numbers {
             read(words);
         } catch (RuntimeException error) {
             end(2, error.getMessage() + "\n" + USAGE);
+        }
+        if (isWatched) {
+            watch();
         }
         try {
             System.out.println(new ForkJoinPool(workers).submit(Numbers::answers).get());

@@ -11,7 +11,8 @@ use mohairjade::*;
 use program_frame::{
     Both, Failure, Host, Task, Words, ended, given_words, meter_of, parse, run_of,
 };
-use std::io::IsTerminal;
+use std::hash::RandomState;
+use std::io::{IsTerminal, Read};
 use std::process::ExitCode;
 use std::rt::Files;
 use std::thread::Threads;
@@ -68,7 +69,6 @@ where
     text
 }
 
-/// The seven answers, of one pass over the numbers.
 fn answer<R: Host + Files + Input + Threads + Clock + Sync, G: Gate + Sync>(
     task: &Task<'_, '_, R, G>,
 ) -> Result<String, Failure>
@@ -76,38 +76,45 @@ where
     R::File: Send,
     R::Reader: Send,
 {
-    let engine = &task.engine;
+    let reader = match task.file() {
+        Some(_) => Some(task.input()?),
+        None => None,
+    };
+    match answers(&task.engine, reader, task.hashes()?) {
+        Ok(Ok(text)) => Ok(text),
+        Ok(Err(line)) => Err(no_number(task, &line)),
+        Err(error) => Err(task.bad_lines(error)),
+    }
+}
+
+/// The text of the seven answers, of one pass over the numbers; or a line that is no number.
+fn answers(
+    engine: &Engine<'_, impl Threads + Clock + Sync, impl Gate + Sync>,
+    reader: Option<impl Read + Send + Drop>,
+    hashes: RandomState,
+) -> Result<Result<String, String>, LinesError> {
     let alloc = engine.alloc;
     let squares = FilteringTo::new(Even, SummingExact::new(Square));
     let great = FilteringTo::new(Above(900_000), Counting::<i64>::new());
     let first = FilteringTo::new(Above(999_990), First::<i64>::new());
     let beyond = FilteringTo::new(Not(Below(1_000_003)), First::<i64>::new());
-    let differ = ToSet::<i64, _>::with_hasher(alloc, task.hashes()?);
+    let differ = ToSet::<i64, _>::with_hasher(alloc, hashes);
     let greatest = FirstSorted::new(alloc, Descending(Itself), 3);
     let digits = GroupingBy::new(alloc, Modulo::by(10), Counting::<i64>::new());
     let above = Teeing::new(Teeing::new(great, first, Both), beyond, Both);
     let found = Teeing::new(Teeing::new(differ, greatest, Both), digits, Both);
     let questions = Teeing::new(Teeing::new(squares, above, Both), found, Both);
-    let ((squares, ((great, first), beyond)), ((differ, greatest), digits)) = match task.file() {
-        None => {
-            let scattered = Composed(Composed(Times(7_919), Plus(13)), Modulo::by(1_000_003));
-            let numbers = of(RangeSplit::range(0, count()).unwrap()).map(scattered);
-            numbers.collect_on(engine, &questions)?
-        }
-        Some(_) => {
-            let lines = lines_of(task.input()?).map_lines(NumberOrLine(alloc));
-            match lines.collect_decided(engine, &Trying::<_, String>::new(questions)) {
-                Ok(Ok(answers)) => answers,
-                Ok(Err(line)) => return Err(no_number(task, &line)),
-                Err(error) => return Err(task.bad_lines(error)),
-            }
-        }
+    let ((squares, ((great, first), beyond)), ((differ, greatest), digits)) = match collected(
+        engine, reader, questions,
+    )? {
+        Ok(results) => results,
+        Err(line) => return Ok(Err(line)),
     };
     let first = match first {
         Some(first) => format!(in alloc; "{first}")?,
         None => String::from_str(alloc, "none")?,
     };
-    Ok(format!(in alloc;
+    Ok(Ok(format!(in alloc;
         "\
 sum of the squares of even ones: {squares}
 above 900000: {great}
@@ -119,7 +126,27 @@ by last digit: {digits:?}
 ",
         beyond.is_none(),
         differ.len()
-    )?)
+    )?))
+}
+
+/// The result of a collector on the numbers of a reader, or on those that are made; or a line that is no number.
+fn collected<C: Collector<Item = i64> + Sync + Drop>(
+    engine: &Engine<'_, impl Threads + Clock + Sync, impl Gate + Sync>,
+    reader: Option<impl Read + Send + Drop>,
+    questions: C,
+) -> Result<Result<C::Out, String>, LinesError>
+where
+    C::Acc: Send,
+    C::Out: Send,
+    requires { C.ready questions }
+{
+    let Some(reader) = reader else {
+        let scattered = Composed(Composed(Times(7_919), Plus(13)), Modulo::by(1_000_003));
+        let numbers = of(RangeSplit::range(0, count()).unwrap()).map(scattered);
+        return Ok(Ok(numbers.collect_on(engine, &questions)?));
+    };
+    let lines = lines_of(reader).map_lines(NumberOrLine(engine.alloc));
+    lines.collect_decided(engine, &Trying::<_, String>::new(questions))
 }
 
 /// The failure of a line.
