@@ -124,10 +124,10 @@ def faults_of_orders(folder):
     (folder / "open.db-journal").write_bytes(b"\xd9\xd5\x05\xf9")
     rows = [
         ("a bad row in the middle", 1, ["bad.csv"], f"bad.csv: CSV deserialize error: record {ORDERS // 2 + 1} (line: {ORDERS // 2 + 2},"),
-        ("bad UTF-8", 1, ["bytes.csv"], "(line: 3, byte: 24): field 0: invalid utf-8"),
+        ("bad UTF-8", 1, ["bytes.csv"], "(line: 3, byte: 24): field 1: invalid utf-8"),
         ("a sum that is too great", 1, ["great.csv"], 'the cents of "Ann" come to 2^63 or more'),
         ("a row that is too short", 1, ["short.csv"], "(line: 3,"),
-        ("a column that is missing", 1, ["names.csv"], "customer"),
+        ("a column that is missing", 1, ["names.csv"], "(line: 2, byte: 11): field 2: missing field"),
         ("a bad row of a table", 1, ["orders.db", "--table", "bad"], "orders.db: row 2: cents is no whole number"),
         ("a table that is missing", 1, ["orders.db", "--table", "none"], "orders.db: table none: no such table"),
         ("a file that is no database", 1, ["orders.csv", "--table", "none"], "orders.csv: "),
