@@ -25,45 +25,56 @@ fault NoBytes = pos 4
 abbrev pub Parsed : Type 0
 Parsed = Result Content ℤ
 
-abbrev pub word : ℕ → ℕ → List ℕ → List ℕ
-word sign = piece (λ b. b == sign)
+-- the piece at a place between spaces
+abbrev pub word : ℕ → List ℕ → List ℕ
+word = piece (λ b. b == 32)
+
+-- what stands before a line's first quote, between that and the second, and behind the second
+abbrev pub quoted : ℕ → List ℕ → List ℕ
+quoted = piece (λ b. b == 34)
+
+-- the same at a line's first opening bracket
+abbrev pub bracketed : ℕ → List ℕ → List ℕ
+bracketed at line = piece (λ b. b == 91) at (quoted 0 line)
 
 abbrev pub number : List ℕ → ℤ
 number = number_or (negsuc 0)
 
--- what stands before the first quote, between the first two, and behind the second
-abbrev pub head : List ℕ → List ℕ
-head = word 34 0
+abbrev pub bytes : List ℕ → ℤ
+bytes text = if bytes_eq text (codes "-") then pos 0 else number text
 
-abbrev pub asked : List ℕ → List ℕ
-asked = word 34 1
-
-abbrev pub tail : List ℕ → List ℕ
-tail = word 34 2
+abbrev pub hour : List ℕ → ℤ
+hour line = number (piece (λ b. b == 58) 1 (bracketed 1 line))
 
 -- whether a number isn't one from the first to the last
 abbrev pub outside : ℤ → ℤ → ℤ → Bool
 outside first last n = int_lt n first || int_lt last n
 
-abbrev pub request : List ℕ → Content
-request line = (
-  number (word 32 1 (tail line)),
-  (
-    number (word 58 1 (word 91 1 (head line))),
-    (number (word 32 2 (tail line)), (word 32 0 line, word 32 1 (asked line))),
-  ),
-)
+-- what a line lacks
+abbrev pub lacks_client : List ℕ → Bool
+lacks_client line = (length (word 0 line) == 0) || not (ends_with ◌==◌ (bracketed 0 line) (codes " - - "))
 
--- a line's request, or what the line lacks
+abbrev pub lacks_time : List ℕ → Bool
+lacks_time line = outside (pos 0) (pos 23) (hour line) || not (ends_with ◌==◌ (quoted 0 line) (codes "] "))
+
+abbrev pub lacks_path : List ℕ → Bool
+lacks_path line = (length (word 1 (quoted 1 line)) == 0) || (length (word 2 (quoted 1 line)) == 0)
+
+abbrev pub lacks_status : List ℕ → Bool
+lacks_status line = outside (pos 100) (pos 599) (number (word 1 (quoted 2 line)))
+
+abbrev pub lacks_bytes : List ℕ → Bool
+lacks_bytes line = int_lt (bytes (word 2 (quoted 2 line))) (pos 0)
+
+abbrev pub request : List ℕ → Content
+request line =
+    (number (word 1 (quoted 2 line)), (hour line, (bytes (word 2 (quoted 2 line)), (word 0 line, word 1 (quoted 1 line)))))
+
+-- a line's request, or the first of what it lacks
 abbrev pub parsed : List ℕ → Parsed
 parsed line =
-    let r = request line in
-    if length r.1.1.1.0 == 0 || not (bytes_eq (word 91 0 (word 32 2 line)) (codes "-")) then Err (pos 0)
-    else if outside (pos 0) (pos 23) r.1.0 then Err (pos 1)
-    else if length r.1.1.1.1 == 0 then Err (pos 2)
-    else if outside (pos 100) (pos 599) r.0 then Err (pos 3)
-    else if int_lt r.1.1.0 (pos 0) then Err (pos 4)
-    else Ok r
+    if lacks_client line then Err (pos 0) else (if lacks_time line then Err (pos 1) else (if lacks_path line then Err (pos 2)
+    else (if lacks_status line then Err (pos 3) else (if lacks_bytes line then Err (pos 4) else Ok (request line)))))
 
 -- a number of a request, and 0 of a fault
 abbrev pub figure : Figure → Parsed → ℤ
@@ -80,3 +91,17 @@ client (Err _) = []
 abbrev pub path : Parsed → List ℕ
 path (Ok r) = r.1.1.1.1
 path (Err _) = []
+
+pub figure-value : (f : Figure) (line : Parsed) → MatchResult line IsRequest (λ _. ⊤) → IsI64 (figure f line)
+figure-value Status (Ok r) value = value.0
+figure-value Hour (Ok r) value = value.1
+figure-value Bytes (Ok r) value = value.2
+figure-value Status (Err e) value = search
+figure-value Hour (Err e) value = search
+figure-value Bytes (Err e) value = search
+
+pub request-value : (line : List ℕ) → IsRequest (request line)
+request-value line = (wrapped-value _, wrapped-value _, wrapped-value _)
+
+pub parsed-value : (line : List ℕ) → MatchResult (parsed line) IsRequest (λ _. ⊤)
+parsed-value line = search

@@ -1,11 +1,10 @@
 //! What a line of the log says.
-ghost use Rattle.std.specs.Prelude.{negsuc};
-ghost use Rattle.mohairjade.specs.Words.{both, both-decides, by_first, by_first-ties, by_first-total, bytes_cmp-ties, bytes_cmp-total, bytes_eq, bytes_eq-decides, int_cmp, int_cmp-ties, int_cmp-total, int_eq, int_eq-decides, nat_cmp, number_or, slice_cmp, string_bytes, ⊤};
+ghost use Rattle.std.specs.Prelude.{◌≡◌};
+ghost use Rattle.mohairjade.specs.Words.{both, both-decides, by_first, by_first-ties, by_first-total, bytes_cmp-ties, bytes_cmp-total, bytes_eq, bytes_eq-decides, int_cmp, int_cmp-ties, int_cmp-total, int_eq, int_eq-decides, nat_cmp, slice_cmp, string_bytes, ⊤};
 ghost use Rattle.weblog.specs.Log.{IsRequest, client, fault, figure, figure-value, parsed, parsed-value, path};
+ghost use Rattle.weblog.specs.Log as spec;
 
-use mohairjade::{
-    LineFunction, Mapping, NoMemory, NumberOr, OrderedValue, PlainMapping, Value, piece_of,
-};
+use mohairjade::*;
 use std::alloc::Global;
 use std::collections::LinkedList;
 use thiserror::Error;
@@ -23,9 +22,9 @@ pub struct Request {
 /// What a line lacks.
 #[derive(Clone, Copy, Debug, PartialEq, Eq, Error)]
 pub enum Fault {
-    #[error("no client before ` - - [`")]
+    #[error("no client")]
     NoClient,
-    #[error("no hour from 0 to 23")]
+    #[error("no time")]
     NoTime,
     #[error("no path")]
     NoPath,
@@ -50,21 +49,17 @@ impl LineFunction for Requests {
     ghost images_are_values = { λ _ line. parsed-value line };
 
     fn read(&self, line: &str) -> Result<Parsed, NoMemory> {
-        let head = piece_of(line, '"', 0);
-        let asked = piece_of(line, '"', 1);
-        let tail = piece_of(line, '"', 2);
-        let client = piece_of(line, ' ', 0);
-        let path = piece_of(asked, ' ', 1);
+        let (head, asked, tail) = (quoted(line, 0), quoted(line, 1), quoted(line, 2));
+        let (client, path) = (word(line, 0), word(asked, 1));
         let hour = number(piece_of(piece_of(head, '[', 1), ':', 1));
-        let status = number(piece_of(tail, ' ', 1));
-        let bytes = number(piece_of(tail, ' ', 2));
-        if client.is_empty() {
+        let (status, bytes) = (number(word(tail, 1)), bytes(word(tail, 2)));
+        if client.is_empty() || !EndsWith(" - - ").holds(&piece_of(head, '[', 0)) {
             return Ok(Err(Fault::NoClient));
         }
-        if hour < 0 || hour > 23 {
+        if hour < 0 || hour > 23 || !EndsWith("] ").holds(&head) {
             return Ok(Err(Fault::NoTime));
         }
-        if path.is_empty() {
+        if path.is_empty() || word(asked, 2).is_empty() {
             return Ok(Err(Fault::NoPath));
         }
         if status < 100 || status > 599 {
@@ -85,11 +80,32 @@ impl LineFunction for Requests {
     }
 }
 
+/// What stands before the first quote, between that and the second, or behind the second.
+fn quoted(line: &str, at: usize) -> &str
+    ensures { result.now ≡ spec.quoted at line.now }
+{
+    piece_of(line, '"', at)
+}
+
+/// The piece at a place between spaces.
+fn word(text: &str, at: usize) -> &str
+    ensures { result.now ≡ spec.word at text.now }
+{
+    piece_of(text, ' ', at)
+}
+
 /// The number that a text writes, or -1.
 fn number(text: &str) -> i64
-    ensures { result ≡ number_or (negsuc 0) text.now }
+    ensures { result ≡ spec.number text.now }
 {
     NumberOr(-1).image_of(&text)
+}
+
+/// The bytes that a text tells, or -1; `-` stands for none.
+fn bytes(text: &str) -> i64
+    ensures { result ≡ spec.bytes text.now }
+{
+    if text == "-" { 0 } else { number(text) }
 }
 
 impl Value for Request {

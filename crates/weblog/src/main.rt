@@ -31,8 +31,14 @@ fn main(rt: HostRuntime) -> ExitCode {
     }
 }
 
+/// What a program asks of its environment, beside the threads.
+trait World: Threads + Clock + RandomSource + Files + Env + Print + Eprint + AllocGlobal + Sync {}
+
+impl<R: Threads + Clock + RandomSource + Files + Env + Print + Eprint + AllocGlobal + Sync> World
+    for R {}
+
 /// Runs the program over the words of its command line, and answers its status.
-fn command<R: Threads + Clock + RandomSource + Files + Env + Print + Eprint + AllocGlobal + Sync>(
+fn command<R: World>(
     rt: &R,
     input: impl Read + Send + Drop,
     is_terminal: bool,
@@ -41,13 +47,31 @@ where
     R::File: Send,
 {
     let words = words(rt).map_err(Failure::Words)?;
-    let matches = match parse(rt.alloc(), words.as_slice()) {
-        Err(why) if why.kind() == ErrorKind::DisplayHelp => {
-            print!(rt; "{why}").map_err(Failure::Write)?;
-            return Ok(0);
-        }
-        parsed => parsed?,
-    };
+    match parse(rt.alloc(), words.as_slice()) {
+        Ok(matches) => run(rt, &matches, input, is_terminal),
+        Err(why) => explain(rt, why),
+    }
+}
+
+/// Shows the help, or hands on why a command line is not taken.
+fn explain(rt: &impl Print, why: clap::Error) -> Result<u8, Failure> {
+    if why.kind() == ErrorKind::DisplayHelp {
+        print!(rt; "{why}").map_err(Failure::Write)?;
+        return Ok(0);
+    }
+    Err(Failure::Line(why))
+}
+
+/// Answers the log that a command line names, and answers the status.
+fn run<R: World>(
+    rt: &R,
+    matches: &ArgMatches<'_>,
+    input: impl Read + Send + Drop,
+    is_terminal: bool,
+) -> Result<u8, Failure>
+where
+    R::File: Send,
+{
     let reader = match matches.get_str("FILE") {
         Some(name) => Either::Left(opened(rt, name)?),
         None => Either::Right(input),
@@ -60,11 +84,11 @@ where
         let engine = Engine::new(rt, rt.alloc(), &run.with_gate(&meter))?;
         let found = answer(&engine, reader, hashes);
         meter.finish();
-        found
+        found?
     } else {
-        answer(&Engine::new(rt, rt.alloc(), &run)?, reader, hashes)
+        answer(&Engine::new(rt, rt.alloc(), &run)?, reader, hashes)?
     };
-    tell(rt, &found?).map_err(Failure::Write)
+    tell(rt, &found).map_err(Failure::Write)
 }
 
 /// The words after the program's name.
