@@ -1,50 +1,30 @@
 import static java.util.stream.Collectors.*;
 
 import java.io.BufferedReader;
+import java.io.FileDescriptor;
 import java.io.FileInputStream;
+import java.io.FileOutputStream;
 import java.io.IOException;
 import java.io.InputStream;
 import java.io.InputStreamReader;
 import java.io.UncheckedIOException;
 import java.nio.charset.CharacterCodingException;
 import java.nio.charset.StandardCharsets;
+import java.util.ArrayList;
 import java.util.Comparator;
-import java.util.Iterator;
 import java.util.LinkedHashMap;
 import java.util.List;
 import java.util.Map;
 import java.util.Optional;
+import java.util.Set;
 import java.util.Spliterator;
 import java.util.Spliterators;
-import java.util.concurrent.ForkJoinPool;
 import java.util.concurrent.atomic.AtomicLong;
 import java.util.stream.Collector;
-import java.util.stream.Stream;
 import java.util.stream.StreamSupport;
 
 /** Answers to the log of a web server of any size, in one pass: of a file or of standard input, a line a request. */
 public class Weblog {
-    /** What a line of this number tells. */
-    sealed interface Entry permits Request, Fault {}
-
-    record Request(String client, String path, int hour, int status, long bytes) implements Entry {}
-
-    record Fault(long line, String what) implements Entry {}
-
-    record Both<A, B>(A first, B second) {}
-
-    record Faults(long count, List<Fault> first) {}
-
-    record Answers(Map<Integer, Long> statuses, Map<String, Long> paths, Optional<Request> failure, int clients, Map<Integer, Long> hours) {}
-
-    record Options(String file, int workers, boolean progress) {}
-
-    static class BadWords extends Exception {
-        BadWords(String message) {
-            super(message);
-        }
-    }
-
     static final String HELP = """
         Answers questions to the log of a web server
 
@@ -57,6 +37,25 @@ public class Weblog {
               --workers <N>  The workers, 1 to 64 [default: 4]
               --progress     Tells on standard error how far the run has come
           -h, --help         Print help""";
+
+    static final int MOST_TOLD = 10;
+
+    /** What a line tells. */
+    sealed interface Entry permits Request, Fault {}
+
+    record Request(int status, int hour, long bytes, String client, String path) implements Entry {}
+
+    record Fault(long line, String what) implements Entry {}
+
+    record Both<A, B>(A first, B second) {}
+
+    record Options(String file, int workers, boolean progress) {}
+
+    static class BadWords extends Exception {
+        BadWords(String message) {
+            super(message);
+        }
+    }
 
     static String piece(String text, String separator, int at) {
         String[] pieces = text.split(separator, -1);
@@ -73,14 +72,140 @@ public class Weblog {
 
     static Entry parse(long at, String line) {
         String head = piece(line, "\"", 0), asked = piece(line, "\"", 1), tail = piece(line, "\"", 2);
-        String client = piece(head, " ", 0), path = piece(asked, " ", 1);
+        String client = piece(line, " ", 0), path = piece(asked, " ", 1), sent = piece(tail, " ", 2);
         long hour = number(piece(piece(head, "\\[", 1), ":", 1));
-        long status = number(piece(tail, " ", 1)), bytes = number(piece(tail, " ", 2));
-        if (client.isEmpty()) return new Fault(at, "no client");
-        if (hour < 0 || hour > 23) return new Fault(at, "no hour");
-        if (path.isEmpty()) return new Fault(at, "no path");
-        if (status < 100 || status > 599) return new Fault(at, "no status");
-        if (bytes < 0) return new Fault(at, "no bytes");
-        return new Request(client, path, (int) hour, (int) status, bytes);
+        long status = number(piece(tail, " ", 1));
+        long bytes = sent.equals("-") ? 0 : number(sent);
+        if (client.isEmpty() || !piece(head, "\\[", 0).endsWith(" - - ")) {
+            return new Fault(at, "no client");
+        }
+        if (hour < 0 || hour > 23 || !head.endsWith("] ")) {
+            return new Fault(at, "no time");
+        }
+        if (path.isEmpty() || piece(asked, " ", 2).isEmpty()) {
+            return new Fault(at, "no path");
+        }
+        if (status < 100 || status > 599) {
+            return new Fault(at, "no status");
+        }
+        if (bytes < 0) {
+            return new Fault(at, "no bytes");
+        }
+        return new Request((int) status, (int) hour, bytes, client, path);
+    }
+
+    /** The first items of a list, in bounded memory. */
+    static <T> Collector<T, List<T>, List<T>> first(int most) {
+        return Collector.of(ArrayList::new, (list, item) -> {
+            if (list.size() < most) {
+                list.add(item);
+            }
+        }, (left, right) -> {
+            left.addAll(right.subList(0, Math.min(right.size(), most - left.size())));
+            return left;
+        });
+    }
+
+    static <T, R> Collector<Entry, ?, R> of(Class<T> kind, Collector<T, ?, R> downstream) {
+        return filtering(kind::isInstance, mapping(kind::cast, downstream));
+    }
+
+    /** Tells of bad lines, writes the answers, and answers the status. */
+    static int answer(BufferedReader log, boolean progress) throws IOException {
+        var counts = teeing(
+            groupingBy(Request::status, LinkedHashMap::new, counting()), groupingBy(Request::path, LinkedHashMap::new, counting()), Both::new);
+        var sums = teeing(
+            mapping(Request::client, toSet()), groupingBy(Request::hour, LinkedHashMap::new, summingLong(Request::bytes)), Both::new);
+        var failure = filtering((Request request) -> request.status() > 499, reducing((Request one, Request other) -> one));
+        var requests = teeing(teeing(counts, sums, Both::new), failure, Both::new);
+        var faults = teeing(counting(), Weblog.<Fault>first(MOST_TOLD), Both::new);
+        AtomicLong at = new AtomicLong(), told = new AtomicLong();
+        var numbered = log.lines().map(line -> new Both<>(at.incrementAndGet(), line)).iterator();
+        var found = StreamSupport.stream(Spliterators.spliteratorUnknownSize(numbered, Spliterator.ORDERED), true)
+            .peek(line -> {
+                if (progress && told.incrementAndGet() % 1_000_000 == 0) {
+                    System.err.println(told + " lines");
+                }
+            })
+            .map(line -> parse(line.first(), line.second()))
+            .collect(teeing(of(Request.class, requests), of(Fault.class, faults), Both::new));
+        var bad = found.second();
+        bad.second().forEach(fault -> System.err.println("weblog: line " + fault.line() + ": " + fault.what()));
+        var asked = found.first().first();
+        write(asked.first().first(), asked.first().second(), asked.second(), found.first().second(), bad.first());
+        return bad.first() > 0 ? 1 : 0;
+    }
+
+    static void write(
+        Map<Integer, Long> statuses, Map<String, Long> paths, Both<Set<String>, LinkedHashMap<Integer, Long>> sums, Optional<Request> failure, long bad
+    ) throws IOException {
+        StringBuilder text = new StringBuilder("requests by status: " + statuses + "\n");
+        paths.entrySet().stream()
+            .sorted(Map.Entry.comparingByValue(Comparator.reverseOrder()))
+            .limit(3)
+            .forEach(path -> text.append("path " + path.getKey() + ": " + path.getValue() + "\n"));
+        text.append("first failure: " + failure.map(it -> it.status() + " " + it.path()).orElse("none") + "\n");
+        text.append("clients: " + sums.first().size() + "\n");
+        text.append("bytes by hour: " + sums.second() + "\n");
+        text.append("bad lines: " + bad + "\n");
+        try (FileOutputStream output = new FileOutputStream(FileDescriptor.out)) {
+            output.write(text.toString().getBytes(StandardCharsets.UTF_8));
+        } catch (IOException e) {
+            throw new IOException("the answers can't be written: " + e.getMessage());
+        }
+    }
+
+    static Options options(String[] words) throws BadWords {
+        String file = null;
+        int workers = 4;
+        boolean progress = false;
+        for (int at = 0; at < words.length; at++) {
+            if (words[at].equals("--progress")) {
+                progress = true;
+            } else if (words[at].equals("--workers") && at + 1 < words.length) {
+                workers = (int) number(words[++at]);
+            } else if (words[at].startsWith("-") || file != null) {
+                throw new BadWords("unexpected argument '" + words[at] + "' found");
+            } else {
+                file = words[at];
+            }
+        }
+        if (workers < 1 || workers > 64) {
+            throw new BadWords("--workers has to be 1 to 64");
+        }
+        return new Options(file, workers, progress);
+    }
+
+    static int run(String[] words) throws IOException, BadWords {
+        if (List.of(words).contains("--help") || List.of(words).contains("-h")) {
+            System.out.println(HELP);
+            return System.out.checkError() ? 3 : 0;
+        }
+        Options options = options(words);
+        System.setProperty("java.util.concurrent.ForkJoinPool.common.parallelism", "" + options.workers());
+        InputStream input = options.file() == null ? System.in : new FileInputStream(options.file());
+        try (BufferedReader log = new BufferedReader(new InputStreamReader(input, StandardCharsets.UTF_8.newDecoder()))) {
+            return answer(log, options.progress());
+        } catch (UncheckedIOException e) {
+            throw e.getCause();
+        }
+    }
+
+    public static void main(String[] words) {
+        int status = 3;
+        try {
+            status = run(words);
+        } catch (BadWords e) {
+            System.err.println("error: " + e.getMessage());
+            status = 2;
+        } catch (CharacterCodingException e) {
+            System.err.println("weblog: not UTF-8");
+            status = 2;
+        } catch (IOException e) {
+            System.err.println("weblog: " + e.getMessage());
+        } catch (OutOfMemoryError e) {
+            System.err.println("weblog: out of memory");
+        }
+        System.exit(status);
     }
 }
