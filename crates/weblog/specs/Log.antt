@@ -4,6 +4,8 @@ use Rattle.std.specs.List.{ends_with}
 use Rattle.mohairjade.specs.Words.{IsI64, number_or, piece, wrapped, wrapped-value, ⊤}
 use Rattle.weblog.specs.declared.line.Fault.{Fault}
 use Rattle.weblog.specs.declared.line.Fault.TheVariants.{NoClient, NoTime, NoPath, NoStatus, NoBytes}
+use Rattle.weblog.specs.declared.line.Name.{Name}
+use Rattle.weblog.specs.declared.line.Name.TheVariants.{Client, Path}
 use Rattle.weblog.specs.declared.line.Figure.{Figure}
 use Rattle.weblog.specs.declared.line.Figure.TheVariants.{Status, Hour, Bytes}
 
@@ -84,13 +86,10 @@ figure Hour (Ok r) = r.1.0
 figure Bytes (Ok r) = r.1.1.0
 
 -- a text of a request, and none of a fault
-abbrev pub client : Parsed → List ℕ
-client (Ok r) = r.1.1.1.0
-client (Err _) = []
-
-abbrev pub path : Parsed → List ℕ
-path (Ok r) = r.1.1.1.1
-path (Err _) = []
+abbrev pub name : Name → Parsed → List ℕ
+name _ (Err _) = []
+name (Client _) (Ok r) = r.1.1.1.0
+name (Path _) (Ok r) = r.1.1.1.1
 
 pub figure-value : (f : Figure) (line : Parsed) → MatchResult line IsRequest (λ _. ⊤) → IsI64 (figure f line)
 figure-value Status (Ok r) value = value.0

@@ -1,9 +1,10 @@
 //! The answers to a log, in one pass.
 ghost use Rattle.std.specs.Prelude.{◌≡◌};
 
-use crate::line::{Client, Figure, Parsed, Path, Requests};
+use crate::line::{Figure, Name, Parsed, Requests};
+use indexmap::IndexMap;
 use mohairjade::*;
-use std::fmt::Write;
+use std::fmt::{self, Display, Formatter, Write};
 use std::hash::RandomState;
 use std::io::Read;
 use std::thread::Threads;
@@ -12,12 +13,33 @@ use std::time::Clock;
 /// How many bad lines are told of.
 const MOST_TOLD: usize = 10;
 
-/// What is answered, and the first bad lines.
+/// What is answered.
 #[derive(Drop)]
 pub struct Answers {
-    pub text: String,
+    statuses: IndexMap<i64, i64>,
+    most: Vec<(String, i64)>,
+    failure: Option<Parsed>,
+    clients: usize,
+    hours: IndexMap<i64, i64>,
     pub bad: i64,
+    /// The first bad lines.
     pub first: Vec<Parsed>,
+}
+
+impl Display for Answers {
+    fn fmt<W: Write>(&self, f: &mut Formatter<W>) -> fmt::Result {
+        writeln!(f, "requests by status: {:?}", self.statuses)?;
+        for (path, count) in &self.most {
+            writeln!(f, "path {path}: {count}")?;
+        }
+        match &self.failure {
+            Some(Ok(failure)) => writeln!(f, "first failure: {} {}", failure.status, failure.path)?,
+            _ => writeln!(f, "first failure: none")?,
+        }
+        writeln!(f, "clients: {}", self.clients)?;
+        writeln!(f, "bytes by hour: {:?}", self.hours)?;
+        writeln!(f, "bad lines: {}", self.bad)
+    }
 }
 
 /// Both results.
@@ -34,48 +56,42 @@ impl<A: Drop, B: Drop> Pairing<A, B> for Both {
     }
 }
 
-/// The answers to the log that a reader gives. What is hashed comes from strangers, so the hasher is a random one.
+/// The answers to the log that a reader gives. Strangers choose what is hashed, so the hasher is a random one.
 pub fn answer(
     engine: &Engine<'_, impl Threads + Clock + Sync, impl Gate + Sync>,
     reader: impl Read + Send + Drop,
     hashes: RandomState,
 ) -> Result<Answers, LinesError> {
     let alloc = engine.alloc;
+    let count = Counting::<Parsed>::new;
     let is_request = Composed(Figure::Status, Above(0));
     let is_failure = Composed(Figure::Status, Above(499));
-    let statuses = GroupingBy::new(alloc, Figure::Status, Counting::<Parsed>::new());
-    let paths = GroupingBy::with_hasher(alloc, Path(alloc), Counting::<Parsed>::new(), hashes);
-    let clients = MappingTo::new(
-        Client(alloc),
-        ToSet::<String, _>::with_hasher(alloc, hashes),
-    );
+    let paths = GroupingBy::with_hasher(alloc, Name::Path(alloc), count(), hashes);
+    let clients = ToSet::<String, _>::with_hasher(alloc, hashes);
     let hours = GroupingBy::new(alloc, Figure::Hour, SummingLong::new(Figure::Bytes));
     let failure = FilteringTo::new(is_failure, First::<Parsed>::new());
     let first = FirstSorted::<Parsed, _>::new(alloc, Figure::Status, MOST_TOLD);
-    let counted = Teeing::new(statuses, paths, Both);
-    let summed = Teeing::new(clients, hours, Both);
-    let requests = Teeing::new(Teeing::new(counted, summed, Both), failure, Both);
-    let faults = Teeing::new(Counting::<Parsed>::new(), first, Both);
-    let (requests, (bad, first)) = lines_of(reader).map_lines(Requests(alloc)).collect_on(
-        engine,
-        &Teeing::new(
-            FilteringTo::new(is_request, requests),
-            FilteringTo::new(Not(is_request), faults),
-            Both,
-        ),
-    )?;
-    let (((statuses, paths), (clients, hours)), failure) = requests;
-    let mut text = format!(in alloc; "requests by status: {statuses:?}\n")?;
+    let counts = Teeing::new(GroupingBy::new(alloc, Figure::Status, count()), paths, Both);
+    let sums = Teeing::new(MappingTo::new(Name::Client(alloc), clients), hours, Both);
+    let requests = Teeing::new(Teeing::new(counts, sums, Both), failure, Both);
+    let faults = FilteringTo::new(Not(is_request), Teeing::new(count(), first, Both));
+    let all = Teeing::new(FilteringTo::new(is_request, requests), faults, Both);
+    let found = lines_of(reader)
+        .map_lines(Requests(alloc))
+        .collect_on(engine, &all)?;
+    let ((((statuses, paths), (clients, hours)), failure), (bad, first)) = found;
     let most = FirstSorted::new(alloc, Descending(OnSecond(Itself)), 3);
+    let mut told = Vec::new(alloc);
     for (path, count) in of(EntriesSplit::new(&paths)).collect_on(engine, &most)? {
-        writeln!(text, "path {path}: {count}")?;
+        told.push((path.clone()?, *count))?;
     }
-    match failure {
-        Some(Ok(failure)) => writeln!(text, "first failure: {} {}", failure.status, failure.path)?,
-        _ => writeln!(text, "first failure: none")?,
-    }
-    writeln!(text, "clients: {}", clients.len())?;
-    writeln!(text, "bytes by hour: {hours:?}")?;
-    writeln!(text, "bad lines: {bad}")?;
-    Ok(Answers { text, bad, first })
+    Ok(Answers {
+        statuses,
+        most: told,
+        failure,
+        clients: clients.len(),
+        hours,
+        bad,
+        first,
+    })
 }

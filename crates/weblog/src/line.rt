@@ -1,7 +1,7 @@
 //! What a line of the log says.
 ghost use Rattle.std.specs.Prelude.{◌≡◌};
 ghost use Rattle.mohairjade.specs.Words.{both, both-decides, by_first, by_first-ties, by_first-total, bytes_cmp-ties, bytes_cmp-total, bytes_eq, bytes_eq-decides, int_cmp, int_cmp-ties, int_cmp-total, int_eq, int_eq-decides, nat_cmp, slice_cmp, string_bytes, ⊤};
-ghost use Rattle.weblog.specs.Log.{IsRequest, client, fault, figure, figure-value, parsed, parsed-value, path};
+ghost use Rattle.weblog.specs.Log.{IsRequest, fault, figure, figure-value, name, parsed, parsed-value};
 ghost use Rattle.weblog.specs.Log as spec;
 
 use mohairjade::*;
@@ -187,40 +187,25 @@ impl PlainMapping<Parsed> for Figure {
     }
 }
 
-/// A request's client, and the empty text of a fault.
+/// A text of a request as one of its own, and an empty one of a fault.
 #[derive(Clone, Copy, Drop)]
-pub struct Client(pub Global);
-
-impl Mapping<Parsed> for Client {
-    type Out = String;
-
-    ghost image = { λ _. client };
-
-    ghost images_are_values = { λ _ _ _. tt };
-
-    fn image(&self, x: &Parsed) -> Result<String, NoMemory> {
-        match x {
-            Ok(request) => Ok(request.client.clone()?),
-            Err(_) => Ok(String::new(self.0)),
-        }
-    }
+pub enum Name {
+    Client(Global),
+    Path(Global),
 }
 
-/// A request's path, and the empty text of a fault.
-#[derive(Clone, Copy, Drop)]
-pub struct Path(pub Global);
-
-impl Mapping<Parsed> for Path {
+impl Mapping<Parsed> for Name {
     type Out = String;
 
-    ghost image = { λ _. path };
+    ghost image = { name };
 
     ghost images_are_values = { λ _ _ _. tt };
 
     fn image(&self, x: &Parsed) -> Result<String, NoMemory> {
-        match x {
-            Ok(request) => Ok(request.path.clone()?),
-            Err(_) => Ok(String::new(self.0)),
+        match (self, x) {
+            (Name::Client(_), Ok(request)) => Ok(request.client.clone()?),
+            (Name::Path(_), Ok(request)) => Ok(request.path.clone()?),
+            (Name::Client(alloc) | Name::Path(alloc), Err(_)) => Ok(String::new(*alloc)),
         }
     }
 }

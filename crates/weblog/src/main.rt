@@ -88,7 +88,7 @@ where
     } else {
         answer(&Engine::new(rt, rt.alloc(), &run)?, reader, hashes)?
     };
-    tell(rt, &found).map_err(Failure::Write)
+    tell(rt, &found)
 }
 
 /// The words after the program's name.
@@ -105,13 +105,14 @@ fn opened<R: Files + AllocGlobal>(rt: &R, name: &str) -> Result<R::File, Failure
 }
 
 /// Tells of bad lines, writes the answers, and answers the status.
-fn tell<R: Print + Eprint>(rt: &R, found: &Answers) -> io::Result<u8> {
+fn tell<R: Print + Eprint + AllocGlobal>(rt: &R, found: &Answers) -> Result<u8, Failure> {
+    let text = format!(in rt.alloc(); "{found}")?;
     for line in &found.first {
         if let Err(fault) = line {
             let _told = eprintln!(rt; "weblog: {fault}");
         }
     }
-    print!(rt; "{}", found.text)?;
+    print!(rt; "{text}").map_err(Failure::Write)?;
     Ok(u8::from(found.bad > 0))
 }
 
