@@ -71,8 +71,12 @@ public class Weblog {
     }
 
     static Entry parse(long at, String line) {
-        String head = piece(line, "\"", 0), asked = piece(line, "\"", 1), tail = piece(line, "\"", 2);
-        String client = piece(line, " ", 0), path = piece(asked, " ", 1), sent = piece(tail, " ", 2);
+        String head = piece(line, "\"", 0);
+        String asked = piece(line, "\"", 1);
+        String tail = piece(line, "\"", 2);
+        String client = piece(line, " ", 0);
+        String path = piece(asked, " ", 1);
+        String sent = piece(tail, " ", 2);
         long hour = number(piece(piece(head, "\\[", 1), ":", 1));
         long status = number(piece(tail, " ", 1));
         long bytes = sent.equals("-") ? 0 : number(sent);
@@ -112,16 +116,21 @@ public class Weblog {
 
     /** Tells of bad lines, writes the answers, and answers the status. */
     static int answer(BufferedReader log, boolean progress) throws IOException {
-        var counts = teeing(
-            groupingBy(Request::status, LinkedHashMap::new, counting()), groupingBy(Request::path, LinkedHashMap::new, counting()), Both::new);
-        var sums = teeing(
-            mapping(Request::client, toSet()), groupingBy(Request::hour, LinkedHashMap::new, summingLong(Request::bytes)), Both::new);
-        var failure = filtering((Request request) -> request.status() > 499, reducing((Request one, Request other) -> one));
+        var statuses = groupingBy(Request::status, LinkedHashMap::new, counting());
+        var paths = groupingBy(Request::path, LinkedHashMap::new, counting());
+        var clients = mapping(Request::client, toSet());
+        var hours = groupingBy(Request::hour, LinkedHashMap::new, summingLong(Request::bytes));
+        var counts = teeing(statuses, paths, Both::new);
+        var sums = teeing(clients, hours, Both::new);
+        var first = reducing((Request one, Request other) -> one);
+        var failure = filtering((Request request) -> request.status() > 499, first);
         var requests = teeing(teeing(counts, sums, Both::new), failure, Both::new);
         var faults = teeing(counting(), Weblog.<Fault>first(MOST_TOLD), Both::new);
-        AtomicLong at = new AtomicLong(), told = new AtomicLong();
+        AtomicLong at = new AtomicLong();
+        AtomicLong told = new AtomicLong();
         var numbered = log.lines().map(line -> new Both<>(at.incrementAndGet(), line)).iterator();
-        var found = StreamSupport.stream(Spliterators.spliteratorUnknownSize(numbered, Spliterator.ORDERED), true)
+        var lines = Spliterators.spliteratorUnknownSize(numbered, Spliterator.ORDERED);
+        var found = StreamSupport.stream(lines, true)
             .peek(line -> {
                 if (progress && told.incrementAndGet() % 1_000_000 == 0) {
                     System.err.println(told + " lines");
@@ -130,21 +139,27 @@ public class Weblog {
             .map(line -> parse(line.first(), line.second()))
             .collect(teeing(of(Request.class, requests), of(Fault.class, faults), Both::new));
         var bad = found.second();
-        bad.second().forEach(fault -> System.err.println("weblog: line " + fault.line() + ": " + fault.what()));
+        for (Fault fault : bad.second()) {
+            System.err.println("weblog: line " + fault.line() + ": " + fault.what());
+        }
         var asked = found.first().first();
-        write(asked.first().first(), asked.first().second(), asked.second(), found.first().second(), bad.first());
+        write(asked.first(), asked.second(), found.first().second(), bad.first());
         return bad.first() > 0 ? 1 : 0;
     }
 
     static void write(
-        Map<Integer, Long> statuses, Map<String, Long> paths, Both<Set<String>, LinkedHashMap<Integer, Long>> sums, Optional<Request> failure, long bad
+        Both<LinkedHashMap<Integer, Long>, LinkedHashMap<String, Long>> counts,
+        Both<Set<String>, LinkedHashMap<Integer, Long>> sums,
+        Optional<Request> failure,
+        long bad
     ) throws IOException {
-        StringBuilder text = new StringBuilder("requests by status: " + statuses + "\n");
-        paths.entrySet().stream()
+        StringBuilder text = new StringBuilder("requests by status: " + counts.first() + "\n");
+        counts.second().entrySet().stream()
             .sorted(Map.Entry.comparingByValue(Comparator.reverseOrder()))
             .limit(3)
             .forEach(path -> text.append("path " + path.getKey() + ": " + path.getValue() + "\n"));
-        text.append("first failure: " + failure.map(it -> it.status() + " " + it.path()).orElse("none") + "\n");
+        String failed = failure.map(it -> it.status() + " " + it.path()).orElse("none");
+        text.append("first failure: " + failed + "\n");
         text.append("clients: " + sums.first().size() + "\n");
         text.append("bytes by hour: " + sums.second() + "\n");
         text.append("bad lines: " + bad + "\n");
@@ -182,9 +197,11 @@ public class Weblog {
             return System.out.checkError() ? 3 : 0;
         }
         Options options = options(words);
-        System.setProperty("java.util.concurrent.ForkJoinPool.common.parallelism", "" + options.workers());
+        String parallelism = "java.util.concurrent.ForkJoinPool.common.parallelism";
+        System.setProperty(parallelism, "" + options.workers());
         InputStream input = options.file() == null ? System.in : new FileInputStream(options.file());
-        try (BufferedReader log = new BufferedReader(new InputStreamReader(input, StandardCharsets.UTF_8.newDecoder()))) {
+        var reader = new InputStreamReader(input, StandardCharsets.UTF_8.newDecoder());
+        try (BufferedReader log = new BufferedReader(reader)) {
             return answer(log, options.progress());
         } catch (UncheckedIOException e) {
             throw e.getCause();

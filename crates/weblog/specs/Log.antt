@@ -24,8 +24,8 @@ fault NoPath = pos 2
 fault NoStatus = pos 3
 fault NoBytes = pos 4
 
-abbrev pub Parsed : Type 0
-Parsed = Result Content ℤ
+abbrev pub Line : Type 0
+Line = Result Content ℤ
 
 -- the piece at a place between spaces
 abbrev pub word : ℕ → List ℕ → List ℕ
@@ -45,53 +45,44 @@ number = number_or (negsuc 0)
 abbrev pub bytes : List ℕ → ℤ
 bytes text = if bytes_eq text (codes "-") then pos 0 else number text
 
-abbrev pub hour : List ℕ → ℤ
-hour line = number (piece (λ b. b == 58) 1 (bracketed 1 line))
-
 -- whether a number isn't one from the first to the last
 abbrev pub outside : ℤ → ℤ → ℤ → Bool
 outside first last n = int_lt n first || int_lt last n
 
--- what a line lacks
-abbrev pub lacks_client : List ℕ → Bool
-lacks_client line = (length (word 0 line) == 0) || not (ends_with ◌==◌ (bracketed 0 line) (codes " - - "))
-
-abbrev pub lacks_time : List ℕ → Bool
-lacks_time line = outside (pos 0) (pos 23) (hour line) || not (ends_with ◌==◌ (quoted 0 line) (codes "] "))
-
-abbrev pub lacks_path : List ℕ → Bool
-lacks_path line = (length (word 1 (quoted 1 line)) == 0) || (length (word 2 (quoted 1 line)) == 0)
-
-abbrev pub lacks_status : List ℕ → Bool
-lacks_status line = outside (pos 100) (pos 599) (number (word 1 (quoted 2 line)))
-
-abbrev pub lacks_bytes : List ℕ → Bool
-lacks_bytes line = int_lt (bytes (word 2 (quoted 2 line))) (pos 0)
-
+-- a line's request, whatever the line lacks
 abbrev pub request : List ℕ → Content
-request line =
-    (number (word 1 (quoted 2 line)), (hour line, (bytes (word 2 (quoted 2 line)), (word 0 line, word 1 (quoted 1 line)))))
+request line = (
+  number (word 1 (quoted 2 line)),
+  (
+    number (piece (λ b. b == 58) 1 (bracketed 1 line)),
+    (bytes (word 2 (quoted 2 line)), (word 0 line, word 1 (quoted 1 line))),
+  ),
+)
 
--- a line's request, or the first of what it lacks
-abbrev pub parsed : List ℕ → Parsed
+-- a line's request, or the first of what the line lacks
+abbrev pub parsed : List ℕ → Line
 parsed line =
-    if lacks_client line then Err (pos 0) else (if lacks_time line then Err (pos 1) else (if lacks_path line then Err (pos 2)
-    else (if lacks_status line then Err (pos 3) else (if lacks_bytes line then Err (pos 4) else Ok (request line)))))
+    let r = request line in
+    if (length (word 0 line) == 0) || not (ends_with ◌==◌ (bracketed 0 line) (codes " - - ")) then Err (fault NoClient)
+    else (if outside (pos 0) (pos 23) r.1.0 || not (ends_with ◌==◌ (quoted 0 line) (codes "] ")) then Err (fault NoTime)
+    else (if (length (word 1 (quoted 1 line)) == 0) || (length (word 2 (quoted 1 line)) == 0) then Err (fault NoPath)
+    else (if outside (pos 100) (pos 599) r.0 then Err (fault NoStatus)
+    else (if int_lt r.1.1.0 (pos 0) then Err (fault NoBytes) else Ok r))))
 
 -- a number of a request, and 0 of a fault
-abbrev pub figure : Figure → Parsed → ℤ
+abbrev pub figure : Figure → Line → ℤ
 figure _ (Err _) = pos 0
 figure Status (Ok r) = r.0
 figure Hour (Ok r) = r.1.0
 figure Bytes (Ok r) = r.1.1.0
 
 -- a text of a request, and none of a fault
-abbrev pub name : Name → Parsed → List ℕ
+abbrev pub name : Name → Line → List ℕ
 name _ (Err _) = []
 name (Client _) (Ok r) = r.1.1.1.0
 name (Path _) (Ok r) = r.1.1.1.1
 
-pub figure-value : (f : Figure) (line : Parsed) → MatchResult line IsRequest (λ _. ⊤) → IsI64 (figure f line)
+pub figure-value : (f : Figure) (line : Line) → MatchResult line IsRequest (λ _. ⊤) → IsI64 (figure f line)
 figure-value Status (Ok r) value = value.0
 figure-value Hour (Ok r) value = value.1
 figure-value Bytes (Ok r) value = value.2

@@ -80,18 +80,27 @@ pub fn answer(
         .map_lines(Requests(alloc))
         .collect_on(engine, &all)?;
     let ((((statuses, paths), (clients, hours)), failure), (bad, first)) = found;
-    let most = FirstSorted::new(alloc, Descending(OnSecond(Itself)), 3);
-    let mut told = Vec::new(alloc);
-    for (path, count) in of(EntriesSplit::new(&paths)).collect_on(engine, &most)? {
-        told.push((path.clone()?, *count))?;
-    }
+    let most = most_wanted(engine, &paths)?;
     Ok(Answers {
         statuses,
-        most: told,
+        most,
         failure,
         clients: clients.len(),
         hours,
         bad,
         first,
     })
+}
+
+/// The three paths that were asked for most, and how often.
+fn most_wanted(
+    engine: &Engine<'_, impl Threads + Clock + Sync, impl Gate + Sync>,
+    paths: &IndexMap<String, i64, RandomState>,
+) -> Result<Vec<(String, i64)>, NoMemory> {
+    let first = FirstSorted::new(engine.alloc, Descending(OnSecond(Itself)), 3);
+    let mut most = Vec::new(engine.alloc);
+    for (path, count) in of(EntriesSplit::new(paths)).collect_on(engine, &first)? {
+        most.push((path.clone()?, *count))?;
+    }
+    Ok(most)
 }

@@ -10,14 +10,12 @@ use thiserror::Error;
 pub enum Failure {
     #[error("{0}")]
     Line(#[from] clap::Error),
-    #[error("weblog: the words of the command line: {0}")]
-    Words(io::Error),
     #[error("weblog: {0} can't be opened: {1}")]
     Open(String, io::Error),
     #[error("weblog: {0}")]
     Lines(#[from] LinesError),
-    #[error("weblog: no random numbers: {0}")]
-    Random(io::Error),
+    #[error("weblog: {0}")]
+    System(#[from] io::Error),
     #[error("weblog: the answers can't be written: {0}")]
     Write(io::Error),
     #[error("weblog: {0}")]
@@ -31,7 +29,7 @@ impl Failure {
     pub fn status(&self) -> u8 {
         match self {
             Failure::Line(why) if why.kind() != ErrorKind::OutOfMemory => 2,
-            Failure::Words(why) if why.kind() != io::ErrorKind::OutOfMemory => 2,
+            Failure::System(why) if why.kind() == io::ErrorKind::InvalidData => 2,
             Failure::Lines(LinesError::NotUtf8(_) | LinesError::LongLine(_)) => 2,
             _ => 3,
         }

@@ -49,17 +49,19 @@ impl LineFunction for Requests {
     ghost images_are_values = { λ _ line. parsed-value line };
 
     fn read(&self, line: &str) -> Result<Parsed, NoMemory> {
-        let (head, asked, tail) = (quoted(line, 0), quoted(line, 1), quoted(line, 2));
-        let (client, path) = (word(line, 0), word(asked, 1));
+        let (head, tail) = (piece_of(line, '"', 0), piece_of(line, '"', 2));
+        let asked = piece_of(line, '"', 1);
+        let (client, path) = (piece_of(line, ' ', 0), piece_of(asked, ' ', 1));
         let hour = number(piece_of(piece_of(head, '[', 1), ':', 1));
-        let (status, bytes) = (number(word(tail, 1)), bytes(word(tail, 2)));
+        let status = number(piece_of(tail, ' ', 1));
+        let bytes = bytes(piece_of(tail, ' ', 2));
         if client.is_empty() || !EndsWith(" - - ").holds(&piece_of(head, '[', 0)) {
             return Ok(Err(Fault::NoClient));
         }
         if hour < 0 || hour > 23 || !EndsWith("] ").holds(&head) {
             return Ok(Err(Fault::NoTime));
         }
-        if path.is_empty() || word(asked, 2).is_empty() {
+        if path.is_empty() || piece_of(asked, ' ', 2).is_empty() {
             return Ok(Err(Fault::NoPath));
         }
         if status < 100 || status > 599 {
@@ -78,20 +80,6 @@ impl LineFunction for Requests {
             path,
         }))
     }
-}
-
-/// What stands before the first quote, between that and the second, or behind the second.
-fn quoted(line: &str, at: usize) -> &str
-    ensures { result.now ≡ spec.quoted at line.now }
-{
-    piece_of(line, '"', at)
-}
-
-/// The piece at a place between spaces.
-fn word(text: &str, at: usize) -> &str
-    ensures { result.now ≡ spec.word at text.now }
-{
-    piece_of(text, ' ', at)
 }
 
 /// The number that a text writes, or -1.

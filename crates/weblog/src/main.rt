@@ -15,7 +15,7 @@ use std::alloc::Global;
 use std::env::{self, Env};
 use std::fs::{self, Files};
 use std::hash::RandomState;
-use std::io::{self, IsTerminal, Read};
+use std::io::{IsTerminal, Read};
 use std::process::ExitCode;
 use std::random::RandomSource;
 use std::thread::Threads;
@@ -31,14 +31,8 @@ fn main(rt: HostRuntime) -> ExitCode {
     }
 }
 
-/// What a program asks of its environment, beside the threads.
-trait World: Threads + Clock + RandomSource + Files + Env + Print + Eprint + AllocGlobal + Sync {}
-
-impl<R: Threads + Clock + RandomSource + Files + Env + Print + Eprint + AllocGlobal + Sync> World
-    for R {}
-
 /// Runs the program over the words of its command line, and answers its status.
-fn command<R: World>(
+fn command<R: Threads + Clock + RandomSource + Files + Env + Print + Eprint + AllocGlobal + Sync>(
     rt: &R,
     input: impl Read + Send + Drop,
     is_terminal: bool,
@@ -46,39 +40,18 @@ fn command<R: World>(
 where
     R::File: Send,
 {
-    let words = words(rt).map_err(Failure::Words)?;
-    match parse(rt.alloc(), words.as_slice()) {
-        Ok(matches) => run(rt, &matches, input, is_terminal),
-        Err(why) => explain(rt, why),
-    }
-}
-
-/// Shows the help, or hands on why a command line is not taken.
-fn explain(rt: &impl Print, why: clap::Error) -> Result<u8, Failure> {
-    if why.kind() == ErrorKind::DisplayHelp {
-        print!(rt; "{why}").map_err(Failure::Write)?;
-        return Ok(0);
-    }
-    Err(Failure::Line(why))
-}
-
-/// Answers the log that a command line names, and answers the status.
-fn run<R: World>(
-    rt: &R,
-    matches: &ArgMatches<'_>,
-    input: impl Read + Send + Drop,
-    is_terminal: bool,
-) -> Result<u8, Failure>
-where
-    R::File: Send,
-{
+    let words: Vec<String> = env::args(rt)?.skip(1).collect(rt.alloc())?;
+    let matches = match parse(rt.alloc(), words.as_slice()) {
+        Ok(matches) => matches,
+        Err(why) => return explain(rt, why),
+    };
     let reader = match matches.get_str("FILE") {
         Some(name) => Either::Left(opened(rt, name)?),
         None => Either::Right(input),
     };
     let workers: u32 = matches.get_one("workers").unwrap_or(4);
     let run = Run::new(workers.clamp(1, 64));
-    let hashes = RandomState::new(rt).map_err(Failure::Random)?;
+    let hashes = RandomState::new(rt)?;
     let found = if matches.get_flag("progress") {
         let meter = Meter::new(rt, Looks::of_terminal(rt, is_terminal));
         let engine = Engine::new(rt, rt.alloc(), &run.with_gate(&meter))?;
@@ -91,9 +64,13 @@ where
     tell(rt, &found)
 }
 
-/// The words after the program's name.
-fn words<R: Env + AllocGlobal>(rt: &R) -> io::Result<Vec<String>> {
-    Ok(env::args(rt)?.skip(1).collect(rt.alloc())?)
+/// Shows the help, or hands on why a command line is not taken.
+fn explain(rt: &impl Print, why: clap::Error) -> Result<u8, Failure> {
+    if why.kind() == ErrorKind::DisplayHelp {
+        print!(rt; "{why}").map_err(Failure::Write)?;
+        return Ok(0);
+    }
+    Err(Failure::Line(why))
 }
 
 /// The file of a name.
