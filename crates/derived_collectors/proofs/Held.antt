@@ -1,9 +1,9 @@
 -- A container that holds an error is decided.
-use Rattle.std.specs.Prelude.{◌≡◌, ◌≤◌, ◌+◌, ◌++◌, ◌∷◌, Bool, true, cond, List, All, Result, Ok, Err, count_by, fold, map, MatchResult}
+use Rattle.std.specs.Prelude.{◌≡◌, ◌≤◌, ◌++◌, ◌∷◌, true, cond, List, All, Result, Ok, Err, count_by, fold, map}
 use Rattle.std.specs.Result.{is_err, result_map_both}
-use Rattle.std.proofs.Common.{ap, sym, subst, ◌∙◌, arith, true≢false}
+use Rattle.std.proofs.Common.{sym, subst, arith, true≢false}
 use Rattle.std.proofs.lemmas.List.Sums.{sum_by-cons, sum_by-append}
-use Rattle.derived_collectors.specs.Tried.{try_add, IsTried, IsFirstError, has_failed}
+use Rattle.derived_collectors.specs.Tried.{try_add, IsTried, has_failed}
 use Rattle.derived_collectors.specs.TriedLaws.{is_item, err_of}
 use Rattle.derived_collectors.specs.Decided.{decided-tried}
 

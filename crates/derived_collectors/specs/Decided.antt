@@ -1,5 +1,5 @@
 -- A front in which an item has failed decides what the whole list gives.
-use Rattle.std.specs.Prelude.{◌≡◌, ◌≤◌, ◌++◌, ◌∷◌, [], cond, List, Result, Ok, Err, count_by, map}
+use Rattle.std.specs.Prelude.{◌≤◌, ◌++◌, ◌∷◌, [], cond, List, Result, Ok, Err, count_by, map}
 use Rattle.std.proofs.Common.{ap, subst, ◌∙◌, arith, append_assoc}
 use Rattle.std.proofs.lemmas.List.Sums.{sum_by-cons}
 use Rattle.derived_collectors.specs.Tried.{IsTried, has_failed}

@@ -9,3 +9,5 @@ pub mod ScanLaws
 pub mod Tried
 pub mod TriedLaws
 pub mod Decided
+pub mod FirstPlaces
+pub mod PlaceLaws

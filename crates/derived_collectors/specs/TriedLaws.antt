@@ -1,6 +1,5 @@
 -- The collector of items that may have failed keeps the laws, and what its containers stand for.
 use Rattle.std.specs.Prelude.{◌≡◌, List, [], ◌∷◌, ◌++◌, All, fold, map, Result, Ok, Err, MatchResult, IfOk, refl}
-use Rattle.std.specs.Result.{result_map_both}
 use Rattle.std.proofs.Common.{ap, ap₂, sym, ◌∙◌}
 use Rattle.std.proofs.lemmas.List.Elements.{All-head, All-tail, All-nil, All-cons}
 use Rattle.collectors.specs.Laws.{CollectorLaws}

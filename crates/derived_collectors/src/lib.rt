@@ -1,5 +1,6 @@
 //! More of Java's collectors: what is done with a result, lists of images, the best item by a key, sets, groups of lists, deques, exact
-//! sums and averages, running totals, count, sum, least and greatest of numbers in one pass, and what is made of items that may have failed.
+//! sums and averages, running totals, places of items, count, sum, least and greatest of numbers in one pass, and what is made of items
+//! that may have failed.
 #![tactic(auto)]
 
 mod best;
@@ -8,6 +9,7 @@ mod checked;
 mod collecting_and_then;
 mod deciding;
 mod deques;
+mod first_places;
 mod flat_mapping;
 mod fractions;
 mod keyed;
@@ -25,6 +27,7 @@ pub use checked::{IntoLong, summing_checked};
 pub use collecting_and_then::{CollectingAndThen, Finisher};
 pub use deciding::{Decides, Deciding};
 pub use deques::{IntoDeque, to_deque};
+pub use first_places::{FirstPlaces, Places};
 pub use flat_mapping::{FlatMappingTo, ListOfValues};
 pub use fractions::{Fraction, IntoFraction, averaging};
 pub use lists::{grouping_by, partitioning_by};

@@ -37,6 +37,7 @@ pub use derived_collectors::BestByKey;
 pub use derived_collectors::CollectingAndThen;
 pub use derived_collectors::Deciding;
 pub use derived_collectors::Finisher;
+pub use derived_collectors::FirstPlaces;
 pub use derived_collectors::FlatMappingTo;
 pub use derived_collectors::Fraction;
 pub use derived_collectors::IntoDeque;

@@ -6,6 +6,7 @@ mod exact;
 mod functions;
 mod lists;
 mod nested;
+mod places;
 mod scanned;
 mod sets;
 mod summarized;
