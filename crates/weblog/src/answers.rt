@@ -22,8 +22,9 @@ pub struct Answers {
     clients: usize,
     hours: IndexMap<i64, i64>,
     pub bad: i64,
-    /// The first bad lines.
+    /// The first bad lines, and their places from 0 on.
     pub first: Vec<Parsed>,
+    pub places: Vec<u64>,
 }
 
 impl Display for Answers {
@@ -74,12 +75,15 @@ pub fn answer(
     let counts = Teeing::new(GroupingBy::new(alloc, Figure::Status, count()), paths, Both);
     let sums = Teeing::new(MappingTo::new(Name::Client(alloc), clients), hours, Both);
     let requests = Teeing::new(Teeing::new(counts, sums, Both), failure, Both);
-    let faults = FilteringTo::new(Not(is_request), Teeing::new(count(), first, Both));
+    let is_bad = Not(is_request);
+    let places = FirstPlaces::<Parsed, _>::new(alloc, is_bad, MOST_TOLD);
+    let first = Teeing::new(FilteringTo::new(is_bad, first), places, Both);
+    let faults = Teeing::new(FilteringTo::new(is_bad, count()), first, Both);
     let all = Teeing::new(FilteringTo::new(is_request, requests), faults, Both);
     let found = lines_of(reader)
         .map_lines(Requests(alloc))
         .collect_on(engine, &all)?;
-    let ((((statuses, paths), (clients, hours)), failure), (bad, first)) = found;
+    let ((((statuses, paths), (clients, hours)), failure), (bad, (first, places))) = found;
     let most = most_wanted(engine, &paths)?;
     Ok(Answers {
         statuses,
@@ -89,6 +93,7 @@ pub fn answer(
         hours,
         bad,
         first,
+        places,
     })
 }
 

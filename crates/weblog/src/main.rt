@@ -84,9 +84,10 @@ fn opened<R: Files + AllocGlobal>(rt: &R, name: &str) -> Result<R::File, Failure
 /// Tells of bad lines, writes the answers, and answers the status.
 fn tell<R: Print + Eprint + AllocGlobal>(rt: &R, found: &Answers) -> Result<u8, Failure> {
     let text = format!(in rt.alloc(); "{found}")?;
-    for line in &found.first {
+    for (line, place) in found.first.iter().zip(&found.places) {
         if let Err(fault) = line {
-            let _told = eprintln!(rt; "weblog: {fault}");
+            let number = place.saturating_add(1);
+            let _told = eprintln!(rt; "weblog: line {number}: {fault}");
         }
     }
     print!(rt; "{text}").map_err(Failure::Write)?;
