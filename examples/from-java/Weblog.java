@@ -1,17 +1,19 @@
 import static java.util.stream.Collectors.*;
 
-import java.io.BufferedReader;
+import java.io.ByteArrayOutputStream;
 import java.io.FileDescriptor;
 import java.io.FileInputStream;
 import java.io.FileOutputStream;
 import java.io.IOException;
 import java.io.InputStream;
-import java.io.InputStreamReader;
 import java.io.UncheckedIOException;
-import java.nio.charset.CharacterCodingException;
+import java.nio.ByteBuffer;
+import java.nio.CharBuffer;
+import java.nio.charset.CharsetDecoder;
 import java.nio.charset.StandardCharsets;
 import java.util.ArrayList;
 import java.util.Comparator;
+import java.util.Iterator;
 import java.util.LinkedHashMap;
 import java.util.List;
 import java.util.Map;
@@ -23,7 +25,7 @@ import java.util.concurrent.atomic.AtomicLong;
 import java.util.stream.Collector;
 import java.util.stream.StreamSupport;
 
-/** Answers to the log of a web server of any size, in one pass: of a file or of standard input, a line a request. */
+/** Answers to the log of a web server of any size, in one pass: of a file or standard input. */
 public class Weblog {
     static final String HELP = """
         Answers questions to the log of a web server
@@ -54,6 +56,75 @@ public class Weblog {
     static class BadWords extends Exception {
         BadWords(String message) {
             super(message);
+        }
+    }
+
+    static class BadText extends IOException {
+        BadText(String message) {
+            super(message);
+        }
+    }
+
+    /** The lines of a stream in UTF-8, with their numbers. */
+    static class Lines implements Iterator<Both<Long, String>> {
+        private static final int LONGEST = 2 << 20;
+        private final InputStream input;
+        private final ByteArrayOutputStream line = new ByteArrayOutputStream();
+        private final byte[] buffer = new byte[1 << 16];
+        private int at = 0;
+        private int end = 0;
+        private long number = 0;
+        private long place = 0;
+
+        Lines(InputStream input) {
+            this.input = input;
+        }
+
+        @Override
+        public boolean hasNext() {
+            try {
+                if (at == end) {
+                    at = 0;
+                    end = Math.max(0, input.read(buffer));
+                }
+                return at < end;
+            } catch (IOException e) {
+                throw new UncheckedIOException(e);
+            }
+        }
+
+        @Override
+        public Both<Long, String> next() {
+            try {
+                line.reset();
+                boolean isWhole = false;
+                while (!isWhole && hasNext()) {
+                    int from = at;
+                    while (at < end && buffer[at] != '\n') {
+                        at++;
+                    }
+                    line.write(buffer, from, at - from);
+                    isWhole = at < end;
+                    at += isWhole ? 1 : 0;
+                    if (line.size() >= LONGEST) {
+                        throw new BadText("a line that is too long begins at byte " + place);
+                    }
+                }
+                String text = text(ByteBuffer.wrap(line.toByteArray()));
+                place += line.size() + 1;
+                return new Both<>(++number, text);
+            } catch (IOException e) {
+                throw new UncheckedIOException(e);
+            }
+        }
+
+        private String text(ByteBuffer bytes) throws BadText {
+            CharBuffer text = CharBuffer.allocate(bytes.remaining());
+            CharsetDecoder decoder = StandardCharsets.UTF_8.newDecoder();
+            if (decoder.decode(bytes, text, true).isError()) {
+                throw new BadText("not UTF-8 at byte " + (place + bytes.position()));
+            }
+            return text.flip().toString();
         }
     }
 
@@ -115,7 +186,7 @@ public class Weblog {
     }
 
     /** Tells of bad lines, writes the answers, and answers the status. */
-    static int answer(BufferedReader log, boolean progress) throws IOException {
+    static int answer(InputStream log, boolean progress) throws IOException {
         var statuses = groupingBy(Request::status, LinkedHashMap::new, counting());
         var paths = groupingBy(Request::path, LinkedHashMap::new, counting());
         var clients = mapping(Request::client, toSet());
@@ -126,10 +197,8 @@ public class Weblog {
         var failure = filtering((Request request) -> request.status() > 499, first);
         var requests = teeing(teeing(counts, sums, Both::new), failure, Both::new);
         var faults = teeing(counting(), Weblog.<Fault>first(MOST_TOLD), Both::new);
-        AtomicLong at = new AtomicLong();
         AtomicLong told = new AtomicLong();
-        var numbered = log.lines().map(line -> new Both<>(at.incrementAndGet(), line)).iterator();
-        var lines = Spliterators.spliteratorUnknownSize(numbered, Spliterator.ORDERED);
+        var lines = Spliterators.spliteratorUnknownSize(new Lines(log), Spliterator.ORDERED);
         var found = StreamSupport.stream(lines, true)
             .peek(line -> {
                 if (progress && told.incrementAndGet() % 1_000_000 == 0) {
@@ -172,13 +241,13 @@ public class Weblog {
 
     static Options options(String[] words) throws BadWords {
         String file = null;
-        int workers = 4;
+        long workers = 4;
         boolean progress = false;
         for (int at = 0; at < words.length; at++) {
             if (words[at].equals("--progress")) {
                 progress = true;
             } else if (words[at].equals("--workers") && at + 1 < words.length) {
-                workers = (int) number(words[++at]);
+                workers = number(words[++at]);
             } else if (words[at].startsWith("-") || file != null) {
                 throw new BadWords("unexpected argument '" + words[at] + "' found");
             } else {
@@ -188,7 +257,7 @@ public class Weblog {
         if (workers < 1 || workers > 64) {
             throw new BadWords("--workers has to be 1 to 64");
         }
-        return new Options(file, workers, progress);
+        return new Options(file, (int) workers, progress);
     }
 
     static int run(String[] words) throws IOException, BadWords {
@@ -199,9 +268,8 @@ public class Weblog {
         Options options = options(words);
         String parallelism = "java.util.concurrent.ForkJoinPool.common.parallelism";
         System.setProperty(parallelism, "" + options.workers());
-        InputStream input = options.file() == null ? System.in : new FileInputStream(options.file());
-        var reader = new InputStreamReader(input, StandardCharsets.UTF_8.newDecoder());
-        try (BufferedReader log = new BufferedReader(reader)) {
+        String file = options.file();
+        try (InputStream log = file == null ? System.in : new FileInputStream(file)) {
             return answer(log, options.progress());
         } catch (UncheckedIOException e) {
             throw e.getCause();
@@ -215,8 +283,8 @@ public class Weblog {
         } catch (BadWords e) {
             System.err.println("error: " + e.getMessage());
             status = 2;
-        } catch (CharacterCodingException e) {
-            System.err.println("weblog: not UTF-8");
+        } catch (BadText e) {
+            System.err.println("weblog: " + e.getMessage());
             status = 2;
         } catch (IOException e) {
             System.err.println("weblog: " + e.getMessage());
