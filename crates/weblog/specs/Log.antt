@@ -1,7 +1,7 @@
 -- What a line of a log says.
-use Rattle.std.specs.Prelude.{◌==◌, ℕ, Bool, not, ◌&&◌, ◌||◌, List, [], ℤ, pos, negsuc, int_lt, Result, Ok, Err, MatchResult, codes, if◌then◌else◌, length, bytes_eq}
+use Rattle.std.specs.Prelude.{◌==◌, ℕ, Bool, ◌||◌, List, [], ℤ, pos, negsuc, int_lt, Result, Ok, Err, MatchResult, Option, Some, None, codes, if◌then◌else◌, length, bytes_eq}
 use Rattle.std.specs.List.{ends_with}
-use Rattle.mohairjade.specs.Words.{IsI64, number_or, piece, wrapped, wrapped-value, ⊤}
+use Rattle.mohairjade.specs.Words.{IsI64, number_or, piece, wrapped-value, ⊤}
 use Rattle.weblog.specs.declared.line.Fault.{Fault}
 use Rattle.weblog.specs.declared.line.Fault.TheVariants.{NoClient, NoTime, NoPath, NoStatus, NoBytes}
 use Rattle.weblog.specs.declared.line.Name.{Name}
@@ -27,47 +27,56 @@ fault NoBytes = pos 4
 abbrev pub Line : Type 0
 Line = Result Content ℤ
 
--- the piece at a place between spaces
-abbrev pub word : ℕ → List ℕ → List ℕ
-word = piece (λ b. b == 32)
+abbrev pub at_space : ℕ → List ℕ → List ℕ
+at_space = piece (λ b. b == 32)
+
+abbrev pub at_bracket : ℕ → List ℕ → List ℕ
+at_bracket = piece (λ b. b == 91)
 
 -- what stands before a line's first quote, between that and the second, and behind the second
-abbrev pub quoted : ℕ → List ℕ → List ℕ
-quoted = piece (λ b. b == 34)
+abbrev pub at_quote : ℕ → List ℕ → List ℕ
+at_quote = piece (λ b. b == 34)
 
--- the same at a line's first opening bracket
-abbrev pub bracketed : ℕ → List ℕ → List ℕ
-bracketed at line = piece (λ b. b == 91) at (quoted 0 line)
+-- the texts of these parts, empty where the part has another form
+abbrev pub client : List ℕ → List ℕ
+client head = if ends_with ◌==◌ (at_bracket 0 head) (codes " - - ") then at_space 0 head else []
+
+abbrev pub hour : List ℕ → List ℕ
+hour head = if ends_with ◌==◌ head (codes "] ") then piece (λ b. b == 58) 1 (at_bracket 1 head) else []
+
+abbrev pub path : List ℕ → List ℕ
+path asked = if length (at_space 2 asked) == 0 then [] else at_space 1 asked
+
+abbrev pub sent : List ℕ → List ℕ
+sent tail = if bytes_eq (at_space 2 tail) (codes "-") then codes "0" else at_space 2 tail
 
 abbrev pub number : List ℕ → ℤ
 number = number_or (negsuc 0)
 
-abbrev pub bytes : List ℕ → ℤ
-bytes text = if bytes_eq text (codes "-") then pos 0 else number text
+-- a line's request, whatever the line lacks
+abbrev pub request : List ℕ → Content
+request line =
+    let tail = at_quote 2 line in
+    (number (at_space 1 tail), (number (hour (at_quote 0 line)), (number (sent tail), (client (at_quote 0 line), path (at_quote 1 line)))))
 
 -- whether a number isn't one from the first to the last
 abbrev pub outside : ℤ → ℤ → ℤ → Bool
 outside first last n = int_lt n first || int_lt last n
 
--- a line's request, whatever the line lacks
-abbrev pub request : List ℕ → Content
-request line = (
-  number (word 1 (quoted 2 line)),
-  (
-    number (piece (λ b. b == 58) 1 (bracketed 1 line)),
-    (bytes (word 2 (quoted 2 line)), (word 0 line, word 1 (quoted 1 line))),
-  ),
-)
+-- what a request lacks
+abbrev pub lacks : Content → Option ℤ
+lacks r =
+    if length r.1.1.1.0 == 0 then Some (fault NoClient) else (if outside (pos 0) (pos 23) r.1.0 then Some (fault NoTime)
+    else (if length r.1.1.1.1 == 0 then Some (fault NoPath) else (if outside (pos 100) (pos 599) r.0 then Some (fault NoStatus)
+    else (if int_lt r.1.1.0 (pos 0) then Some (fault NoBytes) else None))))
 
--- a line's request, or the first of what the line lacks
+abbrev pub or_fault : Option ℤ → Content → Line
+or_fault (Some lack) r = Err lack
+or_fault None r = Ok r
+
+-- a line's request, or the first of what it lacks
 abbrev pub parsed : List ℕ → Line
-parsed line =
-    let r = request line in
-    if (length (word 0 line) == 0) || not (ends_with ◌==◌ (bracketed 0 line) (codes " - - ")) then Err (fault NoClient)
-    else (if outside (pos 0) (pos 23) r.1.0 || not (ends_with ◌==◌ (quoted 0 line) (codes "] ")) then Err (fault NoTime)
-    else (if (length (word 1 (quoted 1 line)) == 0) || (length (word 2 (quoted 1 line)) == 0) then Err (fault NoPath)
-    else (if outside (pos 100) (pos 599) r.0 then Err (fault NoStatus)
-    else (if int_lt r.1.1.0 (pos 0) then Err (fault NoBytes) else Ok r))))
+parsed line = or_fault (lacks (request line)) (request line)
 
 -- a number of a request, and 0 of a fault
 abbrev pub figure : Figure → Line → ℤ
@@ -90,8 +99,9 @@ figure-value Status (Err e) value = search
 figure-value Hour (Err e) value = search
 figure-value Bytes (Err e) value = search
 
-pub request-value : (line : List ℕ) → IsRequest (request line)
-request-value line = (wrapped-value _, wrapped-value _, wrapped-value _)
+pub or_fault-value : (lack : Option ℤ) (r : Content) → IsRequest r → MatchResult (or_fault lack r) IsRequest (λ _. ⊤)
+or_fault-value (Some lack) r value = tt
+or_fault-value None r value = value
 
 pub parsed-value : (line : List ℕ) → MatchResult (parsed line) IsRequest (λ _. ⊤)
-parsed-value line = search
+parsed-value line = or_fault-value (lacks (request line)) (request line) (wrapped-value _, wrapped-value _, wrapped-value _)

@@ -1,5 +1,5 @@
 //! What a line of the log says.
-ghost use Rattle.std.specs.Prelude.{◌≡◌};
+ghost use Rattle.std.specs.Prelude.{◌≡◌, option_map};
 ghost use Rattle.mohairjade.specs.Words.{both, both-decides, by_first, by_first-ties, by_first-total, bytes_cmp-ties, bytes_cmp-total, bytes_eq, bytes_eq-decides, int_cmp, int_cmp-ties, int_cmp-total, int_eq, int_eq-decides, nat_cmp, slice_cmp, string_bytes, ⊤};
 ghost use Rattle.weblog.specs.Log.{IsRequest, fault, figure, figure-value, name, parsed, parsed-value};
 ghost use Rattle.weblog.specs.Log as spec;
@@ -49,26 +49,16 @@ impl LineFunction for Requests {
     ghost images_are_values = { λ _ line. parsed-value line };
 
     fn read(&self, line: &str) -> Result<Parsed, NoMemory> {
-        let (head, tail) = (piece_of(line, '"', 0), piece_of(line, '"', 2));
+        let head = piece_of(line, '"', 0);
         let asked = piece_of(line, '"', 1);
-        let (client, path) = (piece_of(line, ' ', 0), piece_of(asked, ' ', 1));
-        let hour = number(piece_of(piece_of(head, '[', 1), ':', 1));
+        let tail = piece_of(line, '"', 2);
+        let client = client(head);
+        let hour = number(hour(head));
+        let path = path(asked);
         let status = number(piece_of(tail, ' ', 1));
-        let bytes = bytes(piece_of(tail, ' ', 2));
-        if client.is_empty() || !EndsWith(" - - ").holds(&piece_of(head, '[', 0)) {
-            return Ok(Err(Fault::NoClient));
-        }
-        if hour < 0 || hour > 23 || !EndsWith("] ").holds(&head) {
-            return Ok(Err(Fault::NoTime));
-        }
-        if path.is_empty() || piece_of(asked, ' ', 2).is_empty() {
-            return Ok(Err(Fault::NoPath));
-        }
-        if status < 100 || status > 599 {
-            return Ok(Err(Fault::NoStatus));
-        }
-        if bytes < 0 {
-            return Ok(Err(Fault::NoBytes));
+        let bytes = number(sent(tail));
+        if let Some(fault) = lack_of(client, hour, path, status, bytes) {
+            return Ok(Err(fault));
         }
         let client = String::from_str(self.0, client)?;
         let path = String::from_str(self.0, path)?;
@@ -82,6 +72,47 @@ impl LineFunction for Requests {
     }
 }
 
+/// The client, where ` - - [` stands behind it.
+fn client(head: &str) -> &str
+    ensures { result.now ≡ spec.client head.now }
+{
+    if EndsWith(" - - ").holds(&piece_of(head, '[', 0)) {
+        piece_of(head, ' ', 0)
+    } else {
+        ""
+    }
+}
+
+/// The hour, where the time ends with a bracket.
+fn hour(head: &str) -> &str
+    ensures { result.now ≡ spec.hour head.now }
+{
+    if EndsWith("] ").holds(&head) {
+        piece_of(piece_of(head, '[', 1), ':', 1)
+    } else {
+        ""
+    }
+}
+
+/// The path, where a protocol stands behind it.
+fn path(asked: &str) -> &str
+    ensures { result.now ≡ spec.path asked.now }
+{
+    if piece_of(asked, ' ', 2).is_empty() {
+        ""
+    } else {
+        piece_of(asked, ' ', 1)
+    }
+}
+
+/// The bytes that were sent; `-` stands for none.
+fn sent(tail: &str) -> &str
+    ensures { result.now ≡ spec.sent tail.now }
+{
+    let bytes = piece_of(tail, ' ', 2);
+    if bytes == "-" { "0" } else { bytes }
+}
+
 /// The number that a text writes, or -1.
 fn number(text: &str) -> i64
     ensures { result ≡ spec.number text.now }
@@ -89,11 +120,31 @@ fn number(text: &str) -> i64
     NumberOr(-1).image_of(&text)
 }
 
-/// The bytes that a text tells, or -1; `-` stands for none.
-fn bytes(text: &str) -> i64
-    ensures { result ≡ spec.bytes text.now }
+/// What a request of these parts lacks.
+fn lack_of(client: &str, hour: i64, path: &str, status: i64, bytes: i64) -> Option<Fault>
+    ensures { option_map spec.fault result
+        ≡ spec.lacks (status, (hour, (bytes, (client.now, path.now)))) }
 {
-    if text == "-" { 0 } else { number(text) }
+    if client.is_empty() {
+        Some(Fault::NoClient)
+    } else if outside(0, 23, hour) {
+        Some(Fault::NoTime)
+    } else if path.is_empty() {
+        Some(Fault::NoPath)
+    } else if outside(100, 599, status) {
+        Some(Fault::NoStatus)
+    } else if Below(0).holds(&bytes) {
+        Some(Fault::NoBytes)
+    } else {
+        None
+    }
+}
+
+/// Whether a number isn't one from the first to the last.
+fn outside(first: i64, last: i64, number: i64) -> bool
+    ensures { result ≡ spec.outside first last number }
+{
+    number < first || number > last
 }
 
 impl Value for Request {
