@@ -30,19 +30,16 @@ Line = Result Content ℤ
 abbrev pub at_space : ℕ → List ℕ → List ℕ
 at_space = piece (λ b. b == 32)
 
-abbrev pub at_bracket : ℕ → List ℕ → List ℕ
-at_bracket = piece (λ b. b == 91)
-
 -- what stands before a line's first quote, between that and the second, and behind the second
 abbrev pub at_quote : ℕ → List ℕ → List ℕ
 at_quote = piece (λ b. b == 34)
 
 -- the texts of these parts, empty where the part has another form
 abbrev pub client : List ℕ → List ℕ
-client head = if ends_with ◌==◌ (at_bracket 0 head) (codes " - - ") then at_space 0 head else []
+client head = if ends_with ◌==◌ (piece (λ b. b == 91) 0 head) (codes " - - ") then at_space 0 head else []
 
 abbrev pub hour : List ℕ → List ℕ
-hour head = if ends_with ◌==◌ head (codes "] ") then piece (λ b. b == 58) 1 (at_bracket 1 head) else []
+hour head = if ends_with ◌==◌ head (codes "] ") then piece (λ b. b == 58) 1 (piece (λ b. b == 91) 1 head) else []
 
 abbrev pub path : List ℕ → List ℕ
 path asked = if length (at_space 2 asked) == 0 then [] else at_space 1 asked

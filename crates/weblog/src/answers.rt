@@ -80,9 +80,8 @@ pub fn answer(
     let first = Teeing::new(FilteringTo::new(is_bad, first), places, Both);
     let faults = Teeing::new(FilteringTo::new(is_bad, count()), first, Both);
     let all = Teeing::new(FilteringTo::new(is_request, requests), faults, Both);
-    let found = lines_of(reader)
-        .map_lines(Requests(alloc))
-        .collect_on(engine, &all)?;
+    let lines = lines_of(reader).map_lines(Requests(alloc));
+    let found = lines.collect_on(engine, &all)?;
     let ((((statuses, paths), (clients, hours)), failure), (bad, (first, places))) = found;
     let most = most_wanted(engine, &paths)?;
     Ok(Answers {

@@ -127,24 +127,17 @@ fn lack_of(client: &str, hour: i64, path: &str, status: i64, bytes: i64) -> Opti
 {
     if client.is_empty() {
         Some(Fault::NoClient)
-    } else if outside(0, 23, hour) {
+    } else if Or(Below(0), Above(23)).holds(&hour) {
         Some(Fault::NoTime)
     } else if path.is_empty() {
         Some(Fault::NoPath)
-    } else if outside(100, 599, status) {
+    } else if Or(Below(100), Above(599)).holds(&status) {
         Some(Fault::NoStatus)
     } else if Below(0).holds(&bytes) {
         Some(Fault::NoBytes)
     } else {
         None
     }
-}
-
-/// Whether a number isn't one from the first to the last.
-fn outside(first: i64, last: i64, number: i64) -> bool
-    ensures { result ≡ spec.outside first last number }
-{
-    number < first || number > last
 }
 
 impl Value for Request {

@@ -86,8 +86,7 @@ fn tell<R: Print + Eprint + AllocGlobal>(rt: &R, found: &Answers) -> Result<u8, 
     let text = format!(in rt.alloc(); "{found}")?;
     for (line, place) in found.first.iter().zip(&found.places) {
         if let Err(fault) = line {
-            let number = place.saturating_add(1);
-            let _told = eprintln!(rt; "weblog: line {number}: {fault}");
+            let _told = eprintln!(rt; "weblog: line {}: {fault}", place.saturating_add(1));
         }
     }
     print!(rt; "{text}").map_err(Failure::Write)?;

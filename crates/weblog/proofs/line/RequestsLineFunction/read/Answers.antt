@@ -19,9 +19,7 @@ returns-in-Some c =
     let status = kept_status ∙ c.number-status.ensures ∙ ap spec.number (c.piece_of.ensures ∙ ap (spec.at_space 1) c.piece_of-tail.ensures) in
     let hour = kept_hour ∙ c.number-hour.ensures ∙ ap spec.number (c.hour.ensures ∙ ap spec.hour c.piece_of-head.ensures) in
     let bytes = kept_bytes ∙ c.number-bytes.ensures ∙ ap spec.number (c.sent.ensures ∙ ap spec.sent c.piece_of-tail.ensures) in
-    let client = c.client-client.ensures ∙ ap spec.client c.piece_of-head.ensures in
-    let path = c.path-path.ensures ∙ ap spec.path c.piece_of-asked.ensures in
-    let same = same_parts _ _ _ _ _ _ _ _ _ _ status hour bytes client path in
+    let same = same_parts _ _ _ _ _ _ _ _ _ _ status hour bytes (c.client-client.ensures ∙ ap spec.client c.piece_of-head.ensures) (c.path-path.ensures ∙ ap spec.path c.piece_of-asked.ensures) in
     told (spec.request c.args.line.now) _ _ c.in-Some.ensures same
 
 pub returns : goal.returns
