@@ -2,7 +2,7 @@
 ghost use Rattle.std.specs.Prelude.{◌≡◌};
 
 use crate::line::{Figure, Name, Parsed, Requests};
-use indexmap::IndexMap;
+use indexmap::{IndexMap, IndexSet};
 use mohairjade::*;
 use std::fmt::{self, Display, Formatter, Write};
 use std::hash::RandomState;
@@ -13,33 +13,46 @@ use std::time::Clock;
 /// How many bad lines are told of.
 const MOST_TOLD: usize = 10;
 
+/// Requests by status and by path, clients and the bytes of hours, and the first failure.
+type Asked = (
+    (
+        (IndexMap<i64, i64>, IndexMap<String, i64, RandomState>),
+        (IndexSet<String, RandomState>, IndexMap<i64, i64>),
+    ),
+    Option<Parsed>,
+);
+
+/// How many bad lines there are, the first of them, and their places from 0 on.
+type Faults = (i64, (Vec<Parsed>, Vec<u64>));
+
+/// What one pass finds.
+#[derive(Drop)]
+pub struct Found {
+    asked: Asked,
+    pub faults: Faults,
+}
+
 /// What is answered.
 #[derive(Drop)]
 pub struct Answers {
-    statuses: IndexMap<i64, i64>,
+    pub found: Found,
     most: Vec<(String, i64)>,
-    failure: Option<Parsed>,
-    clients: usize,
-    hours: IndexMap<i64, i64>,
-    pub bad: i64,
-    /// The first bad lines, and their places from 0 on.
-    pub first: Vec<Parsed>,
-    pub places: Vec<u64>,
 }
 
 impl Display for Answers {
     fn fmt<W: Write>(&self, f: &mut Formatter<W>) -> fmt::Result {
-        writeln!(f, "requests by status: {:?}", self.statuses)?;
+        let (((statuses, _paths), (clients, hours)), failure) = &self.found.asked;
+        writeln!(f, "requests by status: {statuses:?}")?;
         for (path, count) in &self.most {
             writeln!(f, "path {path}: {count}")?;
         }
-        match &self.failure {
+        match failure {
             Some(Ok(failure)) => writeln!(f, "first failure: {} {}", failure.status, failure.path)?,
             _ => writeln!(f, "first failure: none")?,
         }
-        writeln!(f, "clients: {}", self.clients)?;
-        writeln!(f, "bytes by hour: {:?}", self.hours)?;
-        writeln!(f, "bad lines: {}", self.bad)
+        writeln!(f, "clients: {}", clients.len())?;
+        writeln!(f, "bytes by hour: {hours:?}")?;
+        writeln!(f, "bad lines: {}", self.found.faults.0)
     }
 }
 
@@ -57,12 +70,26 @@ impl<A: Drop, B: Drop> Pairing<A, B> for Both {
     }
 }
 
-/// The answers to the log that a reader gives. Strangers choose what is hashed, so the hasher is a random one.
-pub fn answer(
+/// Both parts of what is found.
+#[derive(Drop)]
+struct Whole;
+
+impl Pairing<Asked, Faults> for Whole {
+    type Out = Found;
+
+    ghost gives = { λ _ asked faults found. (found.asked ≡ asked) × (found.faults ≡ faults) };
+
+    fn pair(&self, asked: Asked, faults: Faults) -> Result<Found, NoMemory> {
+        Ok(Found { asked, faults })
+    }
+}
+
+/// What one pass over the log finds. Strangers choose what is hashed, so the hasher is a random one.
+fn find(
     engine: &Engine<'_, impl Threads + Clock + Sync, impl Gate + Sync>,
     reader: impl Read + Send + Drop,
     hashes: RandomState,
-) -> Result<Answers, LinesError> {
+) -> Result<Found, LinesError> {
     let alloc = engine.alloc;
     let count = Counting::<Parsed>::new;
     let is_request = Composed(Figure::Status, Above(0));
@@ -79,21 +106,20 @@ pub fn answer(
     let places = FirstPlaces::<Parsed, _>::new(alloc, is_bad, MOST_TOLD);
     let first = Teeing::new(FilteringTo::new(is_bad, first), places, Both);
     let faults = Teeing::new(FilteringTo::new(is_bad, count()), first, Both);
-    let all = Teeing::new(FilteringTo::new(is_request, requests), faults, Both);
+    let all = Teeing::new(FilteringTo::new(is_request, requests), faults, Whole);
     let lines = lines_of(reader).map_lines(Requests(alloc));
-    let found = lines.collect_on(engine, &all)?;
-    let ((((statuses, paths), (clients, hours)), failure), (bad, (first, places))) = found;
-    let most = most_wanted(engine, &paths)?;
-    Ok(Answers {
-        statuses,
-        most,
-        failure,
-        clients: clients.len(),
-        hours,
-        bad,
-        first,
-        places,
-    })
+    lines.collect_on(engine, &all)
+}
+
+/// The answers to the log that a reader gives.
+pub fn answer(
+    engine: &Engine<'_, impl Threads + Clock + Sync, impl Gate + Sync>,
+    reader: impl Read + Send + Drop,
+    hashes: RandomState,
+) -> Result<Answers, LinesError> {
+    let found = find(engine, reader, hashes)?;
+    let most = most_wanted(engine, &found.asked.0.0.1)?;
+    Ok(Answers { found, most })
 }
 
 /// The three paths that were asked for most, and how often.
