@@ -54,12 +54,16 @@ public class Weblog {
     record Options(String file, int workers, boolean progress) {}
 
     static class BadWords extends Exception {
+        private static final long serialVersionUID = 1;
+
         BadWords(String message) {
             super(message);
         }
     }
 
     static class BadText extends IOException {
+        private static final long serialVersionUID = 1;
+
         BadText(String message) {
             super(message);
         }
@@ -198,11 +202,14 @@ public class Weblog {
         var requests = teeing(teeing(counts, sums, Both::new), failure, Both::new);
         var faults = teeing(counting(), Weblog.<Fault>first(MOST_TOLD), Both::new);
         AtomicLong told = new AtomicLong();
+        long begun = System.nanoTime();
         var lines = Spliterators.spliteratorUnknownSize(new Lines(log), Spliterator.ORDERED);
         var found = StreamSupport.stream(lines, true)
             .peek(line -> {
-                if (progress && told.incrementAndGet() % 1_000_000 == 0) {
-                    System.err.println(told + " lines");
+                long count = told.incrementAndGet();
+                if (progress && count % 1_000_000 == 0) {
+                    double seconds = (System.nanoTime() - begun) / 1e9;
+                    System.err.printf("%d lines, %.0f a second%n", count, count / seconds);
                 }
             })
             .map(line -> parse(line.first(), line.second()))
@@ -232,8 +239,12 @@ public class Weblog {
         text.append("clients: " + sums.first().size() + "\n");
         text.append("bytes by hour: " + sums.second() + "\n");
         text.append("bad lines: " + bad + "\n");
+        print(text.toString());
+    }
+
+    static void print(String text) throws IOException {
         try (FileOutputStream output = new FileOutputStream(FileDescriptor.out)) {
-            output.write(text.toString().getBytes(StandardCharsets.UTF_8));
+            output.write(text.getBytes(StandardCharsets.UTF_8));
         } catch (IOException e) {
             throw new IOException("the answers can't be written: " + e.getMessage());
         }
@@ -248,6 +259,8 @@ public class Weblog {
                 progress = true;
             } else if (words[at].equals("--workers") && at + 1 < words.length) {
                 workers = number(words[++at]);
+            } else if (words[at].startsWith("--workers=")) {
+                workers = number(words[at].substring("--workers=".length()));
             } else if (words[at].startsWith("-") || file != null) {
                 throw new BadWords("unexpected argument '" + words[at] + "' found");
             } else {
@@ -262,8 +275,8 @@ public class Weblog {
 
     static int run(String[] words) throws IOException, BadWords {
         if (List.of(words).contains("--help") || List.of(words).contains("-h")) {
-            System.out.println(HELP);
-            return System.out.checkError() ? 3 : 0;
+            print(HELP + "\n");
+            return 0;
         }
         Options options = options(words);
         String parallelism = "java.util.concurrent.ForkJoinPool.common.parallelism";
