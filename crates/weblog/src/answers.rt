@@ -13,36 +13,31 @@ use std::time::Clock;
 /// How many bad lines are told of.
 const MOST_TOLD: usize = 10;
 
-/// Requests by status and by path, clients and the bytes of hours, and the first failure.
+/// Lines by status, which is 0 where they are bad, the first bad ones, and their places from 0 on.
+type Lines = (IndexMap<i64, i64>, (Vec<Parsed>, Vec<u64>));
+
+/// Requests by path, clients, the bytes of hours, and the first failure.
 type Asked = (
     (
-        (IndexMap<i64, i64>, IndexMap<String, i64, RandomState>),
+        IndexMap<String, i64, RandomState>,
         (IndexSet<String, RandomState>, IndexMap<i64, i64>),
     ),
     Option<Parsed>,
 );
 
-/// How many bad lines there are, the first of them, and their places from 0 on.
-type Faults = (i64, (Vec<Parsed>, Vec<u64>));
-
-/// What one pass finds.
-#[derive(Drop)]
-pub struct Found {
-    asked: Asked,
-    pub faults: Faults,
-}
-
 /// What is answered.
 #[derive(Drop)]
 pub struct Answers {
-    pub found: Found,
+    pub lines: Lines,
+    asked: Asked,
     most: Vec<(String, i64)>,
+    pub bad: i64,
 }
 
 impl Display for Answers {
     fn fmt<W: Write>(&self, f: &mut Formatter<W>) -> fmt::Result {
-        let (((statuses, _paths), (clients, hours)), failure) = &self.found.asked;
-        writeln!(f, "requests by status: {statuses:?}")?;
+        let ((_paths, (clients, hours)), failure) = &self.asked;
+        writeln!(f, "requests by status: {:?}", self.lines.0)?;
         for (path, count) in &self.most {
             writeln!(f, "path {path}: {count}")?;
         }
@@ -52,7 +47,7 @@ impl Display for Answers {
         }
         writeln!(f, "clients: {}", clients.len())?;
         writeln!(f, "bytes by hour: {hours:?}")?;
-        writeln!(f, "bad lines: {}", self.found.faults.0)
+        writeln!(f, "bad lines: {}", self.bad)
     }
 }
 
@@ -70,26 +65,12 @@ impl<A: Drop, B: Drop> Pairing<A, B> for Both {
     }
 }
 
-/// Both parts of what is found.
-#[derive(Drop)]
-struct Whole;
-
-impl Pairing<Asked, Faults> for Whole {
-    type Out = Found;
-
-    ghost gives = { λ _ asked faults found. (found.asked ≡ asked) × (found.faults ≡ faults) };
-
-    fn pair(&self, asked: Asked, faults: Faults) -> Result<Found, NoMemory> {
-        Ok(Found { asked, faults })
-    }
-}
-
 /// What one pass over the log finds. Strangers choose what is hashed, so the hasher is a random one.
 fn find(
     engine: &Engine<'_, impl Threads + Clock + Sync, impl Gate + Sync>,
     reader: impl Read + Send + Drop,
     hashes: RandomState,
-) -> Result<Found, LinesError> {
+) -> Result<(Lines, Asked), LinesError> {
     let alloc = engine.alloc;
     let count = Counting::<Parsed>::new;
     let is_request = Composed(Figure::Status, Above(0));
@@ -99,14 +80,13 @@ fn find(
     let hours = GroupingBy::new(alloc, Figure::Hour, SummingLong::new(Figure::Bytes));
     let failure = FilteringTo::new(is_failure, First::<Parsed>::new());
     let first = FirstSorted::<Parsed, _>::new(alloc, Figure::Status, MOST_TOLD);
-    let counts = Teeing::new(GroupingBy::new(alloc, Figure::Status, count()), paths, Both);
     let sums = Teeing::new(MappingTo::new(Name::Client(alloc), clients), hours, Both);
-    let requests = Teeing::new(Teeing::new(counts, sums, Both), failure, Both);
-    let is_bad = Not(is_request);
-    let places = FirstPlaces::<Parsed, _>::new(alloc, is_bad, MOST_TOLD);
-    let first = Teeing::new(FilteringTo::new(is_bad, first), places, Both);
-    let faults = Teeing::new(FilteringTo::new(is_bad, count()), first, Both);
-    let all = Teeing::new(FilteringTo::new(is_request, requests), faults, Whole);
+    let asked = Teeing::new(Teeing::new(paths, sums, Both), failure, Both);
+    let places = FirstPlaces::<Parsed, _>::new(alloc, Not(is_request), MOST_TOLD);
+    let first = Teeing::new(FilteringTo::new(Not(is_request), first), places, Both);
+    let statuses = GroupingBy::new(alloc, Figure::Status, count());
+    let lines = Teeing::new(statuses, first, Both);
+    let all = Teeing::new(lines, FilteringTo::new(is_request, asked), Both);
     let lines = lines_of(reader).map_lines(Requests(alloc));
     lines.collect_on(engine, &all)
 }
@@ -117,9 +97,15 @@ pub fn answer(
     reader: impl Read + Send + Drop,
     hashes: RandomState,
 ) -> Result<Answers, LinesError> {
-    let found = find(engine, reader, hashes)?;
-    let most = most_wanted(engine, &found.asked.0.0.1)?;
-    Ok(Answers { found, most })
+    let (mut lines, asked) = find(engine, reader, hashes)?;
+    let bad = lines.0.shift_remove(&0).unwrap_or(0);
+    let most = most_wanted(engine, &asked.0.0)?;
+    Ok(Answers {
+        lines,
+        asked,
+        most,
+        bad,
+    })
 }
 
 /// The three paths that were asked for most, and how often.

@@ -84,14 +84,14 @@ fn opened<R: Files + AllocGlobal>(rt: &R, name: &str) -> Result<R::File, Failure
 /// Tells of bad lines, writes the answers, and answers the status.
 fn tell<R: Print + Eprint + AllocGlobal>(rt: &R, answers: &Answers) -> Result<u8, Failure> {
     let text = format!(in rt.alloc(); "{answers}")?;
-    let (bad, (first, places)) = &answers.found.faults;
+    let (first, places) = &answers.lines.1;
     for (line, place) in first.iter().zip(places) {
         if let Err(fault) = line {
             let _told = eprintln!(rt; "weblog: line {}: {fault}", place.saturating_add(1));
         }
     }
     print!(rt; "{text}").map_err(Failure::Write)?;
-    Ok(u8::from(*bad > 0))
+    Ok(u8::from(answers.bad > 0))
 }
 
 /// The command line.
