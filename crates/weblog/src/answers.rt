@@ -16,13 +16,13 @@ const MOST_TOLD: usize = 10;
 /// Lines by status, which is 0 where they are bad, the first bad ones, and their places from 0 on.
 type Lines = (IndexMap<i64, i64>, (Vec<Parsed>, Vec<u64>));
 
-/// Requests by path, clients, the bytes of hours, and the first failure.
+/// Requests by path, and clients; the bytes of hours, and the first failure.
 type Asked = (
     (
         IndexMap<String, i64, RandomState>,
-        (IndexSet<String, RandomState>, IndexMap<i64, i64>),
+        IndexSet<String, RandomState>,
     ),
-    Option<Parsed>,
+    (IndexMap<i64, i64>, Option<Parsed>),
 );
 
 /// What is answered.
@@ -36,7 +36,7 @@ pub struct Answers {
 
 impl Display for Answers {
     fn fmt<W: Write>(&self, f: &mut Formatter<W>) -> fmt::Result {
-        let ((_paths, (clients, hours)), failure) = &self.asked;
+        let ((_paths, clients), (hours, failure)) = &self.asked;
         writeln!(f, "requests by status: {:?}", self.lines.0)?;
         for (path, count) in &self.most {
             writeln!(f, "path {path}: {count}")?;
@@ -65,6 +65,46 @@ impl<A: Drop, B: Drop> Pairing<A, B> for Both {
     }
 }
 
+/// What five collectors make of one pass over the log, the first of all its lines, and the others of its requests.
+fn pass<A, P, C, H, F>(
+    engine: &Engine<'_, impl Threads + Clock + Sync, impl Gate + Sync>,
+    reader: impl Read + Send + Drop,
+    lines: A,
+    paths: P,
+    clients: C,
+    hours: H,
+    failure: F,
+) -> Result<(A::Out, ((P::Out, C::Out), (H::Out, F::Out))), LinesError>
+where
+    A: Collector<Item = Parsed> + Sync + Drop,
+    P: Collector<Item = Parsed> + Sync + Drop,
+    C: Collector<Item = Parsed> + Sync + Drop,
+    H: Collector<Item = Parsed> + Sync + Drop,
+    F: Collector<Item = Parsed> + Sync + Drop,
+    A::Acc: Send,
+    P::Acc: Send,
+    C::Acc: Send,
+    H::Acc: Send,
+    F::Acc: Send,
+    A::Out: Send,
+    P::Out: Send,
+    C::Out: Send,
+    H::Out: Send,
+    F::Out: Send,
+    requires lines { A.ready lines }
+    requires paths { P.ready paths }
+    requires clients { C.ready clients }
+    requires hours { H.ready hours }
+    requires failure { F.ready failure }
+{
+    let asked = Teeing::new(paths, clients, Both);
+    let asked = Teeing::new(asked, Teeing::new(hours, failure, Both), Both);
+    let requests = FilteringTo::new(Composed(Figure::Status, Above(0)), asked);
+    let all = Teeing::new(lines, requests, Both);
+    let log = lines_of(reader).map_lines(Requests(engine.alloc));
+    log.collect_on(engine, &all)
+}
+
 /// What one pass over the log finds. Strangers choose what is hashed, so the hasher is a random one.
 fn find(
     engine: &Engine<'_, impl Threads + Clock + Sync, impl Gate + Sync>,
@@ -73,22 +113,18 @@ fn find(
 ) -> Result<(Lines, Asked), LinesError> {
     let alloc = engine.alloc;
     let count = Counting::<Parsed>::new;
-    let is_request = Composed(Figure::Status, Above(0));
-    let is_failure = Composed(Figure::Status, Above(499));
+    let is_bad = Not(Composed(Figure::Status, Above(0)));
+    let first = FirstSorted::<Parsed, _>::new(alloc, Figure::Status, MOST_TOLD);
+    let places = FirstPlaces::<Parsed, _>::new(alloc, is_bad, MOST_TOLD);
+    let first = Teeing::new(FilteringTo::new(is_bad, first), places, Both);
+    let lines = Teeing::new(GroupingBy::new(alloc, Figure::Status, count()), first, Both);
     let paths = GroupingBy::with_hasher(alloc, Name::Path(alloc), count(), hashes);
     let clients = ToSet::<String, _>::with_hasher(alloc, hashes);
+    let clients = MappingTo::new(Name::Client(alloc), clients);
     let hours = GroupingBy::new(alloc, Figure::Hour, SummingLong::new(Figure::Bytes));
+    let is_failure = Composed(Figure::Status, Above(499));
     let failure = FilteringTo::new(is_failure, First::<Parsed>::new());
-    let first = FirstSorted::<Parsed, _>::new(alloc, Figure::Status, MOST_TOLD);
-    let sums = Teeing::new(MappingTo::new(Name::Client(alloc), clients), hours, Both);
-    let asked = Teeing::new(Teeing::new(paths, sums, Both), failure, Both);
-    let places = FirstPlaces::<Parsed, _>::new(alloc, Not(is_request), MOST_TOLD);
-    let first = Teeing::new(FilteringTo::new(Not(is_request), first), places, Both);
-    let statuses = GroupingBy::new(alloc, Figure::Status, count());
-    let lines = Teeing::new(statuses, first, Both);
-    let all = Teeing::new(lines, FilteringTo::new(is_request, asked), Both);
-    let lines = lines_of(reader).map_lines(Requests(alloc));
-    lines.collect_on(engine, &all)
+    pass(engine, reader, lines, paths, clients, hours, failure)
 }
 
 /// The answers to the log that a reader gives.
