@@ -1,0 +1,158 @@
+//! The answers to a log, in one pass.
+ghost use Rattle.std.specs.Prelude.{◌≡◌};
+
+use crate::line::{Figure, Name, Parsed, Requests};
+use indexmap::{IndexMap, IndexSet};
+use mohairjade::*;
+use std::fmt::{self, Display, Formatter, Write};
+use std::hash::RandomState;
+use std::io::Read;
+use std::thread::Threads;
+use std::time::Clock;
+
+/// How many bad lines are told of.
+const MOST_TOLD: usize = 10;
+
+/// Lines by status, which is 0 where they are bad, the first bad ones, and their places from 0 on.
+type Lines = (IndexMap<i64, i64>, (Vec<Parsed>, Vec<u64>));
+
+/// Requests by path, and clients; the bytes of hours, and the first failure.
+type Asked = (
+    (
+        IndexMap<String, i64, RandomState>,
+        IndexSet<String, RandomState>,
+    ),
+    (IndexMap<i64, i64>, Option<Parsed>),
+);
+
+/// What is answered.
+#[derive(Drop)]
+pub struct Answers {
+    pub lines: Lines,
+    asked: Asked,
+    most: Vec<(String, i64)>,
+    pub bad: i64,
+}
+
+impl Display for Answers {
+    fn fmt<W: Write>(&self, f: &mut Formatter<W>) -> fmt::Result {
+        let ((_paths, clients), (hours, failure)) = &self.asked;
+        writeln!(f, "requests by status: {:?}", self.lines.0)?;
+        for (path, count) in &self.most {
+            writeln!(f, "path {path}: {count}")?;
+        }
+        match failure {
+            Some(Ok(failure)) => writeln!(f, "first failure: {} {}", failure.status, failure.path)?,
+            _ => writeln!(f, "first failure: none")?,
+        }
+        writeln!(f, "clients: {}", clients.len())?;
+        writeln!(f, "bytes by hour: {hours:?}")?;
+        writeln!(f, "bad lines: {}", self.bad)
+    }
+}
+
+/// Both results.
+#[derive(Drop)]
+struct Both;
+
+impl<A: Drop, B: Drop> Pairing<A, B> for Both {
+    type Out = (A, B);
+
+    ghost gives = { λ _ a b both. both ≡ (a, b) };
+
+    fn pair(&self, first: A, second: B) -> Result<(A, B), NoMemory> {
+        Ok((first, second))
+    }
+}
+
+/// What five collectors make of one pass over the log, the first of all its lines, and the others of its requests.
+fn pass<A, P, C, H, F>(
+    engine: &Engine<'_, impl Threads + Clock + Sync, impl Gate + Sync>,
+    reader: impl Read + Send + Drop,
+    lines: A,
+    paths: P,
+    clients: C,
+    hours: H,
+    failure: F,
+) -> Result<(A::Out, ((P::Out, C::Out), (H::Out, F::Out))), LinesError>
+where
+    A: Collector<Item = Parsed> + Sync + Drop,
+    P: Collector<Item = Parsed> + Sync + Drop,
+    C: Collector<Item = Parsed> + Sync + Drop,
+    H: Collector<Item = Parsed> + Sync + Drop,
+    F: Collector<Item = Parsed> + Sync + Drop,
+    A::Acc: Send,
+    P::Acc: Send,
+    C::Acc: Send,
+    H::Acc: Send,
+    F::Acc: Send,
+    A::Out: Send,
+    P::Out: Send,
+    C::Out: Send,
+    H::Out: Send,
+    F::Out: Send,
+    requires lines { A.ready lines }
+    requires paths { P.ready paths }
+    requires clients { C.ready clients }
+    requires hours { H.ready hours }
+    requires failure { F.ready failure }
+{
+    let asked = Teeing::new(paths, clients, Both);
+    let asked = Teeing::new(asked, Teeing::new(hours, failure, Both), Both);
+    let requests = FilteringTo::new(Composed(Figure::Status, Above(0)), asked);
+    let all = Teeing::new(lines, requests, Both);
+    let log = lines_of(reader).map_lines(Requests(engine.alloc));
+    log.collect_on(engine, &all)
+}
+
+/// What one pass over the log finds. Strangers choose what is hashed, so the hasher is a random one.
+fn find(
+    engine: &Engine<'_, impl Threads + Clock + Sync, impl Gate + Sync>,
+    reader: impl Read + Send + Drop,
+    hashes: RandomState,
+) -> Result<(Lines, Asked), LinesError> {
+    let alloc = engine.alloc;
+    let count = Counting::<Parsed>::new;
+    let is_bad = Not(Composed(Figure::Status, Above(0)));
+    let first = FirstSorted::<Parsed, _>::new(alloc, Figure::Status, MOST_TOLD);
+    let places = FirstPlaces::<Parsed, _>::new(alloc, is_bad, MOST_TOLD);
+    let first = Teeing::new(FilteringTo::new(is_bad, first), places, Both);
+    let lines = Teeing::new(GroupingBy::new(alloc, Figure::Status, count()), first, Both);
+    let paths = GroupingBy::with_hasher(alloc, Name::Path(alloc), count(), hashes);
+    let clients = ToSet::<String, _>::with_hasher(alloc, hashes);
+    let clients = MappingTo::new(Name::Client(alloc), clients);
+    let hours = GroupingBy::new(alloc, Figure::Hour, SummingLong::new(Figure::Bytes));
+    let is_failure = Composed(Figure::Status, Above(499));
+    let failure = FilteringTo::new(is_failure, First::<Parsed>::new());
+    pass(engine, reader, lines, paths, clients, hours, failure)
+}
+
+/// The answers to the log that a reader gives.
+pub fn answer(
+    engine: &Engine<'_, impl Threads + Clock + Sync, impl Gate + Sync>,
+    reader: impl Read + Send + Drop,
+    hashes: RandomState,
+) -> Result<Answers, LinesError> {
+    let (mut lines, asked) = find(engine, reader, hashes)?;
+    let bad = lines.0.shift_remove(&0).unwrap_or(0);
+    let most = most_wanted(engine, &asked.0.0)?;
+    Ok(Answers {
+        lines,
+        asked,
+        most,
+        bad,
+    })
+}
+
+/// The three paths that were asked for most, and how often.
+fn most_wanted(
+    engine: &Engine<'_, impl Threads + Clock + Sync, impl Gate + Sync>,
+    paths: &IndexMap<String, i64, RandomState>,
+) -> Result<Vec<(String, i64)>, NoMemory> {
+    let first = FirstSorted::new(engine.alloc, Descending(OnSecond(Itself)), 3);
+    let mut most = Vec::new(engine.alloc);
+    for (path, count) in of(EntriesSplit::new(paths)).collect_on(engine, &first)? {
+        most.push((path.clone()?, *count))?;
+    }
+    Ok(most)
+}
