@@ -63,11 +63,7 @@ pub(crate) fn list_of<
     H: Gate + Sync,
     F: LineFunction + Sync,
     A: Stage<In = F::Out> + Sync,
->(
-    engine: &Engine<'_, R, H>,
-    steps: &LineSteps<F, A>,
-    text: String,
-) -> Result<Vec<A::Out>, NoMemory>
+>(engine: &Engine<'_, R, H>, steps: &LineSteps<F, A>, text: String) -> Result<Vec<A::Out>, NoMemory>
 where
     A::Out: Clone + Send + Sync,
     requires function { F.ready steps.now.function }
