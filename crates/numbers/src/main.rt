@@ -142,7 +142,9 @@ where
 {
     let Some(reader) = reader else {
         let scattered = Composed(Composed(Times(7_919), Plus(13)), Modulo::by(1_000_003));
-        let numbers = of(RangeSplit::range(0, count()).unwrap()).map(scattered);
+        // so few are never refused
+        let range = RangeSplit::range(0, count()).map_err(|_refused| NoMemory)?;
+        let numbers = of(range).map(scattered);
         return Ok(Ok(numbers.collect_on(engine, &questions)?));
     };
     let lines = lines_of(reader).map_lines(NumberOrLine(engine.alloc));
