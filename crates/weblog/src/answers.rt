@@ -65,10 +65,10 @@ impl<A: Drop, B: Drop> Pairing<A, B> for Both {
     }
 }
 
-/// What five collectors make of one pass over the log, the first of all its lines, and the others of its requests.
-fn pass<A, P, C, H, F>(
+/// What five collectors make of one pass over the lines of a reader.
+fn pass<L: LineStream, A, P, C, H, F>(
     engine: &Engine<'_, impl Threads + Clock + Sync, impl Gate + Sync>,
-    reader: impl Read + Send + Drop,
+    log: L,
     lines: A,
     paths: P,
     clients: C,
@@ -76,11 +76,11 @@ fn pass<A, P, C, H, F>(
     failure: F,
 ) -> Result<(A::Out, ((P::Out, C::Out), (H::Out, F::Out))), LinesError>
 where
-    A: Collector<Item = Parsed> + Sync + Drop,
-    P: Collector<Item = Parsed> + Sync + Drop,
-    C: Collector<Item = Parsed> + Sync + Drop,
-    H: Collector<Item = Parsed> + Sync + Drop,
-    F: Collector<Item = Parsed> + Sync + Drop,
+    A: Collector<Item = L::Item> + Sync + Drop,
+    P: Collector<Item = L::Item> + Sync + Drop,
+    C: Collector<Item = L::Item> + Sync + Drop,
+    H: Collector<Item = L::Item> + Sync + Drop,
+    F: Collector<Item = L::Item> + Sync + Drop,
     A::Acc: Send,
     P::Acc: Send,
     C::Acc: Send,
@@ -91,6 +91,7 @@ where
     C::Out: Send,
     H::Out: Send,
     F::Out: Send,
+    requires log { L.ready log }
     requires lines { A.ready lines }
     requires paths { P.ready paths }
     requires clients { C.ready clients }
@@ -99,10 +100,7 @@ where
 {
     let asked = Teeing::new(paths, clients, Both);
     let asked = Teeing::new(asked, Teeing::new(hours, failure, Both), Both);
-    let requests = FilteringTo::new(Composed(Figure::Status, Above(0)), asked);
-    let all = Teeing::new(lines, requests, Both);
-    let log = lines_of(reader).map_lines(Requests(engine.alloc));
-    log.collect_on(engine, &all)
+    log.collect_on(engine, &Teeing::new(lines, asked, Both))
 }
 
 /// What one pass over the log finds. Strangers choose what is hashed, so the hasher is a random one.
@@ -113,18 +111,22 @@ fn find(
 ) -> Result<(Lines, Asked), LinesError> {
     let alloc = engine.alloc;
     let count = Counting::<Parsed>::new;
-    let is_bad = Not(Composed(Figure::Status, Above(0)));
+    let is_request = Composed(Figure::Status, Above(0));
+    let is_bad = Not(is_request);
     let first = FirstSorted::<Parsed, _>::new(alloc, Figure::Status, MOST_TOLD);
     let places = FirstPlaces::<Parsed, _>::new(alloc, is_bad, MOST_TOLD);
     let first = Teeing::new(FilteringTo::new(is_bad, first), places, Both);
     let lines = Teeing::new(GroupingBy::new(alloc, Figure::Status, count()), first, Both);
     let paths = GroupingBy::with_hasher(alloc, Name::Path(alloc), count(), hashes);
+    let paths = FilteringTo::new(is_request, paths);
     let clients = ToSet::<String, _>::with_hasher(alloc, hashes);
-    let clients = MappingTo::new(Name::Client(alloc), clients);
+    let clients = FilteringTo::new(is_request, MappingTo::new(Name::Client(alloc), clients));
     let hours = GroupingBy::new(alloc, Figure::Hour, SummingLong::new(Figure::Bytes));
+    let hours = FilteringTo::new(is_request, hours);
     let is_failure = Composed(Figure::Status, Above(499));
     let failure = FilteringTo::new(is_failure, First::<Parsed>::new());
-    pass(engine, reader, lines, paths, clients, hours, failure)
+    let log = lines_of(reader).map_lines(Requests(alloc));
+    pass(engine, log, lines, paths, clients, hours, failure)
 }
 
 /// The answers to the log that a reader gives.
