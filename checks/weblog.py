@@ -67,7 +67,7 @@ def text_of(entry):
     return f'{client} - - [29/Nov/2026:{hour:02}:{minute:02}:59 +0000] "GET {path} HTTP/1.1" {status} {sent}'
 
 
-def answers(log):
+def answers(log, name="standard input"):
     """What is written of a log, on standard output and on standard error, and the status."""
     requests = [entry for entry in log if isinstance(entry, Request)]
     bad = [(at, entry[1]) for at, entry in enumerate(log, 1) if not isinstance(entry, Request)]
@@ -82,7 +82,7 @@ def answers(log):
         f"first failure: {failure}", f"clients: {len({request.client for request in requests})}",
         f"bytes by hour: {told(hours)}", f"bad lines: {len(bad)}",
     ]
-    errors = [f"weblog: line {at}: {fault}" for at, fault in bad[:10]]
+    errors = [f"weblog: {name}: bad lines: {len(bad)}", *(f"line {at}: {fault}" for at, fault in bad[:10])] if bad else []
     return int(bool(bad)), "".join(f"{line}\n" for line in lines), "".join(f"{line}\n" for line in errors)
 
 

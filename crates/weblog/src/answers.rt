@@ -1,9 +1,8 @@
 //! The answers to a log, in one pass.
-ghost use Rattle.std.specs.Prelude.{◌≡◌};
-
 use crate::line::{Figure, Name, Parsed, Requests};
 use indexmap::{IndexMap, IndexSet};
 use mohairjade::*;
+use program_frame::Both;
 use std::fmt::{self, Display, Formatter, Write};
 use std::hash::RandomState;
 use std::io::Read;
@@ -25,19 +24,39 @@ type Asked = (
     (IndexMap<i64, i64>, Option<Parsed>),
 );
 
+/// How many lines are bad, the first of them, and their places from 0 on.
+#[derive(Drop)]
+pub struct Faults {
+    pub number: i64,
+    first: Vec<Parsed>,
+    places: Vec<u64>,
+}
+
+impl Display for Faults {
+    fn fmt<W: Write>(&self, f: &mut Formatter<W>) -> fmt::Result {
+        write!(f, "bad lines: {}", self.number)?;
+        for (line, place) in self.first.iter().zip(&self.places) {
+            if let Err(fault) = line {
+                write!(f, "\nline {}: {fault}", place.saturating_add(1))?;
+            }
+        }
+        Ok(())
+    }
+}
+
 /// What is answered.
 #[derive(Drop)]
 pub struct Answers {
-    pub lines: Lines,
+    statuses: IndexMap<i64, i64>,
     asked: Asked,
     most: Vec<(String, i64)>,
-    pub bad: i64,
+    pub faults: Faults,
 }
 
 impl Display for Answers {
     fn fmt<W: Write>(&self, f: &mut Formatter<W>) -> fmt::Result {
         let ((_paths, clients), (hours, failure)) = &self.asked;
-        writeln!(f, "requests by status: {:?}", self.lines.0)?;
+        writeln!(f, "requests by status: {:?}", self.statuses)?;
         for (path, count) in &self.most {
             writeln!(f, "path {path}: {count}")?;
         }
@@ -47,21 +66,7 @@ impl Display for Answers {
         }
         writeln!(f, "clients: {}", clients.len())?;
         writeln!(f, "bytes by hour: {hours:?}")?;
-        writeln!(f, "bad lines: {}", self.bad)
-    }
-}
-
-/// Both results.
-#[derive(Drop)]
-struct Both;
-
-impl<A: Drop, B: Drop> Pairing<A, B> for Both {
-    type Out = (A, B);
-
-    ghost gives = { λ _ a b both. both ≡ (a, b) };
-
-    fn pair(&self, first: A, second: B) -> Result<(A, B), NoMemory> {
-        Ok((first, second))
+        writeln!(f, "bad lines: {}", self.faults.number)
     }
 }
 
@@ -135,14 +140,18 @@ pub fn answer(
     reader: impl Read + Send + Drop,
     hashes: RandomState,
 ) -> Result<Answers, LinesError> {
-    let (mut lines, asked) = find(engine, reader, hashes)?;
-    let bad = lines.0.shift_remove(&0).unwrap_or(0);
+    let ((mut statuses, (first, places)), asked) = find(engine, reader, hashes)?;
+    let number = statuses.shift_remove(&0).unwrap_or(0);
     let most = most_wanted(engine, &asked.0.0)?;
     Ok(Answers {
-        lines,
+        statuses,
         asked,
         most,
-        bad,
+        faults: Faults {
+            number,
+            first,
+            places,
+        },
     })
 }
 
