@@ -96,12 +96,13 @@ def in_little_memory():
     resource.setrlimit(resource.RLIMIT_AS, (LITTLE_MEMORY, LITTLE_MEMORY))
 
 
-def whole_log(file, wanted):
+def whole_log(file, log):
+    wanted, piped = answers(log, file), answers(log)
     yield "the log is longer than the memory", file.stat().st_size > LITTLE_MEMORY, True
     for workers in ("1", "4"):
         yield f"from the file, {workers} workers", run(file, "--workers", workers), wanted
         with subprocess.Popen(["cat", file], stdout=subprocess.PIPE) as pipe:
-            yield f"through a pipe, {workers} workers", run("--workers", workers, stdin=pipe.stdout), wanted
+            yield f"through a pipe, {workers} workers", run("--workers", workers, stdin=pipe.stdout), piped
         yield f"in little memory, {workers} workers", run(file, "--workers", workers, preexec_fn=in_little_memory), wanted
     status, output, error = run(file, "--progress")
     yield "with its progress: the answers", (status, output), wanted[:2]
@@ -122,12 +123,12 @@ def other_logs(log, folder):
     for place in (0, cut, len(text)):
         file = folder / "bytes"
         file.write_bytes(text[:place] + b"\xff" + text[place:])
-        yield f"a byte that is no text at {place}", run(file), (2, "", f"weblog: not UTF-8 at byte {place}\n")
+        yield f"a byte that is no text at {place}", run(file), (1, "", f"weblog: {file}: not UTF-8 at byte {place}\n")
     long = b"a" * 2_200_000
-    yield "a line that is too long", run(input=b"b\n" + long), (2, "", "weblog: a line that is too long begins at byte 2\n")
-    yield "a folder", run(folder), (3, "", "weblog: Is a directory (os error 21)\n")
+    yield "a line that is too long", run(input=b"b\n" + long), (1, "", "weblog: standard input: a line that is too long begins at byte 2\n")
+    yield "a folder", run(folder), (3, "", f"weblog: {folder}: Is a directory (os error 21)\n")
     none = folder / "none"
-    yield "no such file", run(none), (3, "", f"weblog: {none} can't be opened: No such file or directory (os error 2)\n")
+    yield "no such file", run(none), (3, "", f"weblog: {none}: No such file or directory (os error 2)\n")
 
 
 def outputs(folder):
@@ -136,9 +137,9 @@ def outputs(folder):
     with open("/dev/full", "wb") as full:
         for words in [file], ["--help"]:
             status, _, error = run(*words, stdout=full)
-            yield f"an output that is full: {words[0]}", (status, error.splitlines()[-1][:35]), (3, "weblog: the answers can't be written")
+            yield f"an output that is full: {words[0]}", (status, error.splitlines()[-1][:23]), (3, "weblog: standard output")
     done = subprocess.run(["sh", "-c", f"{WEBLOG} {file} >&-"], capture_output=True)
-    yield "an output that is closed", (done.returncode, done.stderr.decode().splitlines()[-1][:35]), (3, "weblog: the answers can't be written")
+    yield "an output that is closed", (done.returncode, done.stderr.decode().splitlines()[-1][:23]), (3, "weblog: standard output")
     for words in ["--workers", "0"], ["--workers", "65"], ["--workers"], ["a", "b"], ["--other"]:
         status, output, error = run(*words)
         yield "weblog " + " ".join(words), (status, output, error.startswith("error: ")), (2, "", True)
@@ -152,7 +153,7 @@ def findings():
         folder = pathlib.Path(name)
         file = folder / "log"
         file.write_text("".join(f"{text_of(entry)}\n" for entry in log))
-        yield from whole_log(file, answers(log))
+        yield from whole_log(file, log)
         yield from other_logs(log, folder)
         yield from outputs(folder)
 

@@ -215,8 +215,11 @@ public class Weblog {
             .map(line -> parse(line.first(), line.second()))
             .collect(teeing(of(Request.class, requests), of(Fault.class, faults), Both::new));
         var bad = found.second();
+        if (bad.first() > 0) {
+            System.err.println("weblog: bad lines: " + bad.first());
+        }
         for (Fault fault : bad.second()) {
-            System.err.println("weblog: line " + fault.line() + ": " + fault.what());
+            System.err.println("line " + fault.line() + ": " + fault.what());
         }
         var asked = found.first().first();
         write(asked.first(), asked.second(), found.first().second(), bad.first());
@@ -298,7 +301,7 @@ public class Weblog {
             status = 2;
         } catch (BadText e) {
             System.err.println("weblog: " + e.getMessage());
-            status = 2;
+            status = 1;
         } catch (IOException e) {
             System.err.println("weblog: " + e.getMessage());
         } catch (OutOfMemoryError e) {
