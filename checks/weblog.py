@@ -19,8 +19,8 @@ from built import ROOT, conclude
 
 WEBLOG = ROOT / "crates" / "weblog" / "out" / "weblog"
 LINES = 800_000
-# the bytes of address space in which the log has to be read
-LITTLE_MEMORY = 50_000_000
+# the bytes of address space in which a log is read, by how many workers: each has a stack of its own
+LITTLE_MEMORY = {"1": 50_000_000, "4": 210_000_000}
 # lines with a fault, and what is told of them
 BAD = [
     ("", "no client"),
@@ -92,18 +92,23 @@ def run(*words, **streams):
     return done.returncode, (done.stdout or b"").decode(), done.stderr.decode()
 
 
-def in_little_memory():
-    resource.setrlimit(resource.RLIMIT_AS, (LITTLE_MEMORY, LITTLE_MEMORY))
+def in_little_memory(file, workers):
+    """Whether a run in less memory than its file has bytes does so, and what it gives."""
+    most = LITTLE_MEMORY[workers]
+    limit = lambda: resource.setrlimit(resource.RLIMIT_AS, (most, most))
+    return file.stat().st_size > most, *run(file, "--workers", workers, preexec_fn=limit)
 
 
 def whole_log(file, log):
     wanted, piped = answers(log, file), answers(log)
-    yield "the log is longer than the memory", file.stat().st_size > LITTLE_MEMORY, True
     for workers in ("1", "4"):
         yield f"from the file, {workers} workers", run(file, "--workers", workers), wanted
         with subprocess.Popen(["cat", file], stdout=subprocess.PIPE) as pipe:
             yield f"through a pipe, {workers} workers", run("--workers", workers, stdin=pipe.stdout), piped
-        yield f"in little memory, {workers} workers", run(file, "--workers", workers, preexec_fn=in_little_memory), wanted
+    yield "in little memory, 1 worker", in_little_memory(file, "1"), (True, *wanted)
+    four = file.with_name("four")
+    four.write_bytes(4 * file.read_bytes())
+    yield "four times as long in little memory, 4 workers", in_little_memory(four, "4"), (True, *answers(4 * log, four))
     status, output, error = run(file, "--progress")
     yield "with its progress: the answers", (status, output), wanted[:2]
     yield "with its progress: a line of it", "leaves" in error and error.endswith(wanted[2]), True
