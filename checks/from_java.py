@@ -15,6 +15,8 @@ import tempfile
 from built import EXAMPLES, ROOT, conclude
 
 TWINS = EXAMPLES / "from-java"
+# what has no twin: Java has no driver of SQLite
+ASIDE = {"table.rt"}
 
 
 def lines_of(files):
@@ -31,7 +33,7 @@ def plain(text):
 def findings():
     for twin in sorted(TWINS.glob("*.java")):
         crate = ROOT / "crates" / twin.stem.lower()
-        ours = [file for part in ("src", "specs", "proofs") for file in (crate / part).rglob("*") if file.suffix in (".rt", ".antt")]
+        ours = [file for part in ("src", "specs", "proofs") for file in (crate / part).rglob("*") if file.suffix in (".rt", ".antt") and file.name not in ASIDE]
         counts = lines_of(ours), lines_of([twin])
         yield f"{crate.name}: {counts[0]} lines, {counts[1]} in Java", counts[0] <= 2 * counts[1], True
     if not shutil.which("javac"):

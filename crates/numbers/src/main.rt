@@ -1,12 +1,29 @@
-//! Seven questions to ten million numbers.
+//! Seven questions to the numbers of a file, or to ten million that are made.
 #![tactic(auto)]
 
 ghost use Rattle.std.specs.Prelude.{◌*ℤ◌};
 ghost use Rattle.mohairjade.specs.Words.{wrapped_product, wrapped-value};
 
+mod line;
+
+use line::NumberOrLine;
 use mohairjade::*;
+use program_frame::{
+    Both, Failure, Host, Task, Words, ended, given_words, meter_of, parse, run_of,
+};
+use std::hash::RandomState;
+use std::io::{IsTerminal, Read};
+use std::process::ExitCode;
+use std::rt::Files;
 use std::thread::Threads;
 use std::time::Clock;
+
+const WORDS: Words = Words {
+    name: "numbers",
+    about: "Answers seven questions to the numbers of a file, or to ten million that are made",
+    file: "Whole numbers between -2^31 and 2^31, one a line",
+    options: &[],
+};
 
 #[derive(Clone, Copy)]
 struct Square;
@@ -23,37 +40,121 @@ impl Mapping<i64> for Square {
     }
 }
 
-/// How many numbers there are: to a check any number, since it would write out a list of so many.
+/// How many numbers are made: to a check any number, since it would write out a list of so many.
 fn count() -> i64 {
     10_000_000
 }
 
-/// The sum of the squares of the even ones, how many are above 900,000, the first above 999,990, and whether all are below 1,000,003.
-fn answers<X: Stream<Item = i64> + Copy + Drop>(
-    engine: &Engine<'_, impl Threads + Clock + Sync, impl Gate + Sync>,
-    numbers: X,
-) -> Result<(i64, i64, Option<i64>, bool), NoMemory>
-    requires { X.ready numbers }
-{
-    let sum = numbers.filter(Even).map(Square).sum(engine)?;
-    let great = numbers.filter(Above(900_000)).count_on(engine)?;
-    let first = numbers.filter(Above(999_990)).find_first_on(engine)?;
-    let all_below = numbers.all_match_on(engine, &Below(1_000_003))?;
-    Ok((sum, great, first, all_below))
+fn main(rt: HostRuntime) -> ExitCode {
+    ended(&rt, WORDS.name, command(&rt, rt.stderr().is_terminal()))
 }
 
-fn main(rt: HostRuntime) -> anyhow::Result<()> {
-    let engine = Engine::new(&rt, rt.alloc(), &Run::new(4))?;
-    let scattered = Composed(Composed(Times(7_919), Plus(13)), Modulo::by(1_000_003));
-    let numbers = of(RangeSplit::range(0, count())?).map(scattered);
-    let (sum, great, first, all_below) = answers(&engine, numbers)?;
-    println!(rt; "sum of the squares of even ones: {sum}\nabove 900000: {great}")?;
-    println!(rt; "first above 999990: {}", first.unwrap_or(-1))?;
-    println!(rt; "all below 1000003: {all_below}")?;
-    println!(rt; "that differ: {}", numbers.distinct().count_on(&engine)?)?;
-    println!(rt; "greatest: {:?}", numbers.top(&engine, 3)?)?;
-    let digits = GroupingBy::new(rt.alloc(), Modulo::by(10), Counting::<i64>::new());
-    let digits = numbers.collect_on(&engine, &digits)?;
-    println!(rt; "by last digit: {digits:?}")?;
-    Ok(())
+/// The answer to the words of the command line.
+fn command<R: Host + Files + Input + Threads + Clock + Sync>(
+    rt: &R,
+    is_terminal: bool,
+) -> Result<String, Failure>
+where
+    R::File: Send,
+    R::Reader: Send,
+{
+    let given = given_words(rt)?;
+    let words = parse(rt.alloc(), &WORDS, given.as_slice())?;
+    let run = run_of(&words);
+    let Some(meter) = meter_of(rt, is_terminal, &words) else {
+        return answer(&Task::new(rt, &run, &words)?);
+    };
+    let text = answer(&Task::new(rt, &run.with_gate(&meter), &words)?);
+    meter.finish();
+    text
+}
+
+fn answer<R: Host + Files + Input + Threads + Clock + Sync, G: Gate + Sync>(
+    task: &Task<'_, '_, R, G>,
+) -> Result<String, Failure>
+where
+    R::File: Send,
+    R::Reader: Send,
+{
+    let reader = match task.file() {
+        Some(_) => Some(task.input()?),
+        None => None,
+    };
+    match answers(&task.engine, reader, task.hashes()?) {
+        Ok(Ok(text)) => Ok(text),
+        Ok(Err(line)) => Err(no_number(task, &line)),
+        Err(error) => Err(task.bad_lines(error)),
+    }
+}
+
+/// The text of the seven answers, of one pass over the numbers; or a line that is no number.
+fn answers(
+    engine: &Engine<'_, impl Threads + Clock + Sync, impl Gate + Sync>,
+    reader: Option<impl Read + Send + Drop>,
+    hashes: RandomState,
+) -> Result<Result<String, String>, LinesError> {
+    let alloc = engine.alloc;
+    let squares = FilteringTo::new(Even, SummingExact::new(Square));
+    let great = FilteringTo::new(Above(900_000), Counting::<i64>::new());
+    let first = FilteringTo::new(Above(999_990), First::<i64>::new());
+    let beyond = FilteringTo::new(Not(Below(1_000_003)), First::<i64>::new());
+    let differ = ToSet::<i64, _>::with_hasher(alloc, hashes);
+    let greatest = FirstSorted::new(alloc, Descending(Itself), 3);
+    let digits = GroupingBy::new(alloc, Modulo::by(10), Counting::<i64>::new());
+    let above = Teeing::new(Teeing::new(great, first, Both), beyond, Both);
+    let found = Teeing::new(Teeing::new(differ, greatest, Both), digits, Both);
+    let questions = Teeing::new(Teeing::new(squares, above, Both), found, Both);
+    let ((squares, ((great, first), beyond)), ((differ, greatest), digits)) = match collected(
+        engine, reader, questions,
+    )? {
+        Ok(results) => results,
+        Err(line) => return Ok(Err(line)),
+    };
+    let first = match first {
+        Some(first) => format!(in alloc; "{first}")?,
+        None => String::from_str(alloc, "none")?,
+    };
+    Ok(Ok(format!(in alloc;
+        "\
+sum of the squares of even ones: {squares}
+above 900000: {great}
+first above 999990: {first}
+all below 1000003: {}
+that differ: {}
+greatest: {greatest:?}
+by last digit: {digits:?}
+",
+        beyond.is_none(),
+        differ.len()
+    )?))
+}
+
+/// The result of a collector on the numbers of a reader, or on those that are made; or a line that is no number.
+fn collected<C: Collector<Item = i64> + Sync + Drop>(
+    engine: &Engine<'_, impl Threads + Clock + Sync, impl Gate + Sync>,
+    reader: Option<impl Read + Send + Drop>,
+    questions: C,
+) -> Result<Result<C::Out, String>, LinesError>
+where
+    C::Acc: Send,
+    C::Out: Send,
+    requires { C.ready questions }
+{
+    let Some(reader) = reader else {
+        let scattered = Composed(Composed(Times(7_919), Plus(13)), Modulo::by(1_000_003));
+        // so few are never refused
+        let range = RangeSplit::range(0, count()).map_err(|_refused| NoMemory)?;
+        let numbers = of(range).map(scattered);
+        return Ok(Ok(numbers.collect_on(engine, &questions)?));
+    };
+    let lines = lines_of(reader).map_lines(NumberOrLine(engine.alloc));
+    lines.collect_decided(engine, &Trying::<_, String>::new(questions))
+}
+
+/// The failure of a line.
+fn no_number<R: Host + Files + Input, G>(task: &Task<'_, '_, R, G>, line: &str) -> Failure {
+    match format!(in task.engine.alloc; "{line:?} is no whole number between -2^31 and 2^31") {
+        Ok(what) => task.bad_data(&what),
+        Err(refused) => Failure::NoMemory(refused),
+    }
 }

@@ -1,68 +1,65 @@
-//! Five questions to the log of a web server on standard input: client, two dashes, time and zone, method, path, protocol, status, bytes.
+//! Answers to the log of a web server of any size, in one pass: of a file or of standard input, a line a request.
 #![tactic(auto)]
 
-use indexmap::IndexMap;
-use mohairjade::*;
-use std::hash::Hash;
-use std::io::Read;
+mod answers;
+mod line;
+
+use answers::answer;
+use mohairjade::Gate;
+use program_frame::{Failure, Host, Task, Words, ended, given_words, meter_of, parse, run_of};
+use std::io::IsTerminal;
+use std::process::ExitCode;
+use std::rt::Files;
 use std::thread::Threads;
 use std::time::Clock;
 
-/// How many items of a stream are equal to each.
-fn counts<K, X: Stream<Item = K>>(
-    engine: &Engine<'_, impl Threads + Clock + Sync, impl Gate + Sync>,
-    items: &X,
-) -> Result<IndexMap<K, i64>, NoMemory>
+const WORDS: Words = Words {
+    name: "weblog",
+    about: "Answers questions to the log of a web server: requests by status, the paths asked for most, the first failure, clients, bytes by hour",
+    file: "The log, a line a request: CLIENT - - [DATE:HOUR:MINUTE:SECOND ZONE] \"METHOD PATH PROTOCOL\" STATUS BYTES; standard input where none is named",
+    options: &[],
+};
+
+fn main(rt: HostRuntime) -> ExitCode {
+    ended(&rt, WORDS.name, command(&rt, rt.stderr().is_terminal()))
+}
+
+/// The answers to the log that the command line names.
+fn command<R: Host + Files + Input + Threads + Clock + Sync>(
+    rt: &R,
+    is_terminal: bool,
+) -> Result<String, Failure>
 where
-    K: OrderedValue + EqualValue + Hash + Copy + Drop + Send + Sync,
-    requires { X.ready items.now }
+    R::File: Send,
+    R::Reader: Send,
 {
-    let counts = GroupingBy::new(engine.alloc, Itself, Counting::<K>::new());
-    items.collect_on(engine, &counts)
+    let given = given_words(rt)?;
+    let words = parse(rt.alloc(), &WORDS, given.as_slice())?;
+    let run = run_of(&words);
+    let Some(meter) = meter_of(rt, is_terminal, &words) else {
+        return text(&Task::new(rt, &run, &words)?);
+    };
+    let text = text(&Task::new(rt, &run.with_gate(&meter), &words)?);
+    meter.finish();
+    text
 }
 
-/// The lines of a log.
-type Lines<'a> = Source<LinesSplit<'a>>;
-
-/// The three paths that were asked for most often, and how often.
-fn most_wanted<'a>(
-    engine: &Engine<'_, impl Threads + Clock + Sync, impl Gate + Sync>,
-    log: Lines<'a>,
-) -> Result<Vec<(&'a str, i64)>, NoMemory> {
-    let counts = counts(engine, &log.map(Piece::word(6)))?;
-    let most = FirstSorted::new(engine.alloc, Descending(OnSecond(Itself)), 3);
-    let mut paths = Vec::new(engine.alloc);
-    for (path, count) in of(EntriesSplit::new(&counts)).collect_on(engine, &most)? {
-        paths.push((*path, *count))?;
+/// The answers. Where lines are bad they are written here, and the lines told as what is wrong with the data.
+fn text<R: Host + Files + Input + Threads + Clock + Sync, G: Gate + Sync>(
+    task: &Task<'_, '_, R, G>,
+) -> Result<String, Failure>
+where
+    R::File: Send,
+    R::Reader: Send,
+{
+    let answers = match answer(&task.engine, task.input()?, task.hashes()?) {
+        Ok(answers) => answers,
+        Err(error) => return Err(task.bad_lines(error)),
+    };
+    let text = format!(in task.engine.alloc; "{answers}")?;
+    if answers.faults.number == 0 {
+        return Ok(text);
     }
-    Ok(paths)
-}
-
-/// How many bytes were sent in each hour.
-fn bytes_by_hour<'a>(
-    engine: &Engine<'_, impl Threads + Clock + Sync, impl Gate + Sync>,
-    log: Lines<'a>,
-) -> Result<IndexMap<&'a str, i64>, NoMemory> {
-    let hour = Composed(Piece::word(3), Piece::new(':', 1));
-    let bytes = SummingLong::new(Composed(Piece::word(9), NumberOr(0)));
-    log.collect_on(engine, &GroupingBy::new(engine.alloc, hour, bytes))
-}
-
-fn main(rt: HostRuntime) -> anyhow::Result<()> {
-    let engine = Engine::new(&rt, rt.alloc(), &Run::new(4))?;
-    let mut log = String::new(rt.alloc());
-    rt.stdin().read_to_string(&mut log)?;
-    let lines = of(LinesSplit::new(&log));
-    let statuses = lines.map(Piece::word(8));
-    println!(rt; "requests by status: {:?}", counts(&engine, &statuses)?)?;
-    for (path, count) in most_wanted(&engine, lines)? {
-        println!(rt; "path {path}: {count}")?;
-    }
-    let failures = statuses.filter(StartsWith("5"));
-    let failure = failures.find_first_on(&engine)?.unwrap_or("none");
-    println!(rt; "first failure: {failure}")?;
-    let clients = lines.map(Piece::word(0)).distinct().count_on(&engine)?;
-    println!(rt; "clients: {clients}")?;
-    println!(rt; "bytes by hour: {:?}", bytes_by_hour(&engine, lines)?)?;
-    Ok(())
+    print!(task.engine.rt; "{text}").map_err(Failure::Unwritten)?;
+    Err(task.bad_data(&answers.faults))
 }

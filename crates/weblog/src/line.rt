@@ -1,0 +1,243 @@
+//! What a line of the log says.
+ghost use Rattle.std.specs.Prelude.{◌≡◌, option_map};
+ghost use Rattle.mohairjade.specs.Words.{both, both-decides, by_first, by_first-ties, by_first-total, bytes_cmp-ties, bytes_cmp-total, bytes_eq, bytes_eq-decides, int_cmp, int_cmp-ties, int_cmp-total, int_eq, int_eq-decides, nat_cmp, slice_cmp, string_bytes, ⊤};
+ghost use Rattle.weblog.specs.Log.{IsRequest, fault, figure, figure-value, name, parsed, parsed-value};
+ghost use Rattle.weblog.specs.Log as spec;
+
+use mohairjade::*;
+use std::alloc::Global;
+use std::collections::LinkedList;
+use thiserror::Error;
+
+/// What a line tells.
+#[derive(Clone, Drop)]
+pub struct Request {
+    pub status: i64,
+    pub hour: i64,
+    pub bytes: i64,
+    pub client: String,
+    pub path: String,
+}
+
+/// What a line lacks.
+#[derive(Clone, Copy, Debug, PartialEq, Eq, Error)]
+pub enum Fault {
+    #[error("no client")]
+    NoClient,
+    #[error("no time")]
+    NoTime,
+    #[error("no path")]
+    NoPath,
+    #[error("no status")]
+    NoStatus,
+    #[error("no bytes")]
+    NoBytes,
+}
+
+/// A line's request, or its fault.
+pub type Parsed = Result<Request, Fault>;
+
+/// Makes of a line what it says.
+#[derive(Drop)]
+pub struct Requests(pub Global);
+
+impl LineFunction for Requests {
+    type Out = Parsed;
+
+    ghost image = { λ _ line. parsed line };
+
+    ghost images_are_values = { λ _ line. parsed-value line };
+
+    fn read(&self, line: &str) -> Result<Parsed, NoMemory> {
+        let head = piece_of(line, '"', 0);
+        let asked = piece_of(line, '"', 1);
+        let tail = piece_of(line, '"', 2);
+        let client = client(head);
+        let hour = number(hour(head));
+        let path = path(asked);
+        let status = number(piece_of(tail, ' ', 1));
+        let bytes = number(sent(tail));
+        if let Some(fault) = lack_of(client, hour, path, status, bytes) {
+            return Ok(Err(fault));
+        }
+        let client = String::from_str(self.0, client)?;
+        let path = String::from_str(self.0, path)?;
+        Ok(Ok(Request {
+            status,
+            hour,
+            bytes,
+            client,
+            path,
+        }))
+    }
+}
+
+/// The client, where ` - - [` stands behind it.
+fn client(head: &str) -> &str
+    ensures { result.now ≡ spec.client head.now }
+{
+    if EndsWith(" - - ").holds(&piece_of(head, '[', 0)) {
+        piece_of(head, ' ', 0)
+    } else {
+        ""
+    }
+}
+
+/// The hour, where the time ends with a bracket.
+fn hour(head: &str) -> &str
+    ensures { result.now ≡ spec.hour head.now }
+{
+    if EndsWith("] ").holds(&head) {
+        piece_of(piece_of(head, '[', 1), ':', 1)
+    } else {
+        ""
+    }
+}
+
+/// The path, where a protocol stands behind it.
+fn path(asked: &str) -> &str
+    ensures { result.now ≡ spec.path asked.now }
+{
+    if piece_of(asked, ' ', 2).is_empty() {
+        ""
+    } else {
+        piece_of(asked, ' ', 1)
+    }
+}
+
+/// The bytes that were sent; `-` stands for none.
+fn sent(tail: &str) -> &str
+    ensures { result.now ≡ spec.sent tail.now }
+{
+    let bytes = piece_of(tail, ' ', 2);
+    if bytes == "-" { "0" } else { bytes }
+}
+
+/// The number that a text writes, or -1.
+fn number(text: &str) -> i64
+    ensures { result ≡ spec.number text.now }
+{
+    NumberOr(-1).image_of(&text)
+}
+
+/// What a request of these parts lacks.
+fn lack_of(client: &str, hour: i64, path: &str, status: i64, bytes: i64) -> Option<Fault>
+    ensures { option_map spec.fault result
+        ≡ spec.lacks (status, (hour, (bytes, (client.now, path.now)))) }
+{
+    if client.is_empty() {
+        Some(Fault::NoClient)
+    } else if Or(Below(0), Above(23)).holds(&hour) {
+        Some(Fault::NoTime)
+    } else if path.is_empty() {
+        Some(Fault::NoPath)
+    } else if Or(Below(100), Above(599)).holds(&status) {
+        Some(Fault::NoStatus)
+    } else if Below(0).holds(&bytes) {
+        Some(Fault::NoBytes)
+    } else {
+        None
+    }
+}
+
+impl Value for Request {
+    type Content = (i64, (i64, (i64, (LinkedList<u8>, LinkedList<u8>))));
+
+    ghost content = { λ o. (o.status, (o.hour, (o.bytes, (string_bytes o.client, string_bytes o.path)))) };
+
+    ghost same = { both int_eq (both int_eq (both int_eq (both bytes_eq bytes_eq))) };
+
+    ghost is_value = { IsRequest };
+
+    ghost same_decides = { both-decides int_eq (both int_eq (both int_eq (both bytes_eq bytes_eq))) int_eq-decides (both-decides int_eq (both int_eq (both bytes_eq bytes_eq)) int_eq-decides (both-decides int_eq (both bytes_eq bytes_eq) int_eq-decides (both-decides bytes_eq bytes_eq bytes_eq-decides bytes_eq-decides))) };
+
+    fn is_value(&self) -> bool {
+        self.status.is_value() && self.hour.is_value() && self.bytes.is_value()
+    }
+}
+
+impl OrderedValue for Request {
+    ghost order = { by_first int_cmp (by_first int_cmp (by_first int_cmp (by_first (slice_cmp nat_cmp) (slice_cmp nat_cmp)))) };
+
+    ghost order_total = { by_first-total int_cmp-total (by_first-total int_cmp-total (by_first-total int_cmp-total (by_first-total bytes_cmp-total bytes_cmp-total))) };
+
+    ghost order_ties = { by_first-ties int_eq (both int_eq (both int_eq (both bytes_eq bytes_eq))) int_cmp (by_first int_cmp (by_first int_cmp (by_first (slice_cmp nat_cmp) (slice_cmp nat_cmp)))) int_cmp-ties (by_first-ties int_eq (both int_eq (both bytes_eq bytes_eq)) int_cmp (by_first int_cmp (by_first (slice_cmp nat_cmp) (slice_cmp nat_cmp))) int_cmp-ties (by_first-ties int_eq (both bytes_eq bytes_eq) int_cmp (by_first (slice_cmp nat_cmp) (slice_cmp nat_cmp)) int_cmp-ties (by_first-ties bytes_eq bytes_eq (slice_cmp nat_cmp) (slice_cmp nat_cmp) bytes_cmp-ties bytes_cmp-ties))) };
+}
+
+impl Value for Fault {
+    type Content = i64;
+
+    ghost content = { fault };
+
+    ghost same = { int_eq };
+
+    ghost is_value = { λ _. ⊤ };
+
+    ghost same_decides = { int_eq-decides };
+
+    fn is_value(&self) -> bool {
+        true
+    }
+}
+
+impl OrderedValue for Fault {
+    ghost order = { int_cmp };
+
+    ghost order_total = { int_cmp-total };
+
+    ghost order_ties = { int_cmp-ties };
+}
+
+/// A number of a request, and 0 of a fault.
+#[derive(Clone, Copy)]
+pub enum Figure {
+    Status,
+    Hour,
+    Bytes,
+}
+
+impl Mapping<Parsed> for Figure {
+    type Out = i64;
+
+    ghost image = { figure };
+
+    ghost images_are_values = { figure-value };
+
+    fn image(&self, x: &Parsed) -> Result<i64, NoMemory> {
+        Ok(self.image_of(x))
+    }
+}
+
+impl PlainMapping<Parsed> for Figure {
+    fn image_of(&self, x: &Parsed) -> i64 {
+        match (self, x) {
+            (_, Err(_)) => 0,
+            (Figure::Status, Ok(request)) => request.status,
+            (Figure::Hour, Ok(request)) => request.hour,
+            (Figure::Bytes, Ok(request)) => request.bytes,
+        }
+    }
+}
+
+/// A text of a request as one of its own, and an empty one of a fault.
+#[derive(Clone, Copy, Drop)]
+pub enum Name {
+    Client(Global),
+    Path(Global),
+}
+
+impl Mapping<Parsed> for Name {
+    type Out = String;
+
+    ghost image = { name };
+
+    ghost images_are_values = { λ _ _ _. tt };
+
+    fn image(&self, x: &Parsed) -> Result<String, NoMemory> {
+        match (self, x) {
+            (Name::Client(_), Ok(request)) => Ok(request.client.clone()?),
+            (Name::Path(_), Ok(request)) => Ok(request.path.clone()?),
+            (Name::Client(alloc) | Name::Path(alloc), Err(_)) => Ok(String::new(*alloc)),
+        }
+    }
+}
