@@ -26,16 +26,16 @@ def commands(folder):
 
 
 def measured(words, variables, log, is_piped):
-    """What a run writes, its seconds by the clock, and its most memory in megabytes."""
+    """What a run writes, its seconds by the clock, and its most memory in megabytes, as GNU time tells it."""
+    told = log.with_name("memory")
     begun = time.monotonic()
     source = subprocess.Popen(["cat", log], stdout=subprocess.PIPE) if is_piped else None
-    words = [*words, *([] if is_piped else [log])]
+    words = ["/usr/bin/time", "-q", "-f", "%M", "-o", told, *words, *([] if is_piped else [log])]
     with subprocess.Popen(words, stdin=source and source.stdout, stdout=subprocess.PIPE, stderr=subprocess.DEVNULL, env=os.environ | variables) as run:
         if source:
             source.stdout.close()
         output = run.stdout.read().decode()
-        _, _, used = os.wait4(run.pid, 0)
-    return output.replace("=", ": "), time.monotonic() - begun, used.ru_maxrss / 1024
+    return output.replace("=", ": "), time.monotonic() - begun, int(told.read_text()) / 1024
 
 
 def write_log(file, megabytes):
