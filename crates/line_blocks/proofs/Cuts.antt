@@ -31,6 +31,16 @@ lines-behind (b ∷ front) more =
       | false ↦ ap (begin_line b) rest ∙ begin-append b here (text_lines more) first.0 first.1 first.2
     ]
 
+pub keeps-self : (known : Option (List ℕ)) → Keeps known known
+keeps-self None = tt
+keeps-self (Some xs) = refl
+
+pub keeps-both : (old now new : Option (List ℕ)) → Keeps old now → Keeps now new → Keeps old new
+keeps-both None now new first second = tt
+keeps-both (Some xs) None new first second = absurd first
+keeps-both (Some xs) (Some ys) None first second = absurd second
+keeps-both (Some xs) (Some ys) (Some zs) first second = second ∙ first
+
 -- some bytes were read behind those that were there
 pub keeps-more : (old : Option (List ℕ)) (bytes chunk : List ℕ) (known left : Option (List ℕ)) → Keeps old (prepend_known bytes known) → Consumes known left chunk
     → Keeps old (prepend_known (bytes ++ chunk) left)

@@ -3,9 +3,10 @@ use Rattle.std.specs.Prelude.{◌≡◌, ◌≤◌, ◌+◌, ℕ, List, [], ◌+
 use Rattle.std.proofs.Common.{ap, sym, subst, ◌∙◌, append_assoc, arith, length-append}
 use Rattle.std.specs.Str.{IsUtf8}
 use Rattle.std.proofs.lemmas.Str.{IsUtf8-append, IsUtf8-nil}
-use Rattle.std.specs.Io.KnownBytes.{prepend_known}
+use Rattle.std.specs.Io.KnownBytes.{Keeps, prepend_known}
 use Rattle.line_blocks.specs.declared.error.LinesError.{LinesError}
 use Rattle.line_blocks.specs.declared.error.LinesError.TheVariants.{NoMemory, NotUtf8, LongLine, Read, TooLong}
+use Rattle.sources.specs.Lines.{LacksLineFeed}
 use Rattle.line_blocks.proofs.Places.{valid-behind}
 use Rattle.line_blocks.specs.Blocks.{IsBlock, TakesBlock}
 use Rattle.line_blocks.specs.Faults.{IsBehind, StandsAt, IsFault, IsBadBlock, IsLongFront, IsNoFault}
@@ -46,7 +47,14 @@ bad-block size (Some xs) (Some ys) (Some zs) block place (LongLine k) at taken h
 bad-block size (Some xs) (Some ys) (Some zs) block place (Read e) at taken h = tt
 bad-block size (Some xs) (Some ys) (Some zs) block place TooLong at taken h = tt
 
--- a line that is no shorter than a block
+-- what was read has no line feed, and is no shorter than the longest line
+pub long-front : (longest place : ℕ) (before known : Option (List ℕ)) (bytes : List ℕ) → Keeps before (prepend_known bytes known) → longest ≤ length bytes
+    → LacksLineFeed bytes 0 (length bytes) → (at : ℕ) → at ≡ place → IsLongFront longest before place (LongLine at)
+long-front longest place None known bytes kept long lacks at is = is
+long-front longest place (Some xs) None bytes kept long lacks at is = absurd kept
+long-front longest place (Some xs) (Some ys) bytes kept long lacks at is = (bytes, ys, sym kept, long, lacks, is)
+
+-- a line that is no shorter than the longest
 pub long-line : (size : ℕ) (all before : Option (List ℕ)) (place : ℕ) (e : LinesError) → StandsAt all before place → IsLongFront size before place e → IsFault size all e
 long-line size None before place e at h = tt
 long-line size (Some xs) None place e at h = absurd at

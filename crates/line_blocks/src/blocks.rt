@@ -68,23 +68,27 @@ pub struct LineBlocks<I> {
     // where it stands
     place: u64,
     size: usize,
+    longest: usize,
     ghost sized: { 0 < size },
 }
 
 impl<I: Read> LineBlocks<I> {
-    /// Blocks of so many bytes, at least one. A line has to be shorter than a block.
-    pub fn new(alloc: Global, reader: I, size: usize) -> LineBlocks<I>
+    /// Blocks of `size` bytes, at least one; a block that has no line's end grows up to `longest`. So a line has to be shorter than the greater of
+    /// both.
+    pub fn new(alloc: Global, reader: I, size: usize, longest: usize) -> LineBlocks<I>
         requires { 0 < size }
         ensures reader { result.reader ≡ reader }
         ensures rest { result.rest.items ≡ [] }
         ensures place { result.place ≡ 0 }
         ensures size { result.size ≡ size }
+        ensures longest { result.longest ≡ longest }
     {
         LineBlocks {
             reader,
             rest: Vec::new(alloc),
             place: 0,
             size,
+            longest,
         }
     }
 
@@ -96,35 +100,42 @@ impl<I: Read> LineBlocks<I> {
         ensures last { let after = prepend_known self.new.rest.items (I.remaining self.new.reader) in
             IfOk result (λ b. b.1 ≡ true → IsAtEnd after) }
         ensures place { self.new.place ≡ self.old.place }
-        ensures size { self.new.size ≡ self.old.size }
+        ensures longest { self.new.longest ≡ self.old.longest }
         ensures errors { let before = prepend_known self.old.rest.items (I.remaining self.old.reader) in
-            IfErr result (IsLongFront self.old.size before self.old.place) }
+            IfErr result (IsLongFront self.old.longest before self.old.place) }
     {
         let mut bytes = Vec::with_capacity(alloc, self.size)?;
         bytes.append(&mut self.rest)?;
-        if fill(&mut self.reader, &mut bytes, self.size)? {
-            return Ok((bytes, true));
+        let mut size = self.size;
+        for _ in 0..u64::MAX {
+            if fill(&mut self.reader, &mut bytes, size)? {
+                return Ok((bytes, true));
+            }
+            if let Some(rest) = split_lines(&mut bytes)? {
+                self.rest = rest;
+                return Ok((bytes, false));
+            }
+            if size >= self.longest {
+                return Err(LinesError::LongLine(self.place));
+            }
+            size = size.saturating_mul(2).min(self.longest);
         }
-        let Some(rest) = split_lines(&mut bytes)? else {
-            return Err(LinesError::LongLine(self.place));
-        };
-        self.rest = rest;
-        Ok((bytes, false))
+        Err(LinesError::TooLong)
     }
 
-    /// The next block: all whole lines of so many bytes, or what is left.
+    /// The next block: all whole lines of so many bytes, a longer line, or what is left.
     pub fn next_block(&mut self, alloc: Global) -> Result<Block, LinesError>
         ensures block { let before = prepend_known self.old.rest.items (I.remaining self.old.reader) in
             let after = prepend_known self.new.rest.items (I.remaining self.new.reader) in
             IfOk result (λ b. TakesBlock before (string_bytes b.text) after) }
         ensures last { let after = prepend_known self.new.rest.items (I.remaining self.new.reader) in
             IfOk result (λ b. b.is_last ≡ true → IsAtEnd after) }
-        ensures size { self.new.size ≡ self.old.size }
+        ensures longest { self.new.longest ≡ self.old.longest }
         ensures stands { let before = prepend_known self.old.rest.items (I.remaining self.old.reader) in
             let after = prepend_known self.new.rest.items (I.remaining self.new.reader) in
             (all : Option (List ℕ)) → StandsAt all before self.old.place → OnOk result (StandsAt all after self.new.place) }
         ensures faults { let before = prepend_known self.old.rest.items (I.remaining self.old.reader) in
-            (all : Option (List ℕ)) → StandsAt all before self.old.place → IfErr result (IsFault self.old.size all) }
+            (all : Option (List ℕ)) → StandsAt all before self.old.place → IfErr result (IsFault self.old.longest all) }
     {
         let (bytes, is_last) = self.next_bytes(alloc)?;
         let place = self.place;

@@ -1,5 +1,5 @@
 -- What is told of a reader, in other words for the same.
-use Rattle.std.specs.Prelude.{◌≡◌, ℕ, List, Option, Some, None, Result, Ok, Err, IfOk, IfErr, IfSome}
+use Rattle.std.specs.Prelude.{◌≡◌, ℕ, List, Option, Some, None, Result, Ok, Err, IfOk, IfErr, IfSome, OnErr}
 use Rattle.std.proofs.Common.{sym, subst}
 use Rattle.line_blocks.specs.declared.error.LinesError.{LinesError}
 use Rattle.line_blocks.specs.Faults.{IsFault}
@@ -17,3 +17,7 @@ pub same-value : {V Z E : Type 0} (Gives : List Z → V → Type 0) (v w : List 
     → IfOk result (λ out. IfSome k (λ bytes. Gives (v bytes) out)) → IfOk result (λ out. IfSome l (λ bytes. Gives (w bytes) out))
 same-value Gives v w (Ok out) k l bytes same told = subst (λ k. IfSome k (λ bytes. Gives (w bytes) out)) bytes (some-value Gives v w out k same told)
 same-value Gives v w (Err e) k l bytes same told = tt
+
+pub on-err : {V E : Type 0} (result : Result V E) (P : Type 0) → P → OnErr result P
+on-err (Ok x) P holds = tt
+on-err (Err e) P holds = holds

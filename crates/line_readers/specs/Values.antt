@@ -1,6 +1,6 @@
 -- What the lines of some bytes become.
 -- java.nio.file.Files, lines; java.lang.String, lines
-use Rattle.std.specs.Prelude.{ℕ, List, map, flat_map}
+use Rattle.std.specs.Prelude.{◌≡◌, ◌++◌, ℕ, List, map, flat_map}
 use Rattle.sources.specs.Lines.{text_lines}
 
 -- the expansions of what a function makes of each line
@@ -10,3 +10,11 @@ values_of image expand lines = flat_map expand (map image lines)
 -- .. of all lines of a text
 abbrev pub line_values : {Y Z : Type 0} → (List ℕ → Y) → (Y → List Z) → List ℕ → List Z
 line_values image expand bytes = values_of image expand (text_lines bytes)
+
+-- what is made of these items and of more is what is kept of these, and then what is made of more
+abbrev pub GoesOn : {X Y : Type 0} → (List X → List Y) → (List X → List Y) → List X → List Y → Type 0
+GoesOn before behind items kept = (more : List _) → before (items ++ more) ≡ kept ++ behind more
+
+-- what was kept of these items is in the container, through the last stage, and the state is the one behind them
+abbrev pub IsTaken : {X Y Z C S : Type 0} → (List Z → C → Type 0) → (Y → List Z) → (List X → List Y) → (S → List X → List Y) → List X → C × S → Type 0
+IsTaken made last value behind items taken = (kept : List _) × made (flat_map last kept) taken.0 × GoesOn value (behind taken.1) items kept

@@ -7,14 +7,20 @@
 //! ```
 #![tactic(auto)]
 
+mod barred;
+mod between;
 mod ending;
 mod line_function;
 mod lines;
+mod linked;
 mod reading;
 mod steps;
 mod stream;
 
+pub use barred::BarredLines;
+pub use between::{Between, NoBarrier};
 pub use line_function::{LineFunction, OfLine, OwnLine};
 pub use lines::{BLOCK, LinesOf, ReadLines, lines_of};
-pub use steps::LineSteps;
+pub use linked::{Linked, LinkedState};
+pub use steps::{LineParts, LineSteps};
 pub use stream::LineStream;

@@ -1,9 +1,13 @@
 //! Functions of a line.
-ghost use Rattle.std.specs.Prelude.{◌≡◌, ℕ, List, IfOk, ⊤};
+ghost use Rattle.std.specs.Prelude.{◌≡◌, ℕ, List, IfOk, length, pos, ⊤};
+ghost use Rattle.spliterator.specs.Bounded.{wrapped-value};
+ghost use Rattle.stages.specs.Wrapping.{wrapped};
+ghost use Rattle.stream_functions.specs.Pieces.{number_in, number_or, number-value};
 
 use spliterator::{NoMemory, OrderedValue};
 use stages::Mapping;
 use std::alloc::Global;
+use stream_functions::{Length, Number, NumberOr, PlainMapping};
 
 /// What a line is read as: a value that holds nothing of the line, so that one function serves the lines of each block.
 pub trait LineFunction {
@@ -56,5 +60,41 @@ impl LineFunction for OwnLine {
 
     fn read(&self, line: &str) -> Result<String, NoMemory> {
         Ok(String::from_str(self.alloc, line)?)
+    }
+}
+
+impl LineFunction for Length {
+    type Out = i64;
+
+    ghost image = { λ _ line. wrapped (pos (length line)) };
+
+    ghost images_are_values = { λ _ line. wrapped-value _ };
+
+    fn read(&self, line: &str) -> Result<i64, NoMemory> {
+        Ok(self.image_of(&line))
+    }
+}
+
+impl LineFunction for Number {
+    type Out = Option<i64>;
+
+    ghost image = { λ _ line. number_in line };
+
+    ghost images_are_values = { λ _ line. number-value line };
+
+    fn read(&self, line: &str) -> Result<Option<i64>, NoMemory> {
+        Ok(self.image_of(&line))
+    }
+}
+
+impl LineFunction for NumberOr {
+    type Out = i64;
+
+    ghost image = { λ f line. number_or f.0 line };
+
+    ghost images_are_values = { λ _ line. wrapped-value _ };
+
+    fn read(&self, line: &str) -> Result<i64, NoMemory> {
+        Ok(self.image_of(&line))
     }
 }

@@ -1,8 +1,8 @@
 //! Lines of a reader, lazily.
-ghost use Rattle.std.specs.Prelude.{◌≡◌, ◌<◌, ℕ, List};
+ghost use Rattle.std.specs.Prelude.{◌≡◌, ◌<◌, ◌∷◌, ℕ, List, [], flat_map};
 ghost use Rattle.line_readers.specs.Values.{line_values};
 
-use crate::{LineFunction, LineSteps, LineStream};
+use crate::{LineFunction, LineParts, LineSteps, LineStream, NoBarrier};
 use spliterator::OrderedValue;
 use stages::{Filter, FlatMap, ListValue, Map, Mapping, Nothing, Stage, Test, Then};
 use std::io::Read;
@@ -15,6 +15,7 @@ pub const BLOCK: usize = 2_097_152;
 pub struct LinesOf<I> {
     reader: I,
     size: usize,
+    longest: usize,
     ghost sized: { 0 < size },
 }
 
@@ -27,10 +28,12 @@ pub struct LinesOf<I> {
 pub fn lines_of<I: Read>(reader: I) -> LinesOf<I>
     ensures reader { result.reader ≡ reader }
     ensures size { result.size ≡ BLOCK }
+    ensures longest { result.longest ≡ BLOCK }
 {
     LinesOf {
         reader,
         size: BLOCK,
+        longest: BLOCK,
     }
 }
 
@@ -40,10 +43,29 @@ impl<I: Read> LinesOf<I> {
         requires { 0 < size }
         ensures reader { result.reader ≡ self.reader }
         ensures size { result.size ≡ size }
+        ensures longest { result.longest ≡ size }
     {
         LinesOf {
             reader: self.reader,
             size,
+            longest: size,
+        }
+    }
+
+    /// Lines of fewer bytes than this may be longer than a block, which then grows.
+    ///
+    /// ```text
+    /// lines_of(file).with_lines_below(67_108_864)    // a text of JSON, an object a line
+    /// ```
+    pub fn with_lines_below(self, longest: usize) -> LinesOf<I>
+        ensures reader { result.reader ≡ self.reader }
+        ensures size { result.size ≡ self.size }
+        ensures longest { result.longest ≡ longest }
+    {
+        LinesOf {
+            reader: self.reader,
+            size: self.size,
+            longest,
         }
     }
 
@@ -51,15 +73,15 @@ impl<I: Read> LinesOf<I> {
     pub fn map_lines<F: LineFunction>(self, function: F) -> ReadLines<I, F, Nothing<F::Out>>
         ensures reader { result.reader ≡ self.reader }
         ensures size { result.size ≡ self.size }
-        ensures function { result.steps.function ≡ function }
+        ensures longest { result.longest ≡ self.longest }
+        ensures function { result.function ≡ function }
     {
         ReadLines {
             reader: self.reader,
             size: self.size,
-            steps: LineSteps {
-                function,
-                stage: Nothing::new(),
-            },
+            longest: self.longest,
+            function,
+            stage: Nothing::new(),
         }
     }
 }
@@ -69,7 +91,9 @@ impl<I: Read> LinesOf<I> {
 pub struct ReadLines<I, F, A> {
     pub reader: I,
     pub size: usize,
-    pub steps: LineSteps<F, A>,
+    pub longest: usize,
+    pub function: F,
+    pub stage: A,
     ghost sized: { 0 < size },
 }
 
@@ -78,21 +102,17 @@ impl<I: Read, F: LineFunction, A: Stage<In = F::Out>> ReadLines<I, F, A> {
     pub fn then<B: Stage<In = A::Out>>(self, stage: B) -> ReadLines<I, F, Then<A, B>>
         ensures reader { result.reader ≡ self.reader }
         ensures size { result.size ≡ self.size }
-        ensures function { result.steps.function ≡ self.steps.function }
-        ensures first { result.steps.stage.first ≡ self.steps.stage }
-        ensures second { result.steps.stage.second ≡ stage }
+        ensures longest { result.longest ≡ self.longest }
+        ensures function { result.function ≡ self.function }
+        ensures first { result.stage.first ≡ self.stage }
+        ensures second { result.stage.second ≡ stage }
     {
-        let LineSteps {
-            function,
-            stage: first,
-        } = self.steps;
         ReadLines {
             reader: self.reader,
             size: self.size,
-            steps: LineSteps {
-                function,
-                stage: Then::new(first, stage),
-            },
+            longest: self.longest,
+            function: self.function,
+            stage: Then::new(self.stage, stage),
         }
     }
 
@@ -103,9 +123,10 @@ impl<I: Read, F: LineFunction, A: Stage<In = F::Out>> ReadLines<I, F, A> {
         M::Out: OrderedValue + Drop,
         ensures reader { result.reader ≡ self.reader }
         ensures size { result.size ≡ self.size }
-        ensures function { result.steps.function ≡ self.steps.function }
-        ensures first { result.steps.stage.first ≡ self.steps.stage }
-        ensures mapping { result.steps.stage.second.mapping ≡ mapping }
+        ensures longest { result.longest ≡ self.longest }
+        ensures function { result.function ≡ self.function }
+        ensures first { result.stage.first ≡ self.stage }
+        ensures mapping { result.stage.second.mapping ≡ mapping }
     {
         self.then(Map::new(mapping))
     }
@@ -115,9 +136,10 @@ impl<I: Read, F: LineFunction, A: Stage<In = F::Out>> ReadLines<I, F, A> {
     pub fn filter<P: Test<A::Out>>(self, test: P) -> ReadLines<I, F, Then<A, Filter<A::Out, P>>>
         ensures reader { result.reader ≡ self.reader }
         ensures size { result.size ≡ self.size }
-        ensures function { result.steps.function ≡ self.steps.function }
-        ensures first { result.steps.stage.first ≡ self.steps.stage }
-        ensures test { result.steps.stage.second.test ≡ test }
+        ensures longest { result.longest ≡ self.longest }
+        ensures function { result.function ≡ self.function }
+        ensures first { result.stage.first ≡ self.stage }
+        ensures test { result.stage.second.test ≡ test }
     {
         self.then(Filter::new(test))
     }
@@ -132,9 +154,10 @@ impl<I: Read, F: LineFunction, A: Stage<In = F::Out>> ReadLines<I, F, A> {
         M::Out: ListValue,
         ensures reader { result.reader ≡ self.reader }
         ensures size { result.size ≡ self.size }
-        ensures function { result.steps.function ≡ self.steps.function }
-        ensures first { result.steps.stage.first ≡ self.steps.stage }
-        ensures mapping { result.steps.stage.second.mapping ≡ mapping }
+        ensures longest { result.longest ≡ self.longest }
+        ensures function { result.function ≡ self.function }
+        ensures first { result.stage.first ≡ self.stage }
+        ensures mapping { result.stage.second.mapping ≡ mapping }
     {
         self.then(FlatMap::new(mapping))
     }
@@ -154,28 +177,45 @@ where
 
     type Function = F;
 
-    type Stage = A;
+    type Lead = A::Out;
 
-    ghost ready = { λ s. F.ready s.steps.function × A.ready s.steps.stage };
+    type First = A;
+
+    type Barriers = NoBarrier<A::Out>;
+
+    type Last = Nothing<A::Out>;
+
+    ghost ready = { λ s. F.ready s.function × A.ready s.stage };
 
     ghost known = { λ s. I.remaining s.reader };
 
-    ghost size = { λ s. s.size };
+    ghost longest = { λ s. s.longest };
 
-    ghost value = { λ s. line_values (F.image s.steps.function) (A.expand s.steps.stage) };
+    ghost value = { λ s. line_values (F.image s.function) (A.expand s.stage) };
 
-    fn into_lines(self) -> ReadLines<I, F, A>
-        ensures function { F.ready self.steps.function × A.ready self.steps.stage
+    fn into_lines(self) -> LineParts<I, F, A, NoBarrier<A::Out>, Nothing<A::Out>, Nothing<A::Out>>
+        ensures function { F.ready self.function × A.ready self.stage
             → F.ready result.steps.function }
-        ensures stage { F.ready self.steps.function × A.ready self.steps.stage
-            → A.ready result.steps.stage }
+        ensures first { F.ready self.function × A.ready self.stage → A.ready result.steps.first }
         ensures known { I.remaining result.reader ≡ I.remaining self.reader }
-        ensures size { result.size ≡ self.size }
-        ensures value { let image = F.image result.steps.function in
-            let expand = A.expand result.steps.stage in
-            let values = line_values (F.image self.steps.function) (A.expand self.steps.stage) in
-            (bytes : List ℕ) → line_values image expand bytes ≡ values bytes }
+        ensures longest { result.longest ≡ self.longest }
+        ensures value { let own = result.steps in
+            let items = line_values (F.image own.function) (A.expand own.first) in
+            let nothing = λ (x : A.Out.Content). x ∷ [] in
+            let values = line_values (F.image self.function) (A.expand self.stage) in
+            (bytes : List ℕ) → flat_map nothing (items bytes) ≡ values bytes }
     {
-        self
+        LineParts {
+            reader: self.reader,
+            size: self.size,
+            longest: self.longest,
+            steps: LineSteps {
+                function: self.function,
+                first: self.stage,
+                barriers: NoBarrier::new(),
+                between: Nothing::new(),
+                last: Nothing::new(),
+            },
+        }
     }
 }

@@ -1,5 +1,5 @@
 //! One block is worked on while the next one is read.
-ghost use Rattle.std.specs.Prelude.{◌≡◌, ◌<◌, ◌++◌, ℕ, List, Option, true, IfOk, IfErr, IfSome, OnOk, OnErr, string_bytes};
+ghost use Rattle.std.specs.Prelude.{◌≡◌, ◌<◌, ◌++◌, ℕ, List, Option, true, IfOk, IfErr, IfSome, OnOk, OnErr, flat_map, string_bytes};
 ghost use Rattle.std.specs.Io.KnownBytes.{IsAtEnd, prepend_known};
 ghost use denote.Param.Send.{IsSend};
 ghost use Rattle.spliterator.specs.Clones.{ClonesAlike};
@@ -7,12 +7,12 @@ ghost use Rattle.collectors.specs.Laws.{IsContainerOf};
 ghost use Rattle.sources.specs.Lines.{text_lines};
 ghost use Rattle.line_blocks.specs.Blocks.{TakesBlock};
 ghost use Rattle.line_blocks.specs.Faults.{StandsAt, IsFault};
-ghost use Rattle.line_readers.specs.Values.{values_of, line_values};
+ghost use Rattle.line_readers.specs.Values.{values_of, line_values, IsTaken};
 
 use crate::ending::Ending;
-use crate::steps::{list_of, work};
-use crate::{LineFunction, LineSteps};
-use collectors::{Collector, finish_container, new_container};
+use crate::steps::work;
+use crate::{Between, LineFunction, LineParts, LineSteps};
+use collectors::{Collector, ToList, finish_container, new_container};
 use line_blocks::{Block, LineBlocks, LinesError};
 use parallel_streams::Engine;
 use spliterator::NoMemory;
@@ -33,13 +33,13 @@ fn read_ahead<I: Read + Drop>(
         (prepend_known r.0.rest.items (I.remaining r.0.reader))) }
     ensures last { IfOk result (λ r. r.1.is_last ≡ true
         → IsAtEnd (prepend_known r.0.rest.items (I.remaining r.0.reader))) }
-    ensures size { IfOk result (λ r. r.0.size ≡ blocks.size) }
+    ensures longest { IfOk result (λ r. r.0.longest ≡ blocks.longest) }
     ensures stands { let before = prepend_known blocks.rest.items (I.remaining blocks.reader) in
         (all : Option (List ℕ)) → StandsAt all before blocks.place
         → IfOk result (λ r. StandsAt all (prepend_known r.0.rest.items (I.remaining r.0.reader)) r.0.place) }
     ensures faults { let before = prepend_known blocks.rest.items (I.remaining blocks.reader) in
         (all : Option (List ℕ)) → StandsAt all before blocks.place
-        → IfErr result (IsFault blocks.size all) }
+        → IfErr result (IsFault blocks.longest all) }
 {
     let mut blocks = blocks;
     let block = blocks.next_block(alloc)?;
@@ -53,39 +53,53 @@ fn work_and_read<
     I: Read + Send + Drop,
     F: LineFunction + Sync,
     A: Stage<In = F::Out> + Sync,
-    C: Collector<Item = A::Out> + Sync,
+    Q: Between<In = A::Out>,
+    Z: Stage<In = Q::Out> + Sync,
+    C: Collector<Item = Z::Out> + Sync,
 >(
     engine: &Engine<'_, R, H>,
     blocks: LineBlocks<I>,
-    steps: &LineSteps<F, A>,
+    steps: &LineSteps<F, A, Q, Q::Stages, Z>,
     collector: &C,
-    acc: C::Acc,
+    taken: (C::Acc, Q::State),
     text: String,
-) -> Result<(C::Acc, Result<(LineBlocks<I>, Block), LinesError>), NoMemory>
+) -> Result<
+    (
+        (C::Acc, Q::State),
+        Result<(LineBlocks<I>, Block), LinesError>,
+    ),
+    NoMemory,
+>
 where
     A::Out: Clone + Send + Sync,
+    Z::Out: Clone + Send + Sync,
     C::Acc: Send,
     C::Out: Send,
     requires function { F.ready steps.now.function }
-    requires stage { A.ready steps.now.stage }
+    requires first { A.ready steps.now.first }
+    requires between { Q.ready steps.now.barriers steps.now.between }
+    requires last { Z.ready steps.now.last }
     requires collector { C.ready collector.now }
     ensures worked { let it = collector.now in
-        let made = IsContainerOf A.Out.is_value (C.content it) (C.empty it) (C.add it) in
-        let values = values_of (F.image steps.now.function) (A.expand steps.now.stage) in
-        (l : List (List ℕ)) → made (values l) acc
-        → IfOk result (λ r. made (values (l ++ text_lines (string_bytes text))) r.0) }
+        let own = steps.now in
+        let made = IsContainerOf Z.Out.is_value (C.content it) (C.empty it) (C.add it) in
+        let behind = Q.value_behind own.barriers own.between in
+        let items = values_of (F.image own.function) (A.expand own.first) in
+        (whole : List A.Out.Content → List Q.Out.Content) → (l : List (List ℕ))
+        → IsTaken made (Z.expand own.last) whole behind (items l) taken → IfOk result (λ r.
+        IsTaken made (Z.expand own.last) whole behind (items (l ++ text_lines (string_bytes text))) r.0) }
     ensures block { let before = prepend_known blocks.rest.items (I.remaining blocks.reader) in
         IfOk result (λ r. IfOk r.1 (λ a. TakesBlock before (string_bytes a.1.text)
         (prepend_known a.0.rest.items (I.remaining a.0.reader)))) }
     ensures last { IfOk result (λ r. IfOk r.1 (λ a. a.1.is_last ≡ true
         → IsAtEnd (prepend_known a.0.rest.items (I.remaining a.0.reader)))) }
-    ensures size { IfOk result (λ r. IfOk r.1 (λ a. a.0.size ≡ blocks.size)) }
+    ensures longest { IfOk result (λ r. IfOk r.1 (λ a. a.0.longest ≡ blocks.longest)) }
     ensures stands { let before = prepend_known blocks.rest.items (I.remaining blocks.reader) in
         (all : Option (List ℕ)) → StandsAt all before blocks.place → IfOk result (λ r. IfOk r.1
         (λ a. StandsAt all (prepend_known a.0.rest.items (I.remaining a.0.reader)) a.0.place)) }
     ensures faults { let before = prepend_known blocks.rest.items (I.remaining blocks.reader) in
         (all : Option (List ℕ)) → StandsAt all before blocks.place
-        → IfOk result (λ r. IfErr r.1 (IsFault blocks.size all)) }
+        → IfOk result (λ r. IfErr r.1 (IsFault blocks.longest all)) }
 {
     let alloc = engine.alloc;
     let reading = move || -> Result<(LineBlocks<I>, Block), LinesError>
@@ -95,25 +109,28 @@ where
             (prepend_known r.0.rest.items (I.remaining r.0.reader))) }
         ensures last { IfOk result (λ r. r.1.is_last ≡ true
             → IsAtEnd (prepend_known r.0.rest.items (I.remaining r.0.reader))) }
-        ensures size { IfOk result (λ r. r.0.size ≡ blocks.size) }
+        ensures longest { IfOk result (λ r. r.0.longest ≡ blocks.longest) }
         ensures stands { let before = prepend_known blocks.rest.items (I.remaining blocks.reader) in
             (all : Option (List ℕ)) → StandsAt all before blocks.place → IfOk result
             (λ r. StandsAt all (prepend_known r.0.rest.items (I.remaining r.0.reader)) r.0.place) }
         ensures faults { let before = prepend_known blocks.rest.items (I.remaining blocks.reader) in
             (all : Option (List ℕ)) → StandsAt all before blocks.place
-            → IfErr result (IsFault blocks.size all) }
+            → IfErr result (IsFault blocks.longest all) }
     { read_ahead(alloc, blocks) };
-    let working = move || -> Result<C::Acc, NoMemory>
-        requires { F.ready steps.now.function × A.ready steps.now.stage × C.ready collector.now }
+    let working = move || -> Result<(C::Acc, Q::State), NoMemory>
+        requires { F.ready steps.now.function × A.ready steps.now.first × Q.ready steps.now.barriers steps.now.between
+            × Z.ready steps.now.last × C.ready collector.now }
         ensures { let it = collector.entry.now in
-            let made = IsContainerOf A.Out.is_value (C.content it) (C.empty it) (C.add it) in
-            let steps = steps.entry.now in
-            let values = values_of (F.image steps.function) (A.expand steps.stage) in
-            (l : List (List ℕ)) → made (values l) acc
-            → IfOk result (made (values (l ++ text_lines (string_bytes text)))) }
-    { work(engine, steps, collector, acc, text) };
-    let (ahead, acc) = join(engine.rt, reading, working);
-    Ok((acc?, ahead))
+            let own = steps.entry.now in
+            let made = IsContainerOf Z.Out.is_value (C.content it) (C.empty it) (C.add it) in
+            let behind = Q.value_behind own.barriers own.between in
+            let items = values_of (F.image own.function) (A.expand own.first) in
+            (whole : List A.Out.Content → List Q.Out.Content) → (l : List (List ℕ))
+            → IsTaken made (Z.expand own.last) whole behind (items l) taken → IfOk result
+            (IsTaken made (Z.expand own.last) whole behind (items (l ++ text_lines (string_bytes text)))) }
+    { work(engine, steps, collector, taken, text) };
+    let (ahead, taken) = join(engine.rt, reading, working);
+    Ok((taken?, ahead))
 }
 
 /// The result of a collector on what becomes of the lines that a reader has left. While one block is worked on, another thread reads the next one. What
@@ -122,47 +139,58 @@ pub(crate) fn collect_lines<
     R: Threads + Clock + Sync,
     H: Gate + Sync,
     I: Read + Send + Drop,
-    F: LineFunction + Sync,
-    A: Stage<In = F::Out> + Sync,
-    C: Collector<Item = A::Out> + Sync,
+    F: LineFunction + Sync + Drop,
+    A: Stage<In = F::Out> + Sync + Drop,
+    Q: Between<In = A::Out> + Drop,
+    Z: Stage<In = Q::Out> + Sync + Drop,
+    C: Collector<Item = Z::Out> + Sync,
     E: Ending<C>,
 >(
     engine: &Engine<'_, R, H>,
-    reader: I,
-    size: usize,
-    steps: &LineSteps<F, A>,
+    lines: LineParts<I, F, A, Q, Q::Stages, Z>,
     collector: &C,
     ending: &E,
 ) -> Result<C::Out, LinesError>
 where
     A::Out: Clone + Send + Sync,
+    Z::Out: Clone + Send + Sync,
     C::Acc: Send,
     C::Out: Send,
-    requires function { F.ready steps.now.function }
-    requires stage { A.ready steps.now.stage }
+    requires function { F.ready lines.steps.function }
+    requires first { A.ready lines.steps.first }
+    requires between { Q.ready lines.steps.barriers lines.steps.between }
+    requires last { Z.ready lines.steps.last }
     requires collector { C.ready collector.now }
-    requires size { 0 < size }
-    ensures faults { IfErr result (IsFault size (I.remaining reader)) }
-    ensures value { let values = line_values (F.image steps.now.function) (A.expand steps.now.stage) in
-        IfOk result (λ out. IfSome (I.remaining reader)
-        (λ bytes. C.gives collector.now (values bytes) out)) }
+    ensures faults { IfErr result (IsFault lines.longest (I.remaining lines.reader)) }
+    ensures value { let own = lines.steps in
+        let items = line_values (F.image own.function) (A.expand own.first) in
+        let value = λ (bytes : List ℕ). Q.value own.barriers own.between (items bytes) in
+        IfOk result (λ out. IfSome (I.remaining lines.reader)
+        (λ bytes. C.gives collector.now (flat_map (Z.expand own.last) (value bytes)) out)) }
 {
-    let fresh = LineBlocks::new(engine.alloc, reader, size);
+    let fresh = LineBlocks::new(engine.alloc, lines.reader, lines.size, lines.longest);
+    let steps = &lines.steps;
     let (mut blocks, mut block) = read_ahead(engine.alloc, fresh)?;
-    let mut acc = new_container(collector)?;
+    let mut taken = (
+        new_container(collector)?,
+        steps.barriers.fresh(engine.alloc),
+    );
     for _ in 0..u64::MAX {
         if block.is_last {
-            let whole = work(engine, steps, collector, acc, block.text)?;
+            let (whole, _state) = work(engine, steps, collector, taken, block.text)?;
             return Ok(finish_container(collector, whole)?);
         }
-        let (more, ahead) = work_and_read(engine, blocks, steps, collector, acc, block.text)?;
-        if ending.is_over(collector, &more) {
-            return Ok(finish_container(collector, more)?);
+        let (more, ahead) = work_and_read(engine, blocks, steps, collector, taken, block.text)?;
+        if steps.barriers.is_over(&steps.between, &more.1) {
+            return Ok(finish_container(collector, more.0)?);
+        }
+        if ending.is_over(collector, &more.0) {
+            return Ok(finish_container(collector, more.0)?);
         }
         let (behind, next) = ahead?;
         blocks = behind;
         block = next;
-        acc = more;
+        taken = more;
     }
     Err(LinesError::TooLong)
 }
@@ -172,38 +200,50 @@ pub(crate) fn hand_lines<
     R: Threads + Clock + Sync,
     H: Gate + Sync,
     I: Read + Drop,
-    F: LineFunction + Sync,
-    A: Stage<In = F::Out> + Sync,
-    K: Sink<A::Out>,
+    F: LineFunction + Sync + Drop,
+    A: Stage<In = F::Out> + Sync + Drop,
+    Q: Between<In = A::Out> + Drop,
+    Z: Stage<In = Q::Out> + Sync + Drop,
+    K: Sink<Z::Out>,
 >(
     engine: &Engine<'_, R, H>,
-    reader: I,
-    size: usize,
-    steps: &LineSteps<F, A>,
+    lines: LineParts<I, F, A, Q, Q::Stages, Z>,
     action: &mut K,
 ) -> Result<(), LinesError>
 where
     A::Out: Clone + Send + Sync,
-    requires function { F.ready steps.now.function }
-    requires stage { A.ready steps.now.stage }
+    Z::Out: Clone + Send + Sync,
+    requires function { F.ready lines.steps.function }
+    requires first { A.ready lines.steps.first }
+    requires between { Q.ready lines.steps.barriers lines.steps.between }
+    requires last { Z.ready lines.steps.last }
     requires action { K.ready action.old }
-    requires clones { ClonesAlike A.Out.is_clone A.Out.content }
-    requires size { 0 < size }
-    ensures faults { IfErr result (IsFault size (I.remaining reader)) }
-    ensures taken { let values = line_values (F.image steps.now.function) (A.expand steps.now.stage) in
-        OnOk result (IfSome (I.remaining reader)
-        (λ bytes. K.takes action.old (values bytes) action.new)) }
+    requires clones { ClonesAlike Z.Out.is_clone Z.Out.content }
+    ensures faults { IfErr result (IsFault lines.longest (I.remaining lines.reader)) }
+    ensures taken { let own = lines.steps in
+        let items = line_values (F.image own.function) (A.expand own.first) in
+        let value = λ (bytes : List ℕ). Q.value own.barriers own.between (items bytes) in
+        OnOk result (IfSome (I.remaining lines.reader)
+        (λ bytes. K.takes action.old (flat_map (Z.expand own.last) (value bytes)) action.new)) }
     ensures spoilt { OnErr result (K.spoils action.old action.new) }
 {
-    let mut blocks = LineBlocks::new(engine.alloc, reader, size);
+    let list = ToList::new(engine.alloc);
+    let mut blocks = LineBlocks::new(engine.alloc, lines.reader, lines.size, lines.longest);
+    let steps = &lines.steps;
+    let mut state = steps.barriers.fresh(engine.alloc);
     for _ in 0..u64::MAX {
         let (behind, block) = read_ahead(engine.alloc, blocks)?;
-        let mut items = list_of(engine, steps, block.text)?;
-        action.take_all(&mut items)?;
+        let taken = (new_container(&list)?, state);
+        let (whole, later) = work(engine, steps, &list, taken, block.text)?;
+        action.take_all(&mut finish_container(&list, whole)?)?;
         if block.is_last {
             return Ok(());
         }
+        if steps.barriers.is_over(&steps.between, &later) {
+            return Ok(());
+        }
         blocks = behind;
+        state = later;
     }
     Err(LinesError::TooLong)
 }

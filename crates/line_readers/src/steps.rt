@@ -1,25 +1,133 @@
-//! What becomes of each line, and the lines of one text.
-ghost use Rattle.std.specs.Prelude.{◌≡◌, ◌++◌, ℕ, List, IfOk, map, string_bytes};
+//! What becomes of each line, and of the lines of one text.
+ghost use Rattle.std.specs.Prelude.{◌≡◌, ◌<◌, ◌++◌, ℕ, List, IfOk, flat_map, map, string_bytes};
 ghost use Rattle.spliterator.specs.Clones.{ClonesAlike};
 ghost use Rattle.collectors.specs.Laws.{IsContainerOf};
 ghost use Rattle.sources.specs.Lines.{text_lines};
-ghost use Rattle.line_readers.specs.Values.{values_of};
+ghost use Rattle.line_readers.specs.Values.{values_of, IsTaken};
 
-use crate::{LineFunction, OfLine};
+use crate::{Between, LineFunction, OfLine};
 use collectors::{Collector, ToList, finish_container, new_container};
 use parallel_streams::{Engine, Stream, fold_into, of};
-use sources::LinesSplit;
-use spliterator::NoMemory;
+use sources::{LinesSplit, SliceSplit};
+use spliterator::{NoMemory, OrderedValue};
 use stages::Stage;
 use std::thread::Threads;
 use std::time::Clock;
 use stealing_pool::Gate;
 
-/// What becomes of each line: a function of it, and a stage behind that.
+/// What becomes of each line: a function of it, a stage behind that, operations that look at many items, with the stages between them, and a stage
+/// behind those.
 #[derive(Drop)]
-pub struct LineSteps<F, A> {
+pub struct LineSteps<F, A, Q, S, Z> {
     pub function: F,
-    pub stage: A,
+    pub first: A,
+    pub barriers: Q,
+    pub between: S,
+    pub last: Z,
+}
+
+/// The lines of a reader, in blocks of `size` bytes or, where a line is longer, of up to `longest`, and what becomes of them.
+#[derive(Drop)]
+pub struct LineParts<I, F, A, Q, S, Z> {
+    pub reader: I,
+    pub size: usize,
+    pub longest: usize,
+    pub steps: LineSteps<F, A, Q, S, Z>,
+    ghost sized: { 0 < size },
+}
+
+/// Takes what becomes of the lines of a text into a container, behind what is in it, where no operation looks at more than one item.
+fn take_through<
+    R: Threads + Clock + Sync,
+    H: Gate + Sync,
+    F: LineFunction + Sync,
+    A: Stage<In = F::Out> + Sync,
+    Q: Between<In = A::Out>,
+    Z: Stage<In = Q::Out> + Sync,
+    C: Collector<Item = Z::Out> + Sync,
+>(
+    engine: &Engine<'_, R, H>,
+    steps: &LineSteps<F, A, Q, Q::Stages, Z>,
+    collector: &C,
+    acc: C::Acc,
+    text: String,
+) -> Result<C::Acc, NoMemory>
+where
+    A::Out: Clone + Send + Sync,
+    Z::Out: Clone + Send + Sync,
+    C::Acc: Send,
+    C::Out: Send,
+    requires function { F.ready steps.now.function }
+    requires first { A.ready steps.now.first }
+    requires between { Q.Stages.ready steps.now.between }
+    requires last { Z.ready steps.now.last }
+    requires collector { C.ready collector.now }
+    ensures { let it = collector.now in
+        let made = IsContainerOf Z.Out.is_value (C.content it) (C.empty it) (C.add it) in
+        let items = values_of (F.image steps.now.function) (A.expand steps.now.first) in
+        let passed = flat_map (Q.Stages.expand steps.now.between) (items (text_lines (string_bytes text))) in
+        (l : List Z.Out.Content) → made l acc
+        → IfOk result (made (l ++ flat_map (Z.expand steps.now.last) passed)) }
+{
+    let mut acc = acc;
+    let lines = of(LinesSplit::new(text.as_str()));
+    let function = &steps.function;
+    let items = lines.map(OfLine { function }).then(&steps.first);
+    let stream = items.then(&steps.between).then(&steps.last);
+    fold_into(engine, &stream, collector, &mut acc)?;
+    Ok(acc)
+}
+
+/// Takes what the last stage makes of items into a container, behind what is in it.
+fn take_list<
+    T: OrderedValue + Clone + Drop + Send + Sync,
+    R: Threads + Clock + Sync,
+    H: Gate + Sync,
+    Z: Stage<In = T> + Sync,
+    C: Collector<Item = Z::Out> + Sync,
+>(
+    engine: &Engine<'_, R, H>,
+    last: &Z,
+    collector: &C,
+    acc: C::Acc,
+    items: &[T],
+) -> Result<C::Acc, NoMemory>
+where
+    Z::Out: Clone + Send + Sync,
+    C::Acc: Send,
+    C::Out: Send,
+    requires last { Z.ready last.now }
+    requires collector { C.ready collector.now }
+    requires clones { ClonesAlike T.is_clone T.content }
+    ensures { let it = collector.now in
+        let made = IsContainerOf Z.Out.is_value (C.content it) (C.empty it) (C.add it) in
+        (l : List Z.Out.Content) → made l acc
+        → IfOk result (made (l ++ flat_map (Z.expand last.now) (map T.content items.now))) }
+{
+    let mut acc = acc;
+    let stream = of(SliceSplit::new(items)).then(last);
+    fold_into(engine, &stream, collector, &mut acc)?;
+    Ok(acc)
+}
+
+/// What becomes of the lines of a text in front of the first operation that looks at many items, as a list.
+fn list_of<
+    R: Threads + Clock + Sync,
+    H: Gate + Sync,
+    F: LineFunction + Sync,
+    A: Stage<In = F::Out> + Sync,
+>(engine: &Engine<'_, R, H>, function: &F, first: &A, text: String) -> Result<Vec<A::Out>, NoMemory>
+where
+    A::Out: Clone + Send + Sync,
+    requires function { F.ready function.now }
+    requires first { A.ready first.now }
+    requires clones { ClonesAlike A.Out.is_clone A.Out.content }
+    ensures { let values = values_of (F.image function.now) (A.expand first.now) in
+        IfOk result (λ list. map A.Out.content list.items ≡ values (text_lines (string_bytes text))) }
+{
+    let lines = of(LinesSplit::new(text.as_str()));
+    let stream = lines.map(OfLine { function }).then(first);
+    stream.collect_on(engine, &ToList::new(engine.alloc))
 }
 
 /// Takes what becomes of the lines of a text into a container, behind what is in it.
@@ -28,52 +136,42 @@ pub(crate) fn work<
     H: Gate + Sync,
     F: LineFunction + Sync,
     A: Stage<In = F::Out> + Sync,
-    C: Collector<Item = A::Out> + Sync,
+    Q: Between<In = A::Out>,
+    Z: Stage<In = Q::Out> + Sync,
+    C: Collector<Item = Z::Out> + Sync,
 >(
     engine: &Engine<'_, R, H>,
-    steps: &LineSteps<F, A>,
+    steps: &LineSteps<F, A, Q, Q::Stages, Z>,
     collector: &C,
-    acc: C::Acc,
+    taken: (C::Acc, Q::State),
     text: String,
-) -> Result<C::Acc, NoMemory>
+) -> Result<(C::Acc, Q::State), NoMemory>
 where
     A::Out: Clone + Send + Sync,
+    Z::Out: Clone + Send + Sync,
     C::Acc: Send,
     C::Out: Send,
     requires function { F.ready steps.now.function }
-    requires stage { A.ready steps.now.stage }
+    requires first { A.ready steps.now.first }
+    requires between { Q.ready steps.now.barriers steps.now.between }
+    requires last { Z.ready steps.now.last }
     requires collector { C.ready collector.now }
     ensures { let it = collector.now in
-        let made = IsContainerOf A.Out.is_value (C.content it) (C.empty it) (C.add it) in
-        let values = values_of (F.image steps.now.function) (A.expand steps.now.stage) in
-        (l : List (List ℕ)) → made (values l) acc
-        → IfOk result (made (values (l ++ text_lines (string_bytes text)))) }
+        let own = steps.now in
+        let made = IsContainerOf Z.Out.is_value (C.content it) (C.empty it) (C.add it) in
+        let behind = Q.value_behind own.barriers own.between in
+        let items = values_of (F.image own.function) (A.expand own.first) in
+        (whole : List A.Out.Content → List Q.Out.Content) → (l : List (List ℕ))
+        → IsTaken made (Z.expand own.last) whole behind (items l) taken → IfOk result
+        (IsTaken made (Z.expand own.last) whole behind (items (l ++ text_lines (string_bytes text)))) }
 {
-    let mut acc = acc;
-    let lines = of(LinesSplit::new(text.as_str()));
-    let function = &steps.function;
-    let stream = lines.map(OfLine { function }).then(&steps.stage);
-    fold_into(engine, &stream, collector, &mut acc)?;
-    Ok(acc)
-}
-
-/// What becomes of the lines of a text, as a list.
-pub(crate) fn list_of<
-    R: Threads + Clock + Sync,
-    H: Gate + Sync,
-    F: LineFunction + Sync,
-    A: Stage<In = F::Out> + Sync,
->(engine: &Engine<'_, R, H>, steps: &LineSteps<F, A>, text: String) -> Result<Vec<A::Out>, NoMemory>
-where
-    A::Out: Clone + Send + Sync,
-    requires function { F.ready steps.now.function }
-    requires stage { A.ready steps.now.stage }
-    requires clones { ClonesAlike A.Out.is_clone A.Out.content }
-    ensures { let values = values_of (F.image steps.now.function) (A.expand steps.now.stage) in
-        IfOk result (λ list. map A.Out.content list.items ≡ values (text_lines (string_bytes text))) }
-{
-    let list = ToList::new(engine.alloc);
-    let fresh = new_container(&list)?;
-    let whole = work(engine, steps, &list, fresh, text)?;
-    finish_container(&list, whole)
+    let (acc, mut state) = taken;
+    if steps.barriers.lets_pass(&state) {
+        let acc = take_through(engine, steps, collector, acc, text)?;
+        return Ok((acc, state));
+    }
+    let items = list_of(engine, &steps.function, &steps.first, text)?;
+    let kept = steps.barriers.carry(&steps.between, &mut state, items)?;
+    let acc = take_list(engine, &steps.last, collector, acc, kept.as_slice())?;
+    Ok((acc, state))
 }

@@ -1,5 +1,5 @@
 //! What is made of the lines of a reader.
-ghost use Rattle.std.specs.Prelude.{◌≡◌, ℕ, List, Option, length, pos, option_map, IfOk, IfErr, IfSome, OnOk, OnErr, ⊤};
+ghost use Rattle.std.specs.Prelude.{◌≡◌, ◌<◌, ◌^◌, ℕ, List, Option, flat_map, length, pos, option_map, IfOk, IfErr, IfSome, OnOk, OnErr, ⊤};
 ghost use Rattle.spliterator.specs.Clones.{ClonesAlike};
 ghost use Rattle.stages.specs.Wrapping.{wrapped};
 ghost use Rattle.collectors.specs.Reductions.{first};
@@ -8,13 +8,14 @@ ghost use Rattle.line_readers.specs.Values.{line_values};
 
 use crate::ending::{AtTheEnd, OnceDecided, OnceFound};
 use crate::reading::{collect_lines, hand_lines};
-use crate::{LineFunction, ReadLines};
+use crate::{BarredLines, Between, LineFunction, LineParts};
+use barriers::{Distinct, DropWhile, Limit, Skip, TakeWhile};
 use collectors::{Collector, Counting, First};
 use derived_collectors::Deciding;
 use line_blocks::LinesError;
 use parallel_streams::Engine;
 use spliterator::OrderedValue;
-use stages::{Sink, Stage};
+use stages::{Nothing, Sink, Stage, Test};
 use std::io::Read;
 use std::thread::Threads;
 use std::time::Clock;
@@ -29,7 +30,16 @@ pub trait LineStream: Sized {
 
     type Function: LineFunction + Sync + Drop;
 
-    type Stage: Stage<In = <Self::Function as LineFunction>::Out, Out = Self::Item> + Sync + Drop;
+    /// The items in front of the first operation that looks at many.
+    type Lead: OrderedValue + Clone + Drop + Send + Sync;
+
+    /// The stage of what the function makes of a line.
+    type First: Stage<In = <Self::Function as LineFunction>::Out, Out = Self::Lead> + Sync + Drop;
+
+    type Barriers: Between<In = Self::Lead> + Drop;
+
+    /// The stage behind the operations that look at many items.
+    type Last: Stage<In = <Self::Barriers as Between>::Out, Out = Self::Item> + Sync + Drop;
 
     // what the methods rely on: stored closures meet their definitions
     ghost ready: { Self → Type 0 } = { λ _. ⊤ };
@@ -37,21 +47,89 @@ pub trait LineStream: Sized {
     // the bytes that the reader has left, where they are known
     ghost known: { Self → Option (List ℕ) };
 
-    // the bytes of a block; a line has fewer
-    ghost size: { Self → ℕ };
+    // no line of fewer bytes is too long
+    ghost longest: { Self → ℕ };
 
     // the items that bytes become
     ghost value: { Self → List ℕ → List Self.Item.Content };
 
-    /// Its reader, function and stage.
-    fn into_lines(self) -> ReadLines<Self::Reader, Self::Function, Self::Stage>
+    /// Its reader, and what becomes of the lines.
+    fn into_lines(
+        self,
+    ) -> LineParts<
+        Self::Reader,
+        Self::Function,
+        Self::First,
+        Self::Barriers,
+        <Self::Barriers as Between>::Stages,
+        Self::Last,
+    >
         ensures function { ready self → Self.Function.ready result.steps.function }
-        ensures stage { ready self → Self.Stage.ready result.steps.stage }
+        ensures first { ready self → Self.First.ready result.steps.first }
+        ensures between { ready self → Self.Barriers.ready result.steps.barriers result.steps.between }
+        ensures last { ready self → Self.Last.ready result.steps.last }
         ensures known { Self.Reader.remaining result.reader ≡ known self }
-        ensures size { result.size ≡ size self }
-        ensures value { let image = Self.Function.image result.steps.function in
-            let expand = Self.Stage.expand result.steps.stage in
-            (bytes : List ℕ) → line_values image expand bytes ≡ value self bytes };
+        ensures longest { result.longest ≡ longest self }
+        ensures value { let own = result.steps in
+            let items = line_values (Self.Function.image own.function) (Self.First.expand own.first) in
+            let kept = λ (bytes : List ℕ). Self.Barriers.value own.barriers own.between (items bytes) in
+            (bytes : List ℕ) → flat_map (Self.Last.expand own.last) (kept bytes) ≡ value self bytes };
+
+    /// At most the first items: a number below 2^63. No more is read than the block behind that of the last.
+    // java.util.stream.Stream, limit
+    final fn limit(self, most: u64) -> BarredLines<Self, Limit, Nothing<Self::Item>>
+        requires { most < 2 ^ 63 }
+        ensures upstream { result.upstream ≡ self }
+        ensures barrier { result.barrier.most ≡ most }
+    {
+        BarredLines::new(self, Limit::new(most))
+    }
+
+    /// The items after the first ones: a number below 2^63.
+    ///
+    /// ```text
+    /// let rows = lines_of(file).map_lines(Parsed).skip(1);    // without the line of names
+    /// ```
+    // java.util.stream.Stream, skip
+    final fn skip(self, number: u64) -> BarredLines<Self, Skip, Nothing<Self::Item>>
+        requires { number < 2 ^ 63 }
+        ensures upstream { result.upstream ≡ self }
+        ensures barrier { result.barrier.number ≡ number }
+    {
+        BarredLines::new(self, Skip::new(number))
+    }
+
+    /// The longest front whose items all meet a test. No more is read than the block behind that of the first that doesn't.
+    // java.util.stream.Stream, takeWhile
+    final fn take_while<P: Test<Self::Item>>(
+        self,
+        test: P,
+    ) -> BarredLines<Self, TakeWhile<P>, Nothing<Self::Item>>
+        ensures upstream { result.upstream ≡ self }
+        ensures barrier { result.barrier.test ≡ test }
+    {
+        BarredLines::new(self, TakeWhile::new(test))
+    }
+
+    /// What follows the longest front whose items all meet a test.
+    // java.util.stream.Stream, dropWhile
+    final fn drop_while<P: Test<Self::Item>>(
+        self,
+        test: P,
+    ) -> BarredLines<Self, DropWhile<P>, Nothing<Self::Item>>
+        ensures upstream { result.upstream ≡ self }
+        ensures barrier { result.barrier.test ≡ test }
+    {
+        BarredLines::new(self, DropWhile::new(test))
+    }
+
+    /// Of equal items the first, in the order of the items. Those that differ are kept.
+    // java.util.stream.Stream, distinct
+    final fn distinct(self) -> BarredLines<Self, Distinct, Nothing<Self::Item>>
+        ensures { result.upstream ≡ self }
+    {
+        BarredLines::new(self, Distinct::new())
+    }
 
     /// The result of a collector on all the items. While one block is worked on, another thread reads the next one: memory is that of two blocks, of the
     /// container, and of the containers of a block's leaves, however much the reader has.
@@ -70,20 +148,13 @@ pub trait LineStream: Sized {
         C::Out: Send,
         requires lines { Self.ready self }
         requires collector { C.ready collector.now }
-        ensures faults { IfErr result (IsFault (Self.size self) (Self.known self)) }
+        ensures faults { IfErr result (IsFault (Self.longest self) (Self.known self)) }
         ensures value { let value = Self.value self in
             IfOk result (λ out. IfSome (Self.known self)
             (λ bytes. C.gives collector.now (value bytes) out)) }
     {
         let lines = self.into_lines();
-        collect_lines(
-            engine,
-            lines.reader,
-            lines.size,
-            &lines.steps,
-            collector,
-            &AtTheEnd,
-        )
+        collect_lines(engine, lines, collector, &AtTheEnd)
     }
 
     /// The same, where no more is read than the block behind one that decides the result. Nothing is told of what goes wrong there.
@@ -103,20 +174,13 @@ pub trait LineStream: Sized {
         C::Out: Send,
         requires lines { Self.ready self }
         requires collector { C.ready collector.now }
-        ensures faults { IfErr result (IsFault (Self.size self) (Self.known self)) }
+        ensures faults { IfErr result (IsFault (Self.longest self) (Self.known self)) }
         ensures value { let value = Self.value self in
             IfOk result (λ out. IfSome (Self.known self)
             (λ bytes. C.gives collector.now (value bytes) out)) }
     {
         let lines = self.into_lines();
-        collect_lines(
-            engine,
-            lines.reader,
-            lines.size,
-            &lines.steps,
-            collector,
-            &OnceDecided,
-        )
+        collect_lines(engine, lines, collector, &OnceDecided)
     }
 
     /// The number of items, as an `i64` that wraps.
@@ -126,7 +190,7 @@ pub trait LineStream: Sized {
         engine: &Engine<'_, impl Threads + Clock + Sync, impl Gate + Sync>,
     ) -> Result<i64, LinesError>
         requires { Self.ready self }
-        ensures faults { IfErr result (IsFault (Self.size self) (Self.known self)) }
+        ensures faults { IfErr result (IsFault (Self.longest self) (Self.known self)) }
         ensures value { let value = Self.value self in
             IfOk result (λ n. IfSome (Self.known self)
             (λ bytes. n ≡ wrapped (pos (length (value bytes))))) }
@@ -142,20 +206,13 @@ pub trait LineStream: Sized {
     ) -> Result<Option<Self::Item>, LinesError>
         requires lines { Self.ready self }
         requires clones { ClonesAlike Self.Item.is_clone Self.Item.content }
-        ensures faults { IfErr result (IsFault (Self.size self) (Self.known self)) }
+        ensures faults { IfErr result (IsFault (Self.longest self) (Self.known self)) }
         ensures value { let value = Self.value self in
             IfOk result (λ found. IfSome (Self.known self)
             (λ bytes. option_map Self.Item.content found ≡ first (value bytes))) }
     {
         let lines = self.into_lines();
-        collect_lines(
-            engine,
-            lines.reader,
-            lines.size,
-            &lines.steps,
-            &First::new(),
-            &OnceFound,
-        )
+        collect_lines(engine, lines, &First::new(), &OnceFound)
     }
 
     /// Hands the items to a sink, in encounter order and in the caller's thread, those of a block as soon as they are made. Where there is an error,
@@ -173,12 +230,12 @@ pub trait LineStream: Sized {
         requires lines { Self.ready self }
         requires action { K.ready action.old }
         requires clones { ClonesAlike Self.Item.is_clone Self.Item.content }
-        ensures faults { IfErr result (IsFault (Self.size self) (Self.known self)) }
+        ensures faults { IfErr result (IsFault (Self.longest self) (Self.known self)) }
         ensures taken { OnOk result (IfSome (Self.known self)
             (λ bytes. K.takes action.old (Self.value self bytes) action.new)) }
         ensures spoilt { OnErr result (K.spoils action.old action.new) }
     {
         let lines = self.into_lines();
-        hand_lines(engine, lines.reader, lines.size, &lines.steps, action)
+        hand_lines(engine, lines, action)
     }
 }

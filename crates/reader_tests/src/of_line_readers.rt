@@ -13,6 +13,7 @@ use std::process::Abort;
 use std::thread::Threads;
 use std::time::Clock;
 use stealing_pool::NoGate;
+use stream_functions::{Above, Composed, Length};
 
 /// Bytes, a block's size, and their lines, or what is at fault and where.
 type Row<'a> = (&'a [u8], usize, Result<&'a [&'a str], (&'a str, u64)>);
@@ -91,6 +92,24 @@ fn lines_or_the_place_of_a_fault(rt: HostRuntime) -> Result<(), LinesError> {
     for workers in [1, 2, 7, 64] {
         rows(&engine_of(&rt, workers))?;
     }
+    Ok(())
+}
+
+#[test]
+fn lines_that_are_longer_than_a_block(rt: HostRuntime) -> Result<(), LinesError> {
+    let alloc = rt.alloc();
+    let engine = engine_of(&rt, 4);
+    let list = ToList::<String>::new(alloc);
+    let lines = |longest| {
+        let lines = lines_of(slow(b"a\nbcdefgh\ni\njklmnopq\n")).in_blocks_of(3);
+        lines.with_lines_below(longest).map_lines(OwnLine { alloc })
+    };
+    let texts = lines(9).collect_on(&engine, &list)?;
+    assert!(&rt; are(&texts, &["a", "bcdefgh", "i", "jklmnopq"]));
+    let told = lines(8).collect_on(&engine, &list);
+    assert!(&rt; matches!(told, Err(LinesError::LongLine(12) | LinesError::NoMemory)));
+    let texts = lines(0).limit(1).collect_on(&engine, &list);
+    assert!(&rt; matches!(texts, Err(LinesError::LongLine(2) | LinesError::NoMemory)));
     Ok(())
 }
 
@@ -202,5 +221,75 @@ fn lines_are_handed_over_up_to_a_fault(rt: HostRuntime) -> Result<(), LinesError
             _ => assert!(&rt; are(&texts, wanted)),
         }
     }
+    Ok(())
+}
+
+/// Seven lines.
+const SEVEN: &[u8] = b"a\nbb\na\nccc\n\nbb\nd\n";
+
+/// Longer than nothing.
+const SOME: Composed<Length, Above> = Composed(Length, Above(0));
+
+fn leave<R: Threads + Clock + Abort + Alloc<A = Global> + Sync, L: LineStream<Item = String>>(
+    engine: &Engine<'_, R, NoGate>,
+    lines: L,
+    wanted: &[&str],
+) -> Result<(), LinesError>
+    requires { L.ready lines }
+{
+    let texts = lines.collect_on(engine, &ToList::<String>::new(engine.alloc))?;
+    assert!(engine.rt; are(&texts, wanted));
+    Ok(())
+}
+
+fn barriers_leave<R: Threads + Clock + Abort + Alloc<A = Global> + Sync>(
+    engine: &Engine<'_, R, NoGate>,
+    size: usize,
+) -> Result<(), LinesError> {
+    let own = OwnLine {
+        alloc: engine.alloc,
+    };
+    let lines = || lines_of(slow(SEVEN)).in_blocks_of(size).map_lines(own);
+    leave(engine, lines().skip(1), &["bb", "a", "ccc", "", "bb", "d"])?;
+    leave(engine, lines().skip(9), &[])?;
+    leave(engine, lines().limit(3), &["a", "bb", "a"])?;
+    leave(engine, lines().limit(0), &[])?;
+    leave(engine, lines().distinct(), &["a", "bb", "ccc", "", "d"])?;
+    leave(engine, lines().take_while(SOME), &["a", "bb", "a", "ccc"])?;
+    leave(engine, lines().drop_while(SOME), &["", "bb", "d"])?;
+    let third = lines().filter(SOME).skip(2).limit(1);
+    leave(engine, third, &["a"])?;
+    let differing = lines().skip(1).filter(SOME).distinct().limit(3);
+    leave(engine, differing, &["bb", "a", "ccc"])?;
+    let later = lines().drop_while(SOME).filter(SOME).skip(1);
+    leave(engine, later, &["d"])
+}
+
+#[test]
+fn barriers_go_on_from_block_to_block(rt: HostRuntime) -> Result<(), LinesError> {
+    for workers in [1, 4] {
+        for size in [4, 5, 7, 64] {
+            barriers_leave(&engine_of(&rt, workers), size)?;
+        }
+    }
+    Ok(())
+}
+
+#[test]
+fn nothing_is_told_of_what_stands_behind_a_limit(rt: HostRuntime) -> Result<(), LinesError> {
+    let alloc = rt.alloc();
+    let engine = engine_of(&rt, 4);
+    let lines = || lines_of(slow(b"ab\nc\nd\ne\n\xff\n")).in_blocks_of(4);
+    let own = OwnLine { alloc };
+    let number = lines().map_lines(own).limit(3).count_on(&engine)?;
+    assert!(&rt; number == 3);
+    let mut texts = Vec::new(alloc);
+    let few = lines()
+        .map_lines(own)
+        .take_while(Composed(Length, Above(1)));
+    few.for_each_ordered(&engine, &mut texts)?;
+    assert!(&rt; are(&texts, &["ab"]));
+    let all = lines().map_lines(own).limit(5).count_on(&engine);
+    assert!(&rt; matches!(all, Err(LinesError::NotUtf8(9) | LinesError::NoMemory)));
     Ok(())
 }

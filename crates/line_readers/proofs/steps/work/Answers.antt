@@ -1,27 +1,43 @@
-use Rattle.std.proofs.Common.{◌≡◌, ◌++◌, ◌∷◌, [], List, ℕ, string_bytes, flat_map, ap, ap₂, ◌∙◌, subst}
+use Rattle.std.proofs.Common.{◌++◌, List, flat_map, map, string_bytes, subst, sym}
 use Rattle.collectors.specs.Laws.{IsContainerOf}
 use Rattle.sources.specs.Lines.{text_lines}
-use Rattle.line_readers.proofs.Behind.{values-behind}
-use Rattle.line_readers.specs.Values.{values_of}
+use Rattle.line_readers.specs.Values.{GoesOn, IsTaken, values_of}
+use Rattle.line_readers.proofs.Behind.{passes-on, taken-more, values-append}
 use Rattle.line_readers.proofs.steps.work.Goals as goal
 
-pub returns : goal.returns
-returns g c = λ l made.
+pub returns-then-lets_pass : goal.returns-then-lets_pass
+returns-then-lets_pass g c = λ whole l taken.
     let it = c.args.collector.now in
     let C = g.C.Collector in
-    let F = g.F.LineFunction in
-    let A = g.A.Stage in
-    let steps = c.args.steps.now in
-    let expand = A.expand steps.stage in
-    let stream = c.then-stream.result in
-    let told = c.then-stream.ensures in
-    let text : stream.upstream.upstream.split.text.now ≡ string_bytes c.args.text =
-    ap (λ s. s.upstream.split.text.now) told.upstream ∙ ap (λ s. s.split.text.now) c.map.ensures.upstream ∙ ap (λ s. s.text.now) c.of-lines.ensures ∙ c.new.ensures.text ∙ c.as_str.ensures.value in
-    let function = ap (λ s. s.stage.mapping.function.now) told.upstream ∙ ap (λ m. m.function.now) c.map.ensures.stage in
-    let stage = ap (λ s. s.now) told.stage in
-    let value =
-    ap (λ s. flat_map (A.expand s) (flat_map (λ x. F.image stream.upstream.stage.mapping.function.now x ∷ []) (text_lines stream.upstream.upstream.split.text.now))) stage
-    ∙ ap₂ (λ f (t : List ℕ). flat_map expand (flat_map (λ x. F.image f x ∷ []) (text_lines t))) function text in
-    subst (λ ms. IsContainerOf g.A.Out.Value.is_value (C.content it) (C.empty it) (C.add it) ms c.fold_into.new.whole)
-    (ap (λ v. values_of (F.image steps.function) expand l ++ v) value ∙ values-behind (F.image steps.function) expand l (text_lines (string_bytes c.args.text)))
-    (c.in_ok-fold_into.ensures.folded (values_of (F.image steps.function) expand l) made)
+    let own = c.args.steps.now in
+    let made = IsContainerOf g.Z.Out.Value.is_value (C.content it) (C.empty it) (C.add it) in
+    let last = g.Z.Stage.expand own.last in
+    let stages = g.Q.Stages.Stage.expand own.between in
+    let behind = g.Q.Between.value_behind own.barriers own.between in
+    let image = g.F.LineFunction.image own.function in
+    let first = g.A.Stage.expand own.first in
+    let state = c.args.taken.1 in
+    let lines = text_lines (string_bytes c.args.text) in
+    let items = values_of image first lines in
+    let on = passes-on (behind state) stages (c.lets_pass.ensures.passes c.if-lets_pass.true own.between) items in
+    subst (λ xs. IsTaken made last whole behind xs (c.in_ok-acc.acc, state)) (sym (values-append image first l lines))
+    (taken-more made last whole behind c.args.taken.0 c.in_ok-acc.acc state state (values_of image first l) items (flat_map stages items) on c.in_ok-acc.ensures taken)
+
+pub returns : goal.returns
+returns g c = λ whole l taken.
+    let it = c.args.collector.now in
+    let C = g.C.Collector in
+    let own = c.args.steps.now in
+    let made = IsContainerOf g.Z.Out.Value.is_value (C.content it) (C.empty it) (C.add it) in
+    let last = g.Z.Stage.expand own.last in
+    let behind = g.Q.Between.value_behind own.barriers own.between in
+    let image = g.F.LineFunction.image own.function in
+    let first = g.A.Stage.expand own.first in
+    let state = c.args.taken.1 in
+    let later = c.carry.new.state in
+    let lines = text_lines (string_bytes c.args.text) in
+    let kept = map g.Q.Out.Value.content c.in_ok-kept.kept.items in
+    let on = subst (λ came. GoesOn (behind state) (behind later) came kept) c.in_ok-items.ensures c.in_ok-kept.ensures in
+    let joins = λ (zs : List g.row.Z-Out-Content.Denot) (in_acc : made zs c.args.taken.0). subst (λ xs. made (zs ++ flat_map last (map g.Q.Out.Value.content xs)) c.in_ok-acc-2.acc) c.as_slice.ensures.value (c.in_ok-acc-2.ensures zs in_acc) in
+    subst (λ xs. IsTaken made last whole behind xs (c.in_ok-acc-2.acc, later)) (sym (values-append image first l lines))
+    (taken-more made last whole behind c.args.taken.0 c.in_ok-acc-2.acc state later (values_of image first l) (values_of image first lines) kept on joins taken)
