@@ -46,7 +46,7 @@ fn read_ahead<I: Read + Drop>(
     Ok((blocks, block))
 }
 
-/// Takes a block into a container, while another thread reads the next one, which may go wrong.
+/// Takes a block into a container in other threads, while this one reads the next, which may go wrong: of one thread's blocks the memory serves again.
 fn work_and_read<
     R: Threads + Clock + Sync,
     H: Gate + Sync,
@@ -112,7 +112,7 @@ where
             (l : List (List ℕ)) → made (values l) acc
             → IfOk result (made (values (l ++ text_lines (string_bytes text)))) }
     { work(engine, steps, collector, acc, text) };
-    let (ahead, acc) = join(engine.rt, reading, working);
+    let (acc, ahead) = join(engine.rt, working, reading);
     Ok((acc?, ahead))
 }
 

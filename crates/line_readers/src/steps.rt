@@ -1,5 +1,5 @@
 //! What becomes of each line, and the lines of one text.
-ghost use Rattle.std.specs.Prelude.{◌≡◌, ◌++◌, ℕ, List, IfOk, map, string_bytes};
+ghost use Rattle.std.specs.Prelude.{◌≡◌, ◌<◌, ◌≤◌, ◌^◌, ◌++◌, ℕ, List, IfOk, map, string_bytes};
 ghost use Rattle.spliterator.specs.Clones.{ClonesAlike};
 ghost use Rattle.collectors.specs.Laws.{IsContainerOf};
 ghost use Rattle.sources.specs.Lines.{text_lines};
@@ -7,8 +7,9 @@ ghost use Rattle.line_readers.specs.Values.{values_of};
 
 use crate::{LineFunction, OfLine};
 use collectors::{Collector, ToList, finish_container, new_container};
-use parallel_streams::{Engine, Stream, fold_into, of};
+use parallel_streams::{Engine, Run, Stream, fold_into, of};
 use sources::LinesSplit;
+use split_tree::MAX_TARGET;
 use spliterator::NoMemory;
 use stages::Stage;
 use std::thread::Threads;
@@ -20,6 +21,34 @@ use stealing_pool::Gate;
 pub struct LineSteps<F, A> {
     pub function: F,
     pub stage: A,
+}
+
+/// How many bytes a leaf of a block has: a worker's share and a fifth more, so that a share which ends behind its line isn't split again.
+fn leaf_bytes(bytes: usize, workers: u32) -> u64
+    requires { 0 < workers }
+    ensures { result ≤ 2 ^ 62 }
+{
+    let share = bytes as u64 / u64::from(workers);
+    share.saturating_add(share / 5).clamp(1, MAX_TARGET)
+}
+
+/// What a block of so many bytes runs on. It has a leaf a worker where the run leaves that open, since what leaves keep is combined for each block anew.
+fn engine_of<'e, R, H>(engine: &Engine<'e, R, H>, bytes: usize) -> Engine<'e, R, H> {
+    let run = &engine.run;
+    let target = if run.target == 0 {
+        leaf_bytes(bytes, run.workers)
+    } else {
+        run.target
+    };
+    Engine {
+        rt: engine.rt,
+        alloc: engine.alloc,
+        run: Run {
+            workers: run.workers,
+            target,
+            gate: run.gate,
+        },
+    }
 }
 
 /// Takes what becomes of the lines of a text into a container, behind what is in it.
@@ -50,10 +79,11 @@ where
         → IfOk result (made (values (l ++ text_lines (string_bytes text)))) }
 {
     let mut acc = acc;
+    let own = engine_of(engine, text.len());
     let lines = of(LinesSplit::new(text.as_str()));
     let function = &steps.function;
     let stream = lines.map(OfLine { function }).then(&steps.stage);
-    fold_into(engine, &stream, collector, &mut acc)?;
+    fold_into(&own, &stream, collector, &mut acc)?;
     Ok(acc)
 }
 
