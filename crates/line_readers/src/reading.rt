@@ -17,7 +17,6 @@ use line_blocks::{Block, LineBlocks, LinesError};
 use parallel_streams::Engine;
 use spliterator::NoMemory;
 use stages::{Sink, Stage};
-use std::alloc::Global;
 use std::io::Read;
 use std::thread::{Threads, join};
 use std::time::Clock;
@@ -25,8 +24,8 @@ use stealing_pool::Gate;
 
 /// The next block, and the reader behind it.
 fn read_ahead<I: Read + Drop>(
-    alloc: Global,
     blocks: LineBlocks<I>,
+    room: Vec<u8>,
 ) -> Result<(LineBlocks<I>, Block), LinesError>
     ensures block { let before = prepend_known blocks.rest.items (I.remaining blocks.reader) in
         IfOk result (λ r. TakesBlock before (string_bytes r.1.text)
@@ -42,11 +41,11 @@ fn read_ahead<I: Read + Drop>(
         → IfErr result (IsFault blocks.size all) }
 {
     let mut blocks = blocks;
-    let block = blocks.next_block(alloc)?;
+    let block = blocks.next_block(room)?;
     Ok((blocks, block))
 }
 
-/// Takes a block into a container in other threads, while this one reads the next, which may go wrong: of one thread's blocks the memory serves again.
+/// Takes a block into a container, while another thread reads the next one, which may go wrong.
 fn work_and_read<
     R: Threads + Clock + Sync,
     H: Gate + Sync,
@@ -87,7 +86,7 @@ where
         (all : Option (List ℕ)) → StandsAt all before blocks.place
         → IfOk result (λ r. IfErr r.1 (IsFault blocks.size all)) }
 {
-    let alloc = engine.alloc;
+    let room = blocks.room(engine.alloc)?;
     let reading = move || -> Result<(LineBlocks<I>, Block), LinesError>
         requires { IsSend I.row }
         ensures block { let before = prepend_known blocks.rest.items (I.remaining blocks.reader) in
@@ -102,7 +101,7 @@ where
         ensures faults { let before = prepend_known blocks.rest.items (I.remaining blocks.reader) in
             (all : Option (List ℕ)) → StandsAt all before blocks.place
             → IfErr result (IsFault blocks.size all) }
-    { read_ahead(alloc, blocks) };
+    { read_ahead(blocks, room) };
     let working = move || -> Result<C::Acc, NoMemory>
         requires { F.ready steps.now.function × A.ready steps.now.stage × C.ready collector.now }
         ensures { let it = collector.entry.now in
@@ -112,7 +111,7 @@ where
             (l : List (List ℕ)) → made (values l) acc
             → IfOk result (made (values (l ++ text_lines (string_bytes text)))) }
     { work(engine, steps, collector, acc, text) };
-    let (acc, ahead) = join(engine.rt, working, reading);
+    let (ahead, acc) = join(engine.rt, reading, working);
     Ok((acc?, ahead))
 }
 
@@ -148,7 +147,8 @@ where
         (λ bytes. C.gives collector.now (values bytes) out)) }
 {
     let fresh = LineBlocks::new(engine.alloc, reader, size);
-    let (mut blocks, mut block) = read_ahead(engine.alloc, fresh)?;
+    let room = fresh.room(engine.alloc)?;
+    let (mut blocks, mut block) = read_ahead(fresh, room)?;
     let mut acc = new_container(collector)?;
     for _ in 0..u64::MAX {
         if block.is_last {
@@ -197,7 +197,8 @@ where
 {
     let mut blocks = LineBlocks::new(engine.alloc, reader, size);
     for _ in 0..u64::MAX {
-        let (behind, block) = read_ahead(engine.alloc, blocks)?;
+        let room = blocks.room(engine.alloc)?;
+        let (behind, block) = read_ahead(blocks, room)?;
         let mut items = list_of(engine, steps, block.text)?;
         action.take_all(&mut items)?;
         if block.is_last {
