@@ -129,7 +129,7 @@ def other_logs(log, folder):
         file = folder / "bytes"
         file.write_bytes(text[:place] + b"\xff" + text[place:])
         yield f"a byte that is no text at {place}", run(file), (1, "", f"weblog: {file}: not UTF-8 at byte {place}\n")
-    long = b"a" * 2_200_000
+    long = b"a" * 8_400_000
     yield "a line that is too long", run(input=b"b\n" + long), (1, "", "weblog: standard input: a line that is too long begins at byte 2\n")
     yield "a folder", run(folder), (3, "", f"weblog: {folder}: Is a directory (os error 21)\n")
     none = folder / "none"

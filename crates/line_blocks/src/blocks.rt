@@ -8,7 +8,7 @@ ghost use Rattle.line_blocks.specs.Faults.{StandsAt, IsFault, IsBadBlock, IsLong
 
 use crate::LinesError;
 use memchr::memrchr;
-use std::alloc::Global;
+use std::alloc::{AllocError, Global};
 use std::io::{ErrorKind, Read};
 
 /// How many bytes are read at once.
@@ -92,8 +92,13 @@ impl<I: Read> LineBlocks<I> {
         }
     }
 
+    /// Memory for a block. Where the thread that takes it also gives the blocks back, it serves for one after another.
+    pub fn room(&self, alloc: Global) -> Result<Vec<u8>, AllocError> {
+        Vec::with_capacity(alloc, self.size)
+    }
+
     /// The bytes of the next block.
-    fn next_bytes(&mut self, alloc: Global) -> Result<(Vec<u8>, bool), LinesError>
+    fn next_bytes(&mut self, room: Vec<u8>) -> Result<(Vec<u8>, bool), LinesError>
         ensures block { let before = prepend_known self.old.rest.items (I.remaining self.old.reader) in
             let after = prepend_known self.new.rest.items (I.remaining self.new.reader) in
             IfOk result (λ b. TakesBlock before b.0.items after) }
@@ -104,7 +109,8 @@ impl<I: Read> LineBlocks<I> {
         ensures errors { let before = prepend_known self.old.rest.items (I.remaining self.old.reader) in
             IfErr result (IsLongFront self.old.longest before self.old.place) }
     {
-        let mut bytes = Vec::with_capacity(alloc, self.size)?;
+        let mut bytes = room;
+        bytes.clear();
         bytes.append(&mut self.rest)?;
         let mut size = self.size;
         for _ in 0..u64::MAX {
@@ -123,8 +129,8 @@ impl<I: Read> LineBlocks<I> {
         Err(LinesError::TooLong)
     }
 
-    /// The next block: all whole lines of so many bytes, a longer line, or what is left.
-    pub fn next_block(&mut self, alloc: Global) -> Result<Block, LinesError>
+    /// The next block: all whole lines of so many bytes, a longer line, or what is left. It takes the room, and none of what is in it.
+    pub fn next_block(&mut self, room: Vec<u8>) -> Result<Block, LinesError>
         ensures block { let before = prepend_known self.old.rest.items (I.remaining self.old.reader) in
             let after = prepend_known self.new.rest.items (I.remaining self.new.reader) in
             IfOk result (λ b. TakesBlock before (string_bytes b.text) after) }
@@ -137,7 +143,7 @@ impl<I: Read> LineBlocks<I> {
         ensures faults { let before = prepend_known self.old.rest.items (I.remaining self.old.reader) in
             (all : Option (List ℕ)) → StandsAt all before self.old.place → IfErr result (IsFault self.old.longest all) }
     {
-        let (bytes, is_last) = self.next_bytes(alloc)?;
+        let (bytes, is_last) = self.next_bytes(room)?;
         let place = self.place;
         self.place = place_behind(place, bytes.len())?;
         let text = text_of(bytes, place)?;

@@ -8,7 +8,7 @@ use stages::{Filter, FlatMap, ListValue, Map, Mapping, Nothing, Stage, Test, The
 use std::io::Read;
 
 /// How many bytes a block has, where nothing else is said.
-pub const BLOCK: usize = 2_097_152;
+pub const BLOCK: usize = 8_388_608;
 
 /// The lines of a reader, in blocks of text.
 #[derive(Drop)]

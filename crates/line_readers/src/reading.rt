@@ -17,7 +17,6 @@ use line_blocks::{Block, LineBlocks, LinesError};
 use parallel_streams::Engine;
 use spliterator::NoMemory;
 use stages::{Sink, Stage};
-use std::alloc::Global;
 use std::io::Read;
 use std::thread::{Threads, join};
 use std::time::Clock;
@@ -25,8 +24,8 @@ use stealing_pool::Gate;
 
 /// The next block, and the reader behind it.
 fn read_ahead<I: Read + Drop>(
-    alloc: Global,
     blocks: LineBlocks<I>,
+    room: Vec<u8>,
 ) -> Result<(LineBlocks<I>, Block), LinesError>
     ensures block { let before = prepend_known blocks.rest.items (I.remaining blocks.reader) in
         IfOk result (λ r. TakesBlock before (string_bytes r.1.text)
@@ -42,7 +41,7 @@ fn read_ahead<I: Read + Drop>(
         → IfErr result (IsFault blocks.longest all) }
 {
     let mut blocks = blocks;
-    let block = blocks.next_block(alloc)?;
+    let block = blocks.next_block(room)?;
     Ok((blocks, block))
 }
 
@@ -101,7 +100,7 @@ where
         (all : Option (List ℕ)) → StandsAt all before blocks.place
         → IfOk result (λ r. IfErr r.1 (IsFault blocks.longest all)) }
 {
-    let alloc = engine.alloc;
+    let room = blocks.room(engine.alloc)?;
     let reading = move || -> Result<(LineBlocks<I>, Block), LinesError>
         requires { IsSend I.row }
         ensures block { let before = prepend_known blocks.rest.items (I.remaining blocks.reader) in
@@ -116,7 +115,7 @@ where
         ensures faults { let before = prepend_known blocks.rest.items (I.remaining blocks.reader) in
             (all : Option (List ℕ)) → StandsAt all before blocks.place
             → IfErr result (IsFault blocks.longest all) }
-    { read_ahead(alloc, blocks) };
+    { read_ahead(blocks, room) };
     let working = move || -> Result<(C::Acc, Q::State), NoMemory>
         requires { F.ready steps.now.function × A.ready steps.now.first × Q.ready steps.now.barriers steps.now.between
             × Z.ready steps.now.last × C.ready collector.now }
@@ -170,7 +169,8 @@ where
 {
     let fresh = LineBlocks::new(engine.alloc, lines.reader, lines.size, lines.longest);
     let steps = &lines.steps;
-    let (mut blocks, mut block) = read_ahead(engine.alloc, fresh)?;
+    let room = fresh.room(engine.alloc)?;
+    let (mut blocks, mut block) = read_ahead(fresh, room)?;
     let mut taken = (
         new_container(collector)?,
         steps.barriers.fresh(engine.alloc),
@@ -232,7 +232,8 @@ where
     let steps = &lines.steps;
     let mut state = steps.barriers.fresh(engine.alloc);
     for _ in 0..u64::MAX {
-        let (behind, block) = read_ahead(engine.alloc, blocks)?;
+        let room = blocks.room(engine.alloc)?;
+        let (behind, block) = read_ahead(blocks, room)?;
         let taken = (new_container(&list)?, state);
         let (whole, later) = work(engine, steps, &list, taken, block.text)?;
         action.take_all(&mut finish_container(&list, whole)?)?;

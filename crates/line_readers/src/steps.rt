@@ -1,5 +1,5 @@
 //! What becomes of each line, and of the lines of one text.
-ghost use Rattle.std.specs.Prelude.{◌≡◌, ◌<◌, ◌++◌, ℕ, List, IfOk, flat_map, map, string_bytes};
+ghost use Rattle.std.specs.Prelude.{◌≡◌, ◌<◌, ◌≤◌, ◌^◌, ◌++◌, ℕ, List, IfOk, flat_map, map, string_bytes};
 ghost use Rattle.spliterator.specs.Clones.{ClonesAlike};
 ghost use Rattle.collectors.specs.Laws.{IsContainerOf};
 ghost use Rattle.sources.specs.Lines.{text_lines};
@@ -7,8 +7,9 @@ ghost use Rattle.line_readers.specs.Values.{values_of, IsTaken};
 
 use crate::{Between, LineFunction, OfLine};
 use collectors::{Collector, ToList, finish_container, new_container};
-use parallel_streams::{Engine, Stream, fold_into, of};
+use parallel_streams::{Engine, Run, Stream, fold_into, of};
 use sources::{LinesSplit, SliceSplit};
+use split_tree::MAX_TARGET;
 use spliterator::{NoMemory, OrderedValue};
 use stages::Stage;
 use std::thread::Threads;
@@ -130,6 +131,34 @@ where
     stream.collect_on(engine, &ToList::new(engine.alloc))
 }
 
+/// How many bytes a leaf of a block has: a worker's share and a fifth more, so that a share which ends behind its line isn't split again.
+fn leaf_bytes(bytes: usize, workers: u32) -> u64
+    requires { 0 < workers }
+    ensures { result ≤ 2 ^ 62 }
+{
+    let share = bytes as u64 / u64::from(workers);
+    share.saturating_add(share / 5).clamp(1, MAX_TARGET)
+}
+
+/// What a block of so many bytes runs on. It has a leaf a worker where the run leaves that open, since what leaves keep is combined for each block anew.
+fn engine_of<'e, R, H>(engine: &Engine<'e, R, H>, bytes: usize) -> Engine<'e, R, H> {
+    let run = &engine.run;
+    let target = if run.target == 0 {
+        leaf_bytes(bytes, run.workers)
+    } else {
+        run.target
+    };
+    Engine {
+        rt: engine.rt,
+        alloc: engine.alloc,
+        run: Run {
+            workers: run.workers,
+            target,
+            gate: run.gate,
+        },
+    }
+}
+
 /// Takes what becomes of the lines of a text into a container, behind what is in it.
 pub(crate) fn work<
     R: Threads + Clock + Sync,
@@ -166,11 +195,12 @@ where
         (IsTaken made (Z.expand own.last) whole behind (items (l ++ text_lines (string_bytes text)))) }
 {
     let (acc, mut state) = taken;
+    let by_bytes = engine_of(engine, text.len());
     if steps.barriers.lets_pass(&state) {
-        let acc = take_through(engine, steps, collector, acc, text)?;
+        let acc = take_through(&by_bytes, steps, collector, acc, text)?;
         return Ok((acc, state));
     }
-    let items = list_of(engine, &steps.function, &steps.first, text)?;
+    let items = list_of(&by_bytes, &steps.function, &steps.first, text)?;
     let kept = steps.barriers.carry(&steps.between, &mut state, items)?;
     let acc = take_list(engine, &steps.last, collector, acc, kept.as_slice())?;
     Ok((acc, state))

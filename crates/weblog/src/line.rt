@@ -1,5 +1,5 @@
 //! What a line of the log says.
-ghost use Rattle.std.specs.Prelude.{◌≡◌, option_map};
+ghost use Rattle.std.specs.Prelude.{◌≡◌, ◌<◌, ◌==◌, ℕ, suc, option_map};
 ghost use Rattle.mohairjade.specs.Words.{both, both-decides, by_first, by_first-ties, by_first-total, bytes_cmp-ties, bytes_cmp-total, bytes_eq, bytes_eq-decides, int_cmp, int_cmp-ties, int_cmp-total, int_eq, int_eq-decides, nat_cmp, slice_cmp, string_bytes, ⊤};
 ghost use Rattle.weblog.specs.Log.{IsRequest, fault, figure, figure-value, name, parsed, parsed-value};
 ghost use Rattle.weblog.specs.Log as spec;
@@ -49,9 +49,7 @@ impl LineFunction for Requests {
     ghost images_are_values = { λ _ line. parsed-value line };
 
     fn read(&self, line: &str) -> Result<Parsed, NoMemory> {
-        let head = piece_of(line, '"', 0);
-        let asked = piece_of(line, '"', 1);
-        let tail = piece_of(line, '"', 2);
+        let (head, asked, tail) = pieces(line, '"');
         let client = client(head);
         let hour = number(hour(head));
         let path = path(asked);
@@ -70,6 +68,31 @@ impl LineFunction for Requests {
             path,
         }))
     }
+}
+
+/// What stands before a separator, and what stands behind it; all and nothing where there is none.
+fn cut(text: &str, separator: char) -> (&str, &str)
+    requires { separator < 128 }
+    ensures first { result.0.now ≡ piece (λ b. b == separator) 0 text.now }
+    ensures behind { let between = piece (λ b. b == separator) in
+        (at : ℕ) → between at result.1.now ≡ between (suc at) text.now }
+{
+    match text.split_once(separator) {
+        Some((before, behind)) => (before, behind),
+        None => (text, ""),
+    }
+}
+
+/// The first three pieces between separators, in one way through the text.
+fn pieces(text: &str, separator: char) -> (&str, &str, &str)
+    requires { separator < 128 }
+    ensures first { result.0.now ≡ piece (λ b. b == separator) 0 text.now }
+    ensures second { result.1.now ≡ piece (λ b. b == separator) 1 text.now }
+    ensures third { result.2.now ≡ piece (λ b. b == separator) 2 text.now }
+{
+    let (first, behind) = cut(text, separator);
+    let (second, behind) = cut(behind, separator);
+    (first, second, piece_of(behind, separator, 0))
 }
 
 /// The client, where ` - - [` stands behind it.
@@ -98,11 +121,8 @@ fn hour(head: &str) -> &str
 fn path(asked: &str) -> &str
     ensures { result.now ≡ spec.path asked.now }
 {
-    if piece_of(asked, ' ', 2).is_empty() {
-        ""
-    } else {
-        piece_of(asked, ' ', 1)
-    }
+    let (_method, path, protocol) = pieces(asked, ' ');
+    if protocol.is_empty() { "" } else { path }
 }
 
 /// The bytes that were sent; `-` stands for none.

@@ -16,10 +16,10 @@ returns-in-Some c =
     let kept_status : to_z w64 (of_z w64 c.number-status.result) ≡ c.number-status.result = search (rules, wraps) in
     let kept_hour : to_z w64 (of_z w64 c.number-hour.result) ≡ c.number-hour.result = search (rules, wraps) in
     let kept_bytes : to_z w64 (of_z w64 c.number-bytes.result) ≡ c.number-bytes.result = search (rules, wraps) in
-    let status = kept_status ∙ c.number-status.ensures ∙ ap spec.number (c.piece_of.ensures ∙ ap (spec.at_space 1) c.piece_of-tail.ensures) in
-    let hour = kept_hour ∙ c.number-hour.ensures ∙ ap spec.number (c.hour.ensures ∙ ap spec.hour c.piece_of-head.ensures) in
-    let bytes = kept_bytes ∙ c.number-bytes.ensures ∙ ap spec.number (c.sent.ensures ∙ ap spec.sent c.piece_of-tail.ensures) in
-    let same = same_parts _ _ _ _ _ _ _ _ _ _ status hour bytes (c.client-client.ensures ∙ ap spec.client c.piece_of-head.ensures) (c.path-path.ensures ∙ ap spec.path c.piece_of-asked.ensures) in
+    let status = kept_status ∙ c.number-status.ensures ∙ ap spec.number (c.piece_of.ensures ∙ ap (spec.at_space 1) c.pieces.ensures.third) in
+    let hour = kept_hour ∙ c.number-hour.ensures ∙ ap spec.number (c.hour.ensures ∙ ap spec.hour c.pieces.ensures.first) in
+    let bytes = kept_bytes ∙ c.number-bytes.ensures ∙ ap spec.number (c.sent.ensures ∙ ap spec.sent c.pieces.ensures.third) in
+    let same = same_parts _ _ _ _ _ _ _ _ _ _ status hour bytes (c.client-client.ensures ∙ ap spec.client c.pieces.ensures.first) (c.path-path.ensures ∙ ap spec.path c.pieces.ensures.second) in
     told (spec.request c.args.line.now) _ _ c.in-Some.ensures same
 
 pub returns : goal.returns
@@ -27,11 +27,11 @@ returns c =
     let kept_status : to_z w64 (of_z w64 c.number-status.result) ≡ c.number-status.result = search (rules, wraps) in
     let kept_hour : to_z w64 (of_z w64 c.number-hour.result) ≡ c.number-hour.result = search (rules, wraps) in
     let kept_bytes : to_z w64 (of_z w64 c.number-bytes.result) ≡ c.number-bytes.result = search (rules, wraps) in
-    let status = kept_status ∙ c.number-status.ensures ∙ ap spec.number (c.piece_of.ensures ∙ ap (spec.at_space 1) c.piece_of-tail.ensures) in
-    let hour = kept_hour ∙ c.number-hour.ensures ∙ ap spec.number (c.hour.ensures ∙ ap spec.hour c.piece_of-head.ensures) in
-    let bytes = kept_bytes ∙ c.number-bytes.ensures ∙ ap spec.number (c.sent.ensures ∙ ap spec.sent c.piece_of-tail.ensures) in
-    let client = c.client-client.ensures ∙ ap spec.client c.piece_of-head.ensures in
-    let path = c.path-path.ensures ∙ ap spec.path c.piece_of-asked.ensures in
+    let status = kept_status ∙ c.number-status.ensures ∙ ap spec.number (c.piece_of.ensures ∙ ap (spec.at_space 1) c.pieces.ensures.third) in
+    let hour = kept_hour ∙ c.number-hour.ensures ∙ ap spec.number (c.hour.ensures ∙ ap spec.hour c.pieces.ensures.first) in
+    let bytes = kept_bytes ∙ c.number-bytes.ensures ∙ ap spec.number (c.sent.ensures ∙ ap spec.sent c.pieces.ensures.third) in
+    let client = c.client-client.ensures ∙ ap spec.client c.pieces.ensures.first in
+    let path = c.path-path.ensures ∙ ap spec.path c.pieces.ensures.second in
     let same = same_parts _ _ _ _ _ _ _ _ _ _ status hour bytes client path in
     let owned = same_parts _ _ _ _ _ _ _ _ _ _ status hour bytes (c.in_ok-client.ensures.ok ∙ client) (c.in_ok-path.ensures.ok ∙ path) in
     ap (λ r. spec.or_fault None r) owned ∙ told (spec.request c.args.line.now) _ None c.in_default.ensures same
