@@ -1,19 +1,13 @@
 //! The parts of a timeline's picture, as SVG.
 use std::fmt::{self, Display, Formatter, Write};
 
-/// The picture's width, where its rows begin and how long they are, in pixels.
-const WIDTH: u64 = 1200;
-
-const LEFT: u64 = 80;
-
+/// How long a row is, in pixels.
 const LENGTH: u64 = 1060;
 
-/// Where the first row begins, and how high a row is, with the room below it and without.
+/// Where the first row begins, and how far the next one is from it.
 const TOP: u64 = 64;
 
 const PITCH: u64 = 28;
-
-const HEIGHT: u64 = 22;
 
 /// The most parts of the axis.
 const PARTS: u64 = 10;
@@ -21,7 +15,10 @@ const PARTS: u64 = 10;
 const SECOND: u64 = 1_000_000_000;
 
 const STYLE: &str =
-    "text{font:12px sans-serif;fill:#333}.a{fill:#2f6db3}.b{fill:#e08a2c}.row{fill:#eee}.tick{stroke:#ccc}";
+    "text{font:12px sans-serif;fill:#333}.a{fill:#2f6db3}.b{fill:#e08a2c}.row{fill:#eee}.tick{stroke:#ccc}.title{font-size:16px}";
+
+const NOTE: &str =
+    "A row a worker, with the part of the time that it was busy; a bar a leaf, in blue and orange by turns of runs";
 
 /// A leaf that was run, with its beginning and end in nanoseconds.
 #[derive(Clone, Copy)]
@@ -82,34 +79,30 @@ impl Drawing {
         Hundredths(u64::try_from(part).unwrap_or(u64::MAX))
     }
 
-    /// What stands above the rows.
-    pub(crate) fn write_head<W: Write>(&self, f: &mut Formatter<W>) -> fmt::Result {
+    /// The picture's beginning, on white.
+    pub(crate) fn write_frame<W: Write>(&self, f: &mut Formatter<W>) -> fmt::Result {
         let height = self.bottom().saturating_add(30);
         writeln!(
             f,
-            "<svg xmlns=\"http://www.w3.org/2000/svg\" width=\"{WIDTH}\" height=\"{height}\">"
+            "<svg xmlns=\"http://www.w3.org/2000/svg\" width=\"1200\" height=\"{height}\">\n<style>{STYLE}</style>"
         )?;
-        writeln!(f, "<style>{STYLE}</style>")?;
         writeln!(
             f,
-            "<rect width=\"{WIDTH}\" height=\"{height}\" fill=\"#fff\"/>"
-        )?;
+            "<rect width=\"1200\" height=\"{height}\" fill=\"#fff\"/>"
+        )
+    }
+
+    /// What stands above the rows.
+    pub(crate) fn write_title<W: Write>(&self, f: &mut Formatter<W>) -> fmt::Result {
         write!(
             f,
-            "<text x=\"{LEFT}\" y=\"26\" style=\"font-size:16px\">{} leaves of {} runs by {} workers, {} s",
-            self.ended,
-            self.runs,
-            self.workers,
-            Millis(self.span)
+            "<text x=\"80\" y=\"26\" class=\"title\">workers: {}, runs: {}, leaves: {}",
+            self.workers, self.runs, self.ended
         )?;
         if self.drawn < self.ended {
-            write!(f, "; the first {} leaves are shown", self.drawn)?;
+            write!(f, ", of which the first {} are shown", self.drawn)?;
         }
-        writeln!(f, "</text>")?;
-        writeln!(
-            f,
-            "<text x=\"{LEFT}\" y=\"46\">A row a worker, with the part of the time that it was busy; a bar a leaf, in blue and orange by turns of runs</text>"
-        )
+        writeln!(f, "</text>\n<text x=\"80\" y=\"46\">{NOTE}</text>")
     }
 
     /// The axis, with a line for each part.
@@ -120,14 +113,17 @@ impl Drawing {
             if self.span < at {
                 break;
             }
-            let tick = Tick { nanos: at, step };
-            let (x, end) = (self.length(at), bottom.saturating_add(18));
-            writeln!(
-                f,
-                "<g transform=\"translate({LEFT},0)\"><path class=\"tick\" d=\"M{x} {TOP}V{bottom}\"/><text x=\"{x}\" y=\"{end}\" text-anchor=\"middle\">{tick} s</text></g>"
-            )?;
+            self.write_tick(f, Tick { nanos: at, step }, bottom)?;
         }
         Ok(())
+    }
+
+    fn write_tick<W: Write>(&self, f: &mut Formatter<W>, tick: Tick, bottom: u64) -> fmt::Result {
+        let (x, y) = (self.length(tick.nanos), bottom.saturating_add(18));
+        writeln!(
+            f,
+            "<g transform=\"translate(80,0)\"><path class=\"tick\" d=\"M{x} 64V{bottom}\"/><text x=\"{x}\" y=\"{y}\" text-anchor=\"middle\">{tick} s</text></g>"
+        )
     }
 
     /// The beginning of a worker's row.
@@ -135,7 +131,7 @@ impl Drawing {
         let top = worker.saturating_mul(PITCH).saturating_add(TOP);
         writeln!(
             f,
-            "<g transform=\"translate({LEFT},{top})\"><text x=\"-8\" y=\"15\" text-anchor=\"end\">worker {worker}</text><rect class=\"row\" width=\"{LENGTH}\" height=\"{HEIGHT}\"/>"
+            "<g transform=\"translate(80,{top})\"><text x=\"-8\" y=\"15\" text-anchor=\"end\">worker {worker}</text><rect class=\"row\" width=\"1060\" height=\"22\"/>"
         )
     }
 
@@ -147,7 +143,7 @@ impl Drawing {
         let class = if bar.run % 2 == 0 { "b" } else { "a" };
         writeln!(
             f,
-            "<rect class=\"{class}\" x=\"{begin}\" width=\"{length}\" height=\"{HEIGHT}\"><title>run {}, leaf {}: {} to {} s</title></rect>",
+            "<rect class=\"{class}\" x=\"{begin}\" width=\"{length}\" height=\"22\"><title>run {}, leaf {}: {} to {} s</title></rect>",
             bar.run,
             bar.leaf,
             Micros(bar.begin),
@@ -165,17 +161,30 @@ impl Drawing {
 
 /// The nanoseconds of a part of the axis: one, two or five times a power of ten.
 fn step_of(span: u64) -> u64 {
-    let mut power = 1u64;
-    for _ in 0..20 {
-        for times in [1, 2, 5] {
-            let step = power.saturating_mul(times);
-            if span / step.max(1) < PARTS {
-                return step;
-            }
+    let mut step = 1u64;
+    for _ in 0..60 {
+        if span / step.max(1) < PARTS {
+            break;
         }
-        power = power.saturating_mul(10);
+        step = next_step(step);
     }
-    power
+    step
+}
+
+/// The next greater one of these numbers: of two, five and ten times a power of ten.
+fn next_step(step: u64) -> u64 {
+    let mut first = step;
+    for _ in 0..20 {
+        if first < 10 {
+            break;
+        }
+        first /= 10;
+    }
+    if first == 2 {
+        step.saturating_mul(5) / 2
+    } else {
+        step.saturating_mul(2)
+    }
 }
 
 /// A number of hundredths.

@@ -55,7 +55,7 @@ impl Display for Bytes {
         let Some(whole) = self.whole else {
             return write!(f, "{read}, {rate} a second");
         };
-        let percent = self.read.saturating_mul(100) / whole.max(1);
+        let percent = (self.read.saturating_mul(100) / whole.max(1)).min(100);
         let size = Size(whole);
         write!(f, "{percent}%, {read} of {size}, {rate} a second")?;
         write_left(f, self.read, whole, self.passed)
@@ -67,14 +67,21 @@ fn a_second(number: u64, nanos: u64) -> u64 {
     number.saturating_mul(1_000) / (nanos / 1_000_000).max(1)
 }
 
-/// Writes the time left: that of the rest, at the speed so far. Before anything is done, and once all is, nothing.
+/// Writes the time left, where something is done and something isn't.
 fn write_left<W: Write>(f: &mut Formatter<W>, done: u64, whole: u64, nanos: u64) -> fmt::Result {
     if done == 0 || whole <= done {
         return Ok(());
     }
-    let left = u128::from(nanos) * u128::from(whole - done) / u128::from(done);
+    let left = Seconds(seconds_left(done, whole, nanos));
+    write!(f, ", {left} left")
+}
+
+/// The seconds that the rest takes at the speed so far, at least one.
+fn seconds_left(done: u64, whole: u64, nanos: u64) -> u64 {
+    let rest = u128::from(whole.saturating_sub(done));
+    let left = u128::from(nanos).saturating_mul(rest) / u128::from(done.max(1));
     let seconds = u64::try_from(left / 1_000_000_000).unwrap_or(u64::MAX);
-    write!(f, ", {} left", Seconds(seconds.saturating_add(1)))
+    seconds.saturating_add(1)
 }
 
 /// A number of bytes in a unit that fits it.
@@ -83,18 +90,26 @@ struct Size(u64);
 
 impl Display for Size {
     fn fmt<W: Write>(&self, f: &mut Formatter<W>) -> fmt::Result {
-        let (unit, name) = match self.0 {
-            0..1_000 => return write!(f, "{} bytes", self.0),
-            1_000..1_000_000 => (1_000, "kB"),
-            1_000_000..1_000_000_000 => (1_000_000, "MB"),
-            _ => (1_000_000_000, "GB"),
-        };
-        write!(
-            f,
-            "{}.{} {name}",
-            self.0 / unit,
-            self.0 % unit / (unit / 10)
-        )
+        let bytes = self.0;
+        if bytes < 1_000 {
+            write!(f, "{bytes} bytes")
+        } else if bytes < 1_000_000 {
+            write!(f, "{} kB", Tenths(bytes / 100))
+        } else if bytes < 1_000_000_000 {
+            write!(f, "{} MB", Tenths(bytes / 100_000))
+        } else {
+            write!(f, "{} GB", Tenths(bytes / 100_000_000))
+        }
+    }
+}
+
+/// A number of tenths.
+#[derive(Clone, Copy)]
+struct Tenths(u64);
+
+impl Display for Tenths {
+    fn fmt<W: Write>(&self, f: &mut Formatter<W>) -> fmt::Result {
+        write!(f, "{}.{}", self.0 / 10, self.0 % 10)
     }
 }
 
@@ -105,10 +120,12 @@ struct Seconds(u64);
 impl Display for Seconds {
     fn fmt<W: Write>(&self, f: &mut Formatter<W>) -> fmt::Result {
         let (minutes, seconds) = (self.0 / 60, self.0 % 60);
-        match minutes {
-            0 => write!(f, "{seconds} s"),
-            1..60 => write!(f, "{minutes} min {seconds} s"),
-            _ => write!(f, "{} h {} min", minutes / 60, minutes % 60),
+        if minutes == 0 {
+            write!(f, "{seconds} s")
+        } else if minutes < 60 {
+            write!(f, "{minutes} min {seconds} s")
+        } else {
+            write!(f, "{} h {} min", minutes / 60, minutes % 60)
         }
     }
 }

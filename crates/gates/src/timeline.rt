@@ -121,25 +121,38 @@ impl<R: Clock> Display for Timeline<'_, R> {
     fn fmt<W: Write>(&self, f: &mut Formatter<W>) -> fmt::Result {
         let ended = self.ended.load(Ordering::SeqCst);
         let runs = self.runs.load(Ordering::SeqCst);
-        let kept = usize::try_from(ended).unwrap_or(usize::MAX);
         let mut drawing = Drawing::new(runs, ended);
-        for slot in self.slots.iter().take(kept) {
-            drawing.add(&slot.bar());
+        for slot in &self.slots {
+            let bar = slot.bar();
+            if bar.run > 0 {
+                drawing.add(&bar);
+            }
         }
-        drawing.write_head(f)?;
+        drawing.write_frame(f)?;
+        drawing.write_title(f)?;
         drawing.write_axis(f)?;
         for worker in 0..drawing.workers {
-            drawing.write_row(f, worker)?;
-            let mut busy = 0u64;
-            for slot in self.slots.iter().take(kept) {
-                let bar = slot.bar();
-                if bar.worker == worker {
-                    drawing.write_bar(f, &bar)?;
-                    busy = busy.saturating_add(bar.nanos());
-                }
-            }
-            drawing.write_row_end(f, busy)?;
+            write_row(f, &drawing, self.slots.as_slice(), worker)?;
         }
         writeln!(f, "</svg>")
     }
+}
+
+/// Writes a worker's row. Where no leaf was kept the run is 0.
+fn write_row<W: Write>(
+    f: &mut Formatter<W>,
+    drawing: &Drawing,
+    slots: &[Slot],
+    worker: u64,
+) -> fmt::Result {
+    drawing.write_row(f, worker)?;
+    let mut busy = 0u64;
+    for slot in slots {
+        let bar = slot.bar();
+        if bar.run > 0 && bar.worker == worker {
+            drawing.write_bar(f, &bar)?;
+            busy = busy.saturating_add(bar.nanos());
+        }
+    }
+    drawing.write_row_end(f, busy)
 }
