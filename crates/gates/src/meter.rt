@@ -1,4 +1,5 @@
 //! A gate that counts leaves, items and bytes, and shows how far a run has come.
+ghost use Rattle.std.specs.Prelude.{◌≡◌};
 
 use crate::Metered;
 use crate::standing::{Bytes, Leaves, Standing};
@@ -96,7 +97,9 @@ impl<'a, R: Clock + Eprint> Meter<'a, R> {
     /// let log = meter.reading(fs::open(&rt, "log")?, Some(fs::metadata(&rt, "log")?.len()));
     /// lines_of(log).map_lines(OwnLine { alloc }).count_on(&engine)?    // 35%, 1.2 GB of 3.4 GB, 480.0 MB a second, 5 s left
     /// ```
-    pub fn reading<I: Read>(&self, reader: I, whole: Option<u64>) -> Metered<'_, 'a, I, R> {
+    pub fn reading<I: Read>(&self, reader: I, whole: Option<u64>) -> Metered<'_, 'a, I, R>
+        ensures { result.reader ≡ reader }
+    {
         let _first = self.whole.try_set(whole);
         Metered {
             reader,

@@ -1,5 +1,4 @@
 //! A row of leaves for each run, as text.
-ghost use Rattle.std.specs.Prelude.{◌<◌};
 
 use std::fmt::{self, Display, Formatter, Write};
 use stealing_pool::{RunEntry, RunReport};
