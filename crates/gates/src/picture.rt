@@ -21,7 +21,8 @@ impl Display for Picture<'_> {
         for (place, entry) in self.0.entries().iter().enumerate() {
             let leaves = entry.leaves();
             let size = leaves.div_ceil(MOST).max(1);
-            write!(f, "run {}, {leaves} leaves", place.saturating_add(1))?;
+            let word = if leaves == 1 { "leaf" } else { "leaves" };
+            write!(f, "run {}, {leaves} {word}", place.saturating_add(1))?;
             if size > 1 {
                 write!(f, " by {size}")?;
             }
