@@ -15,10 +15,10 @@ const PARTS: u64 = 10;
 const SECOND: u64 = 1_000_000_000;
 
 const STYLE: &str =
-    "text{font:12px sans-serif;fill:#333}.a{fill:#2f6db3}.b{fill:#e08a2c}.row{fill:#eee}.tick{stroke:#ccc}.title{font-size:16px}";
+    "text{font:12px sans-serif;fill:#333}.a{fill:#1c5a9e}.b{fill:#5fa8e6}.row{fill:#eee}.tick{stroke:#ccc}.title{font-size:16px}";
 
 const NOTE: &str =
-    "A row a worker, with the part of the time that it was busy; a bar a leaf, in blue and orange by turns of runs";
+    "A row a worker, with the part of the time that it was busy; a bar a leaf, in dark and light blue by turns of runs";
 
 /// A leaf that was run, with its beginning and end in nanoseconds.
 #[derive(Clone, Copy)]

@@ -49,10 +49,10 @@ fn a_report_has_a_picture(rt: HostRuntime) -> Result<(), Fail> {
 /// from 3 s to 4 s, the third, whose end isn't read, from 5 s on.
 static TIMELINE: &str = "\
 <svg xmlns=\"http://www.w3.org/2000/svg\" width=\"1200\" height=\"122\">
-<style>text{font:12px sans-serif;fill:#333}.a{fill:#2f6db3}.b{fill:#e08a2c}.row{fill:#eee}.tick{stroke:#ccc}.title{font-size:16px}</style>
+<style>text{font:12px sans-serif;fill:#333}.a{fill:#1c5a9e}.b{fill:#5fa8e6}.row{fill:#eee}.tick{stroke:#ccc}.title{font-size:16px}</style>
 <rect width=\"1200\" height=\"122\" fill=\"#fff\"/>
 <text x=\"80\" y=\"26\" class=\"title\">workers: 1, runs: 1, leaves: 3, of which the first 2 are shown</text>
-<text x=\"80\" y=\"46\">A row a worker, with the part of the time that it was busy; a bar a leaf, in blue and orange by turns of runs</text>
+<text x=\"80\" y=\"46\">A row a worker, with the part of the time that it was busy; a bar a leaf, in dark and light blue by turns of runs</text>
 <g transform=\"translate(80,0)\"><path class=\"tick\" d=\"M0.00 64V92\"/><text x=\"0.00\" y=\"110\" text-anchor=\"middle\">0.0 s</text></g>
 <g transform=\"translate(80,0)\"><path class=\"tick\" d=\"M132.50 64V92\"/><text x=\"132.50\" y=\"110\" text-anchor=\"middle\">0.5 s</text></g>
 <g transform=\"translate(80,0)\"><path class=\"tick\" d=\"M265.00 64V92\"/><text x=\"265.00\" y=\"110\" text-anchor=\"middle\">1.0 s</text></g>
