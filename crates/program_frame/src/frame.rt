@@ -37,8 +37,9 @@ pub fn ended<R: Host>(rt: &R, name: &str, answer: Result<Answer, Failure>) -> Ex
 
 /// Writes an answer's text, before what is wrong beside it is told.
 fn write_answer<R: Host>(rt: &R, answer: Answer) -> Result<(), Failure> {
-    write(rt, &answer.text)?;
-    match answer.fault {
+    let Answer { text, fault } = answer;
+    write(rt, &text)?;
+    match fault {
         Some(fault) => Err(fault),
         None => Ok(()),
     }
