@@ -99,7 +99,7 @@ def of_orders(folder, orders):
     with subprocess.Popen(["cat", database], stdout=subprocess.PIPE) as pipe:
         yield "orders of a table of a pipe", run("orders", "--table", TABLE, stdin=pipe.stdout), wanted
     watched = run("orders", text, "--progress")
-    yield "orders with progress", (watched[:2], "leaves" in watched[2]), (wanted[:2], True)
+    yield "orders with progress", (watched[:2], "\n100%, " in watched[2]), (wanted[:2], True)
     with contextlib.closing(sqlite3.connect(folder / "logged.db")) as logged:
         logged.execute("PRAGMA journal_mode = wal")
         logged.execute("CREATE TABLE orders (customer TEXT, cents INTEGER)")

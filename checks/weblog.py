@@ -3,17 +3,20 @@
 
     checks/weblog.py
 
-The log is read from its file and through a pipe, with 1 and 4 workers, and in less memory than it has bytes. Then come logs that end early, that are no
-text or that can't be read, and outputs that can't be written. `rt ci` leaves the program built, and `rt run` in crates/weblog builds it.
+The log is read from its file and through a pipe, with 1 and 4 workers, in less memory than it has bytes, and with its progress and its timeline. Then
+come logs that end early, that are no text or that can't be read, and outputs that can't be written. `rt ci` leaves the program built, and `rt run` in
+crates/weblog builds it.
 """
 
 import collections
 import pathlib
 import random
+import re
 import resource
 import subprocess
 import sys
 import tempfile
+import xml.etree.ElementTree
 
 from built import ROOT, conclude
 
@@ -21,6 +24,7 @@ WEBLOG = ROOT / "crates" / "weblog" / "out" / "weblog"
 LINES = 800_000
 # the bytes of address space in which a log is read, by how many workers: each has a stack of its own
 LITTLE_MEMORY = {"1": 50_000_000, "4": 210_000_000}
+FULL = "/dev/full: No space left on device (os error 28)"
 # lines with a fault, and what is told of them
 BAD = [
     ("", "no client"),
@@ -111,7 +115,27 @@ def whole_log(file, log):
     yield "four times as long in little memory, 4 workers", in_little_memory(four, "4"), (True, *answers(4 * log, four))
     status, output, error = run(file, "--progress")
     yield "with its progress: the answers", (status, output), wanted[:2]
-    yield "with its progress: a line of it", "leaves" in error and error.endswith(wanted[2]), True
+    yield "with its progress: a line of it", "\n100%, " in error and error.endswith(wanted[2]), True
+    with open(file, "rb") as text:
+        yield "with its progress, of a file as standard input", "\n100%, " in run("--progress", stdin=text)[2], True
+    with subprocess.Popen(["cat", file], stdout=subprocess.PIPE) as pipe:
+        yield "with its progress, through a pipe", len(re.findall(" MB, .* a second\n", run("--progress", stdin=pipe.stdout)[2])), 7
+    yield from timelines(file, wanted)
+
+
+def timelines(file, wanted):
+    """Pictures of which worker ran which leaf, and files that can't be written."""
+    picture = file.with_name("timeline.svg")
+    for workers in ("1", "4"):
+        yield f"with its timeline: the answers, {workers} workers", run(file, "--workers", workers, "--timeline", picture), wanted
+        shown = xml.etree.ElementTree.parse(picture).getroot()
+        rows = [row for row in shown.iter("{*}g") if "worker" in "".join(row.itertext())]
+        leaves = len(list(shown.iter("{*}title")))
+        yield f"with its timeline: rows and leaves, {workers} workers", (len(rows), leaves > 25 * 4 * int(workers)), (int(workers), True)
+    none = file.with_name("none") / "picture"
+    yield "a timeline in no folder", run(file, "--timeline", none), (3, "", f"weblog: {none}: No such file or directory (os error 2)\n")
+    yield "a timeline that is full", run("--timeline", "/dev/full", input=b""), (3, answers([])[1], f"weblog: {FULL}\n")
+    yield "a timeline that is full, and bad lines", run(file, "--timeline", "/dev/full"), (*wanted[:2], f"{FULL}\n{wanted[2]}")
 
 
 def other_logs(log, folder):

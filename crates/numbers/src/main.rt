@@ -8,9 +8,7 @@ mod line;
 
 use line::NumberOrLine;
 use mohairjade::*;
-use program_frame::{
-    Both, Failure, Host, Task, Words, ended, given_words, meter_of, parse, run_of,
-};
+use program_frame::{Answer, Both, Failure, Host, Task, Watch, Words, ended, given_words, parse};
 use std::hash::RandomState;
 use std::io::{IsTerminal, Read};
 use std::process::ExitCode;
@@ -53,25 +51,21 @@ fn main(rt: HostRuntime) -> ExitCode {
 fn command<R: Host + Files + Input + Threads + Clock + Sync>(
     rt: &R,
     is_terminal: bool,
-) -> Result<String, Failure>
+) -> Result<Answer, Failure>
 where
     R::File: Send,
     R::Reader: Send,
 {
     let given = given_words(rt)?;
     let words = parse(rt.alloc(), &WORDS, given.as_slice())?;
-    let run = run_of(&words);
-    let Some(meter) = meter_of(rt, is_terminal, &words) else {
-        return answer(&Task::new(rt, &run, &words)?);
-    };
-    let text = answer(&Task::new(rt, &run.with_gate(&meter), &words)?);
-    meter.finish();
-    text
+    let watch = Watch::new(rt, is_terminal, &words)?;
+    let answer = answer(&Task::new(rt, &watch, &words)?);
+    watch.end(answer)
 }
 
-fn answer<R: Host + Files + Input + Threads + Clock + Sync, G: Gate + Sync>(
-    task: &Task<'_, '_, R, G>,
-) -> Result<String, Failure>
+fn answer<R: Host + Files + Input + Threads + Clock + Sync>(
+    task: &Task<'_, '_, R>,
+) -> Result<Answer, Failure>
 where
     R::File: Send,
     R::Reader: Send,
@@ -81,7 +75,7 @@ where
         None => None,
     };
     match answers(&task.engine, reader, task.hashes()?) {
-        Ok(Ok(text)) => Ok(text),
+        Ok(Ok(text)) => Ok(Answer::of(text)),
         Ok(Err(line)) => Err(no_number(task, &line)),
         Err(error) => Err(task.bad_lines(error)),
     }
@@ -152,7 +146,7 @@ where
 }
 
 /// The failure of a line.
-fn no_number<R: Host + Files + Input, G>(task: &Task<'_, '_, R, G>, line: &str) -> Failure {
+fn no_number<R: Host + Files + Input + Clock>(task: &Task<'_, '_, R>, line: &str) -> Failure {
     match format!(in task.engine.alloc; "{line:?} is no whole number between -2^31 and 2^31") {
         Ok(what) => task.bad_data(&what),
         Err(refused) => Failure::NoMemory(refused),

@@ -9,7 +9,7 @@ mod table;
 use mohairjade::*;
 use order::{Order, orders_of_text};
 use program_frame::{
-    Failure, Host, Task, ValueOption, Words, ended, given_words, meter_of, parse, run_of,
+    Answer, Failure, Host, Task, ValueOption, Watch, Words, ended, given_words, parse,
 };
 use serde::Serialize;
 use std::alloc::AllocError;
@@ -66,21 +66,17 @@ fn main(rt: HostRuntime) -> ExitCode {
 fn command<R: Host + Files + Input + Threads + Clock + Sync>(
     rt: &R,
     is_terminal: bool,
-) -> Result<String, Failure> {
+) -> Result<Answer, Failure> {
     let given = given_words(rt)?;
     let words = parse(rt.alloc(), &WORDS, given.as_slice())?;
-    let run = run_of(&words);
-    let Some(meter) = meter_of(rt, is_terminal, &words) else {
-        return answer(&Task::new(rt, &run, &words)?);
-    };
-    let text = answer(&Task::new(rt, &run.with_gate(&meter), &words)?);
-    meter.finish();
-    text
+    let watch = Watch::new(rt, is_terminal, &words)?;
+    let answer = answer(&Task::new(rt, &watch, &words)?);
+    watch.end(answer)
 }
 
-fn answer<R: Host + Files + Input + Threads + Clock + Sync, G: Gate + Sync>(
-    task: &Task<'_, '_, R, G>,
-) -> Result<String, Failure> {
+fn answer<R: Host + Files + Input + Threads + Clock + Sync>(
+    task: &Task<'_, '_, R>,
+) -> Result<Answer, Failure> {
     let alloc = task.engine.alloc;
     let orders = match task.words.get_str("table") {
         Some(table) => orders_of_table(task, table)?,
@@ -102,5 +98,5 @@ fn answer<R: Host + Files + Input + Threads + Clock + Sync, G: Gate + Sync>(
     }
     let mut text = serde_json::to_string(alloc, &spent).map_err(|_| Failure::NoMemory(AllocError))?;
     text.push_str("\n")?;
-    Ok(text)
+    Ok(Answer::of(text))
 }

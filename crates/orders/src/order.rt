@@ -4,6 +4,7 @@ use program_frame::{Failure, Host, Task};
 use serde::Deserialize;
 use std::alloc::AllocError;
 use std::rt::Files;
+use std::time::Clock;
 
 /// An order: who ordered, and for how much.
 #[derive(Deserialize, Drop)]
@@ -13,8 +14,8 @@ pub struct Order {
 }
 
 /// The orders of a CSV text.
-pub fn orders_of_text<R: Host + Files + Input, G>(
-    task: &Task<'_, '_, R, G>,
+pub fn orders_of_text<R: Host + Files + Input + Clock>(
+    task: &Task<'_, '_, R>,
 ) -> Result<Vec<Order>, Failure> {
     let alloc = task.engine.alloc;
     let mut orders = Vec::new(alloc);
@@ -25,7 +26,7 @@ pub fn orders_of_text<R: Host + Files + Input, G>(
 }
 
 /// The failure of a text.
-fn no_text<R: Host + Files + Input, G>(task: &Task<'_, '_, R, G>, error: Error) -> Failure {
+fn no_text<R: Host + Files + Input + Clock>(task: &Task<'_, '_, R>, error: Error) -> Failure {
     let what = format!(in task.engine.alloc; "{error}");
     match (error.into_kind(), what) {
         (ErrorKind::Io(error), _) => task.unread(error),

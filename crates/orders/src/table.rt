@@ -11,10 +11,11 @@ use std::fs;
 use std::hash::BuildHasher;
 use std::io::{ErrorKind, Read};
 use std::rt::Files;
+use std::time::Clock;
 
 /// The orders of a table, by its rowids.
-pub fn orders_of_table<R: Host + Files + Input, G>(
-    task: &Task<'_, '_, R, G>,
+pub fn orders_of_table<R: Host + Files + Input + Clock>(
+    task: &Task<'_, '_, R>,
     table: &str,
 ) -> Result<Vec<Order>, Failure> {
     let alloc = task.engine.alloc;
@@ -34,8 +35,8 @@ pub fn orders_of_table<R: Host + Files + Input, G>(
 }
 
 /// The order of a row.
-fn order_of<R: Host + Files + Input, G>(
-    task: &Task<'_, '_, R, G>,
+fn order_of<R: Host + Files + Input + Clock>(
+    task: &Task<'_, '_, R>,
     row: &Row,
 ) -> Result<Order, Failure> {
     let (what, error) = match (row.get(0), row.get(1)) {
@@ -52,8 +53,8 @@ fn order_of<R: Host + Files + Input, G>(
 }
 
 /// The database of the file, with what its log holds.
-fn database_of<R: Host + Files + Input, G>(
-    task: &Task<'_, '_, R, G>,
+fn database_of<R: Host + Files + Input + Clock>(
+    task: &Task<'_, '_, R>,
 ) -> Result<Connection<FileStore<Memory>>, Failure> {
     let alloc = task.engine.alloc;
     let mut bytes = Vec::new(alloc);
@@ -79,8 +80,8 @@ fn database_of<R: Host + Files + Input, G>(
 }
 
 /// The bytes of a file beside the database's; none where it is missing.
-fn beside<R: Host + Files + Input, G>(
-    task: &Task<'_, '_, R, G>,
+fn beside<R: Host + Files + Input + Clock>(
+    task: &Task<'_, '_, R>,
     ending: &str,
 ) -> Result<Vec<u8>, Failure> {
     let alloc = task.engine.alloc;
@@ -109,8 +110,8 @@ fn disk_of(alloc: Global, bytes: &[u8]) -> Result<Memory, AllocError>
 const NO_MEMORY: Error = Error::SqliteFailure(ErrorCode::OutOfMemory);
 
 /// The failure of a database.
-fn failed<R: Host + Files + Input, G>(
-    task: &Task<'_, '_, R, G>,
+fn failed<R: Host + Files + Input + Clock>(
+    task: &Task<'_, '_, R>,
     table: &str,
     error: Error,
 ) -> Failure {

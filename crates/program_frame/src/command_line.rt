@@ -1,11 +1,10 @@
 //! The command line.
 use crate::{Failure, Host};
 use clap::{Arg, ArgAction, ArgMatches, Command, value_parser};
-use mohairjade::{Looks, Meter, NoGate, Run};
+use mohairjade::{NoGate, Run};
 use std::alloc::Global;
 use std::convert::AsStr;
 use std::env;
-use std::time::Clock;
 
 const DEFAULT_WORKERS: u32 = 4;
 
@@ -20,7 +19,7 @@ Status:
   2  a fault of the command line
   3  out of memory, or a file that can't be read or written";
 
-/// What a program's command line may say beside its workers, its progress and its help.
+/// What a program's command line may say beside its workers, its progress, its timeline and its help.
 #[derive(Clone, Copy)]
 pub struct Words {
     /// The program's name.
@@ -48,19 +47,9 @@ pub fn given_words<R: Host>(rt: &R) -> Result<Vec<String>, Failure> {
 }
 
 /// The run that the words ask for.
-pub fn run_of(words: &ArgMatches<'_>) -> Run<'static, NoGate> {
+pub(crate) fn run_of(words: &ArgMatches<'_>) -> Run<'static, NoGate> {
     let workers = words.get_one("workers").unwrap_or(DEFAULT_WORKERS);
     Run::new(workers.clamp(1, MOST_WORKERS))
-}
-
-/// The meter of a run that is watched, as the words ask for, on standard error.
-pub fn meter_of<'a, R: Host + Clock>(
-    rt: &'a R,
-    is_terminal: bool,
-    words: &ArgMatches<'_>,
-) -> Option<Meter<'a, R>> {
-    let is_watched = words.get_flag("progress");
-    is_watched.then(|| Meter::new(rt, Looks::of_terminal(rt, is_terminal)))
 }
 
 /// What the words of a command line say.
@@ -79,7 +68,8 @@ pub fn parse<'a, S: AsStr>(
                 .help(words.file),
         )?
         .arg(workers(alloc))?
-        .arg(progress(alloc))?;
+        .arg(progress(alloc))?
+        .arg(timeline(alloc))?;
     for option in words.options {
         command = command.arg(valued(alloc, option))?;
     }
@@ -100,6 +90,14 @@ fn progress<'a>(alloc: Global) -> Arg<'a> {
         .long("progress")
         .action(ArgAction::SetTrue)
         .help("Tells on standard error how far it has come")
+}
+
+fn timeline<'a>(alloc: Global) -> Arg<'a> {
+    Arg::new(alloc, "timeline")
+        .long("timeline")
+        .value_name("SVG")
+        .action(ArgAction::Set)
+        .help("Draws which worker ran which leaf, and when, to this file")
 }
 
 fn valued<'a>(alloc: Global, option: &ValueOption) -> Arg<'a> {

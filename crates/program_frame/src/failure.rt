@@ -31,9 +31,9 @@ pub enum Failure {
     BadData(String),
     #[error("out of memory")]
     NoMemory(#[from(alloc)] AllocError),
-    /// What isn't read, and why.
+    /// What isn't read, or a file that isn't written, and why.
     #[error("{0}: {1}")]
-    Unread(String, io::Error),
+    File(String, io::Error),
     #[error("standard output: {0}")]
     Unwritten(io::Error),
 }
@@ -67,7 +67,7 @@ impl Failure {
         match self {
             Failure::BadData(_) => BAD_DATA,
             Failure::Words(_) | Failure::NoWords(_) => BAD_WORDS,
-            Failure::NoMemory(_) | Failure::Unread(_, _) | Failure::Unwritten(_) => FAILED,
+            Failure::NoMemory(_) | Failure::File(_, _) | Failure::Unwritten(_) => FAILED,
         }
     }
 }
@@ -80,10 +80,10 @@ pub(crate) fn bad_data(alloc: Global, name: &str, what: &impl Display) -> Failur
     }
 }
 
-/// The failure of a reader of this name.
-pub(crate) fn unread(alloc: Global, name: &str, error: io::Error) -> Failure {
+/// The failure of a reader, or of a file, of this name.
+pub(crate) fn failed(alloc: Global, name: &str, error: io::Error) -> Failure {
     match String::from_str(alloc, name) {
-        Ok(name) => Failure::Unread(name, error),
+        Ok(name) => Failure::File(name, error),
         Err(refused) => Failure::NoMemory(refused),
     }
 }

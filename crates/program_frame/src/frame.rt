@@ -4,10 +4,24 @@ use crate::{Failure, Host};
 use clap::error::ErrorKind;
 use std::process::ExitCode;
 
-/// Ends a program: writes its text, or the help that is asked for, to standard output, or tells on standard error why there is none.
-pub fn ended<R: Host>(rt: &R, name: &str, answer: Result<String, Failure>) -> ExitCode {
+/// What a program answers: a text, and what is wrong beside it.
+#[derive(Drop)]
+pub struct Answer {
+    pub text: String,
+    pub fault: Option<Failure>,
+}
+
+impl Answer {
+    /// A text, where nothing is wrong.
+    pub fn of(text: String) -> Answer {
+        Answer { text, fault: None }
+    }
+}
+
+/// Ends a program: writes its text, or the help that is asked for, to standard output, and tells on standard error what is wrong.
+pub fn ended<R: Host>(rt: &R, name: &str, answer: Result<Answer, Failure>) -> ExitCode {
     match answer
-        .and_then(|text| write(rt, &text))
+        .and_then(|answer| write_answer(rt, answer))
         .or_else(|failure| help(rt, failure))
     {
         Ok(()) => ExitCode::from(SUCCESS),
@@ -18,6 +32,16 @@ pub fn ended<R: Host>(rt: &R, name: &str, answer: Result<String, Failure>) -> Ex
             };
             ExitCode::from(failure.status())
         }
+    }
+}
+
+/// Writes an answer's text, before what is wrong beside it is told.
+fn write_answer<R: Host>(rt: &R, answer: Answer) -> Result<(), Failure> {
+    let Answer { text, fault } = answer;
+    write(rt, &text)?;
+    match fault {
+        Some(fault) => Err(fault),
+        None => Ok(()),
     }
 }
 

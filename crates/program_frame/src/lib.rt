@@ -1,14 +1,11 @@
-//! What the programs over data share: their command line, their input, the meter of a run, and how they end.
+//! What the programs over data share: their command line, their input, what watches a run, and how they end.
 //!
 //! ```text
 //! let given = given_words(rt)?;
 //! let words = parse(rt.alloc(), &WORDS, given.as_slice())?;
-//! let run = run_of(&words);
-//! let Some(meter) = meter_of(rt, is_terminal, &words) else {
-//!     return answer(&Task::new(rt, &run, &words)?);
-//! };
-//! let text = answer(&Task::new(rt, &run.with_gate(&meter), &words)?);
-//! meter.finish();
+//! let watch = Watch::new(rt, is_terminal, &words)?;
+//! let answer = answer(&Task::new(rt, &watch, &words)?);
+//! watch.end(answer)
 //! ```
 #![tactic(auto)]
 
@@ -18,10 +15,12 @@ mod failure;
 mod frame;
 mod host;
 mod task;
+mod watch;
 
 pub use both::Both;
-pub use command_line::{ValueOption, Words, given_words, meter_of, parse, run_of};
+pub use command_line::{ValueOption, Words, given_words, parse};
 pub use failure::Failure;
-pub use frame::ended;
+pub use frame::{Answer, ended};
 pub use host::Host;
-pub use task::Task;
+pub use task::{Reading, Task};
+pub use watch::{Watch, WatchGate};

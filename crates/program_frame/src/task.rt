@@ -1,37 +1,41 @@
 //! What a program is asked to do.
-use crate::Host;
-use crate::failure::{Failure, bad_data, unread};
+use crate::command_line::run_of;
+use crate::failure::{Failure, bad_data, failed};
+use crate::{Host, Watch, WatchGate};
 use clap::ArgMatches;
 use either::Either;
-use mohairjade::{Engine, LinesError, Run};
+use mohairjade::{Engine, LinesError, Metered};
 use std::alloc::AllocError;
 use std::fmt::Display;
 use std::hash::RandomState;
 use std::rt::Files;
+use std::time::Clock;
 use std::{fs, io};
+
+/// A file, or else standard input; a meter is told what is read of it.
+pub type Reading<'m, 'a, R> = Metered<'m, 'a, Either<<R as Files>::File, <R as Input>::Reader>, R>;
 
 /// What a program is asked to do: the words of its command line, and the engine that it runs on.
 #[derive(Drop)]
-pub struct Task<'a, 'w, R, G> {
-    pub engine: Engine<'a, R, G>,
+pub struct Task<'a, 'w, R> {
+    pub engine: Engine<'a, R, WatchGate<'a, R>>,
     pub words: &'a ArgMatches<'w>,
 }
 
-impl<'a, 'w, R: Host, G> Task<'a, 'w, R, G> {
-    /// What these words ask of such a run.
+impl<'a, 'w, R: Host + Files + Input + Clock> Task<'a, 'w, R> {
+    /// What these words ask of a run that is watched so.
     pub fn new(
         rt: &'a R,
-        run: &Run<'a, G>,
+        watch: &'a Watch<'a, R>,
         words: &'a ArgMatches<'w>,
-    ) -> Result<Task<'a, 'w, R, G>, Failure> {
+    ) -> Result<Task<'a, 'w, R>, Failure> {
+        let run = run_of(words).with_gate(&watch.gate);
         Ok(Task {
-            engine: Engine::new(rt, rt.alloc(), run)?,
+            engine: Engine::new(rt, rt.alloc(), &run)?,
             words,
         })
     }
-}
 
-impl<R: Host + Files + Input, G> Task<'_, '_, R, G> {
     /// The file that is named.
     pub fn file(&self) -> Option<&str> {
         self.words.get_str("FILE")
@@ -43,13 +47,29 @@ impl<R: Host + Files + Input, G> Task<'_, '_, R, G> {
     }
 
     /// The file that is named, or else standard input.
-    pub fn input(&self) -> Result<Either<R::File, R::Reader>, Failure> {
-        let Some(name) = self.file() else {
-            return Ok(Either::Right(self.engine.rt.reader()));
+    pub fn input(&self) -> Result<Reading<'_, 'a, R>, Failure> {
+        let reader = match self.file() {
+            None => Either::Right(self.engine.rt.reader()),
+            Some(name) => match fs::open(self.engine.rt, name) {
+                Ok(file) => Either::Left(file),
+                Err(error) => return Err(self.unread(error)),
+            },
         };
-        match fs::open(self.engine.rt, name) {
-            Ok(file) => Ok(Either::Left(file)),
-            Err(error) => Err(self.unread(error)),
+        Ok(match &self.engine.run.gate.first {
+            Some(meter) => meter.reading(reader, self.size()),
+            None => Metered {
+                reader,
+                meter: None,
+            },
+        })
+    }
+
+    /// How many bytes the input has, where it is a file that tells so.
+    fn size(&self) -> Option<u64> {
+        let name = self.file().unwrap_or("/dev/stdin");
+        match fs::metadata(self.engine.rt, name) {
+            Ok(data) if data.is_file() && data.len() > 0 => Some(data.len()),
+            _ => None,
         }
     }
 
@@ -60,7 +80,7 @@ impl<R: Host + Files + Input, G> Task<'_, '_, R, G> {
 
     /// The failure of an input that isn't read.
     pub fn unread(&self, error: io::Error) -> Failure {
-        unread(self.engine.alloc, self.name(), error)
+        failed(self.engine.alloc, self.name(), error)
     }
 
     /// The failure of the input's lines.
@@ -74,7 +94,7 @@ impl<R: Host + Files + Input, G> Task<'_, '_, R, G> {
 
     /// What hashes are drawn from, which nobody who makes the data foresees.
     pub fn hashes(&self) -> Result<RandomState, Failure> {
-        RandomState::new(self.engine.rt).map_err(|error| unread(
+        RandomState::new(self.engine.rt).map_err(|error| failed(
             self.engine.alloc,
             "random numbers",
             error,

@@ -5,8 +5,7 @@ mod answers;
 mod line;
 
 use answers::answer;
-use mohairjade::Gate;
-use program_frame::{Failure, Host, Task, Words, ended, given_words, meter_of, parse, run_of};
+use program_frame::{Answer, Failure, Host, Task, Watch, Words, ended, given_words, parse};
 use std::io::IsTerminal;
 use std::process::ExitCode;
 use std::rt::Files;
@@ -28,26 +27,22 @@ fn main(rt: HostRuntime) -> ExitCode {
 fn command<R: Host + Files + Input + Threads + Clock + Sync>(
     rt: &R,
     is_terminal: bool,
-) -> Result<String, Failure>
+) -> Result<Answer, Failure>
 where
     R::File: Send,
     R::Reader: Send,
 {
     let given = given_words(rt)?;
     let words = parse(rt.alloc(), &WORDS, given.as_slice())?;
-    let run = run_of(&words);
-    let Some(meter) = meter_of(rt, is_terminal, &words) else {
-        return text(&Task::new(rt, &run, &words)?);
-    };
-    let text = text(&Task::new(rt, &run.with_gate(&meter), &words)?);
-    meter.finish();
-    text
+    let watch = Watch::new(rt, is_terminal, &words)?;
+    let answer = text(&Task::new(rt, &watch, &words)?);
+    watch.end(answer)
 }
 
-/// The answers. Where lines are bad they are written here, and the lines told as what is wrong with the data.
-fn text<R: Host + Files + Input + Threads + Clock + Sync, G: Gate + Sync>(
-    task: &Task<'_, '_, R, G>,
-) -> Result<String, Failure>
+/// The answers, and the lines that are bad as what is wrong with the data.
+fn text<R: Host + Files + Input + Threads + Clock + Sync>(
+    task: &Task<'_, '_, R>,
+) -> Result<Answer, Failure>
 where
     R::File: Send,
     R::Reader: Send,
@@ -57,9 +52,7 @@ where
         Err(error) => return Err(task.bad_lines(error)),
     };
     let text = format!(in task.engine.alloc; "{answers}")?;
-    if answers.faults.number == 0 {
-        return Ok(text);
-    }
-    print!(task.engine.rt; "{text}").map_err(Failure::Unwritten)?;
-    Err(task.bad_data(&answers.faults))
+    let is_whole = answers.faults.number == 0;
+    let fault = (!is_whole).then(|| task.bad_data(&answers.faults));
+    Ok(Answer { text, fault })
 }

@@ -3,8 +3,10 @@
 use gates::Stop;
 use spliterator::NoMemory;
 use stages::Mapping;
+use std::alloc::Global;
 use std::fmt::Display;
 use std::io;
+use std::sync::OnceLock;
 use std::sync::atomic::{AtomicU64, Ordering};
 use std::time::{Clock, Duration};
 use stealing_pool::Gate;
@@ -76,15 +78,17 @@ impl<'a> Mapping<i64> for SetsAt<'a> {
     }
 }
 
-/// A clock that goes on by a millisecond a reading.
+/// A clock that goes on by so many milliseconds a reading.
 #[derive(Drop)]
 pub struct Ticks {
+    millis: u64,
     read: AtomicU64,
 }
 
 impl Ticks {
-    pub fn new() -> Ticks {
+    pub fn of(millis: u64) -> Ticks {
         Ticks {
+            millis,
             read: AtomicU64::new(0),
         }
     }
@@ -92,7 +96,8 @@ impl Ticks {
 
 impl Clock for Ticks {
     fn monotonic(&self) -> io::Result<Duration> {
-        Ok(Duration::from_millis(self.read.fetch_add(1, Ordering::SeqCst)))
+        let read = self.read.fetch_add(1, Ordering::SeqCst);
+        Ok(Duration::from_millis(read.saturating_mul(self.millis)))
     }
 
     fn since_1970(&self) -> io::Result<Duration> {
@@ -100,23 +105,53 @@ impl Clock for Ticks {
     }
 }
 
-/// A standard error that counts what is told, beside a clock.
+/// A standard error that keeps the first texts that are told and counts all, beside a clock.
 #[derive(Drop)]
 pub struct Screen {
     pub clock: Ticks,
+    alloc: Global,
     told: AtomicU64,
+    texts: [OnceLock<String>; 4],
 }
 
 impl Screen {
-    pub fn new() -> Screen {
+    pub fn new(alloc: Global, millis: u64) -> Screen {
         Screen {
-            clock: Ticks::new(),
+            clock: Ticks::of(millis),
+            alloc,
             told: AtomicU64::new(0),
+            texts: [
+                OnceLock::new(),
+                OnceLock::new(),
+                OnceLock::new(),
+                OnceLock::new(),
+            ],
         }
     }
 
     pub fn told(&self) -> u64 {
         self.told.load(Ordering::SeqCst)
+    }
+
+    /// One of the first texts.
+    pub fn text(&self, place: usize) -> &str {
+        match self.texts.get(place) {
+            Some(lock) => match lock.get() {
+                Some(text) => text.as_str(),
+                None => "",
+            },
+            None => "",
+        }
+    }
+
+    fn keep<D: Display + Drop>(&self, value: D) {
+        let place = usize::try_from(self.told.fetch_add(1, Ordering::SeqCst));
+        if let (Some(lock), Ok(text)) = (
+            self.texts.get(place.unwrap_or(usize::MAX)),
+            value.to_string(self.alloc),
+        ) {
+            let _first = lock.try_set(text);
+        }
     }
 }
 
@@ -131,13 +166,13 @@ impl Clock for Screen {
 }
 
 impl Eprint for Screen {
-    fn eprint<D: Display + Drop>(&self, _value: D) -> io::Result<()> {
-        self.told.fetch_add(1, Ordering::SeqCst);
+    fn eprint<D: Display + Drop>(&self, value: D) -> io::Result<()> {
+        self.keep(value);
         Ok(())
     }
 
-    fn eprintln<D: Display + Drop>(&self, _value: D) -> io::Result<()> {
-        self.told.fetch_add(1, Ordering::SeqCst);
+    fn eprintln<D: Display + Drop>(&self, value: D) -> io::Result<()> {
+        self.keep(value);
         Ok(())
     }
 }

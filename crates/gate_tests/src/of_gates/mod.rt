@@ -1,10 +1,12 @@
 //! Runs that are stopped, and how soon.
 
 mod doubles;
+mod progress;
+mod shown;
 
 use collectors::SummingLong;
-use doubles::{Counts, Screen, SetsAt, Ticks};
-use gates::{Deadline, Ended, Halt, Looks, Meter, Stop, Until};
+use doubles::{Counts, SetsAt, Ticks};
+use gates::{Deadline, Ended, GatePair, Halt, Stop, Until};
 use parallel_streams::{Engine, Run, Stream, StreamError, of};
 use sources::RangeSplit;
 use spliterator::NoMemory;
@@ -103,7 +105,7 @@ fn a_stop_is_noticed_within_a_stretch(rt: HostRuntime) -> Result<(), StreamError
 // The clock is read once before the run, and goes on by a millisecond a reading: for the run, for its first leaf, and after each stretch.
 #[test]
 fn a_deadline_ends_a_run(rt: HostRuntime) -> Result<(), Fail> {
-    let (clock, stop, gate) = (Ticks::new(), Stop::new(), Counts::new());
+    let (clock, stop, gate) = (Ticks::of(1), Stop::new(), Counts::new());
     let met = AtomicU64::new(0);
     let begun = Instant::now(&clock)?;
     let Some(at) = begun.checked_add(Duration::from_millis(5)) else {
@@ -119,34 +121,20 @@ fn a_deadline_ends_a_run(rt: HostRuntime) -> Result<(), Fail> {
     Ok(())
 }
 
-/// Looks, leaves of one item, and how often a meter tells of one worker's run over them: a line for each tenth; a bar each 100 readings of the clock,
-/// which is read for each leaf twice and for each drawing, and at the end.
-static TOLD: [(Looks, i64, u64); 4] = [
-    (Looks::Lines, 4, 4),
-    (Looks::Lines, 16, 10),
-    (Looks::Bar, 4, 2),
-    (Looks::Bar, 128, 4),
-];
-
+// Where one is missing the other is told the same.
 #[test]
-fn a_meter_tells_how_far_a_run_has_come(rt: HostRuntime) -> Result<(), StreamError> {
-    for &(looks, items, wanted) in &TOLD {
-        let screen = Screen::new();
-        let meter = Meter::new(&screen, looks);
-        let run = Run {
-            workers: 1,
-            target: 1,
-            gate: &meter,
+fn of_a_pair_both_are_told(rt: HostRuntime) -> Result<(), StreamError> {
+    for has_second in [true, false] {
+        let pair = GatePair {
+            first: Some(Counts::new()),
+            second: has_second.then(|| Counts::new()),
         };
-        let engine = Engine::new(&rt, rt.alloc(), &run)?;
-        let numbers = of(RangeSplit::range(0, items).expect(&rt, "a range"));
+        let engine = Engine::new(&rt, rt.alloc(), &Run::new(2).with_gate(&pair))?;
+        let numbers = of(RangeSplit::range(0, ITEMS).expect(&rt, "a range"));
         let sum = numbers.collect_on(&engine, &SummingLong::new(Itself))?;
-        meter.finish();
-        let told = screen.told();
-        assert!(&rt;
-            sum == items.wrapping_mul(items.wrapping_sub(1)) / 2 && told == wanted,
-            "{items}: {told}"
-        );
+        let told = |gate: &Counts| (gate.runs(), gate.begun()) == (1, 8);
+        assert!(&rt; sum == 499_999_500_000 && pair.first.as_ref().is_some_and(told));
+        assert!(&rt; pair.second.as_ref().is_some_and(told) == has_second);
     }
     Ok(())
 }
