@@ -68,6 +68,7 @@ pub use gates::Timeline;
 pub use gates::Until;
 pub use line_blocks::LinesError;
 pub use line_readers::LineFunction;
+pub use line_readers::BarredLines;
 pub use line_readers::LineStream;
 pub use line_readers::LinesOf;
 pub use line_readers::OwnLine;
