@@ -1,13 +1,15 @@
 //! Lines of readers that give few bytes at a time, are interrupted, or fail.
+ghost use Rattle.std.specs.Prelude.{◌<◌};
 ghost use Rattle.reader_tests.specs.Checked.{checked, checked-value};
 
-use crate::slow::{fails_behind, slow};
+use crate::slow::{ThreeBytes, fails_behind, slow};
 use collectors::{Counting, ToList};
 use derived_collectors::Trying;
 use line_blocks::LinesError;
-use line_readers::{LineFunction, LineStream, OwnLine, lines_of};
+use line_readers::{LineFunction, LineStream, OwnLine, ReadLines, lines_of};
 use parallel_streams::{Engine, Run};
 use spliterator::NoMemory;
+use stages::Nothing;
 use std::alloc::Global;
 use std::process::Abort;
 use std::thread::Threads;
@@ -95,20 +97,26 @@ fn lines_or_the_place_of_a_fault(rt: HostRuntime) -> Result<(), LinesError> {
     Ok(())
 }
 
+/// Two of four lines are longer than a block.
+fn long_lines(
+    alloc: Global,
+    longest: usize,
+) -> ReadLines<ThreeBytes<'static>, OwnLine, Nothing<String>> {
+    let lines = lines_of(slow(b"a\nbcdefgh\ni\njklmnopq\n")).in_blocks_of(3);
+    let lines = lines.with_lines_below(longest);
+    lines.map_lines(OwnLine { alloc })
+}
+
 #[test]
 fn lines_that_are_longer_than_a_block(rt: HostRuntime) -> Result<(), LinesError> {
     let alloc = rt.alloc();
     let engine = engine_of(&rt, 4);
     let list = ToList::<String>::new(alloc);
-    let lines = |longest| {
-        let lines = lines_of(slow(b"a\nbcdefgh\ni\njklmnopq\n")).in_blocks_of(3);
-        lines.with_lines_below(longest).map_lines(OwnLine { alloc })
-    };
-    let texts = lines(9).collect_on(&engine, &list)?;
+    let texts = long_lines(alloc, 9).collect_on(&engine, &list)?;
     assert!(&rt; are(&texts, &["a", "bcdefgh", "i", "jklmnopq"]));
-    let told = lines(8).collect_on(&engine, &list);
+    let told = long_lines(alloc, 8).collect_on(&engine, &list);
     assert!(&rt; matches!(told, Err(LinesError::LongLine(12) | LinesError::NoMemory)));
-    let texts = lines(0).limit(1).collect_on(&engine, &list);
+    let texts = long_lines(alloc, 0).limit(1).collect_on(&engine, &list);
     assert!(&rt; matches!(texts, Err(LinesError::LongLine(2) | LinesError::NoMemory)));
     Ok(())
 }
@@ -242,26 +250,49 @@ fn leave<R: Threads + Clock + Abort + Alloc<A = Global> + Sync, L: LineStream<It
     Ok(())
 }
 
+/// The seven lines, in blocks of so many bytes.
+fn seven(alloc: Global, size: usize) -> ReadLines<ThreeBytes<'static>, OwnLine, Nothing<String>>
+    requires { 0 < size }
+{
+    let lines = lines_of(slow(SEVEN)).in_blocks_of(size);
+    lines.map_lines(OwnLine { alloc })
+}
+
 fn barriers_leave<R: Threads + Clock + Abort + Alloc<A = Global> + Sync>(
     engine: &Engine<'_, R, NoGate>,
     size: usize,
-) -> Result<(), LinesError> {
-    let own = OwnLine {
-        alloc: engine.alloc,
-    };
-    let lines = || lines_of(slow(SEVEN)).in_blocks_of(size).map_lines(own);
-    leave(engine, lines().skip(1), &["bb", "a", "ccc", "", "bb", "d"])?;
-    leave(engine, lines().skip(9), &[])?;
-    leave(engine, lines().limit(3), &["a", "bb", "a"])?;
-    leave(engine, lines().limit(0), &[])?;
-    leave(engine, lines().distinct(), &["a", "bb", "ccc", "", "d"])?;
-    leave(engine, lines().take_while(SOME), &["a", "bb", "a", "ccc"])?;
-    leave(engine, lines().drop_while(SOME), &["", "bb", "d"])?;
-    let third = lines().filter(SOME).skip(2).limit(1);
+) -> Result<(), LinesError>
+    requires { 0 < size }
+{
+    let alloc = engine.alloc;
+    leave(
+        engine,
+        seven(alloc, size).skip(1),
+        &["bb", "a", "ccc", "", "bb", "d"],
+    )?;
+    leave(engine, seven(alloc, size).skip(9), &[])?;
+    leave(engine, seven(alloc, size).limit(3), &["a", "bb", "a"])?;
+    leave(engine, seven(alloc, size).limit(0), &[])?;
+    leave(
+        engine,
+        seven(alloc, size).distinct(),
+        &["a", "bb", "ccc", "", "d"],
+    )?;
+    leave(
+        engine,
+        seven(alloc, size).take_while(SOME),
+        &["a", "bb", "a", "ccc"],
+    )?;
+    leave(
+        engine,
+        seven(alloc, size).drop_while(SOME),
+        &["", "bb", "d"],
+    )?;
+    let third = seven(alloc, size).filter(SOME).skip(2).limit(1);
     leave(engine, third, &["a"])?;
-    let differing = lines().skip(1).filter(SOME).distinct().limit(3);
+    let differing = seven(alloc, size).skip(1).filter(SOME).distinct().limit(3);
     leave(engine, differing, &["bb", "a", "ccc"])?;
-    let later = lines().drop_while(SOME).filter(SOME).skip(1);
+    let later = seven(alloc, size).drop_while(SOME).filter(SOME).skip(1);
     leave(engine, later, &["d"])
 }
 
@@ -275,21 +306,23 @@ fn barriers_go_on_from_block_to_block(rt: HostRuntime) -> Result<(), LinesError>
     Ok(())
 }
 
+/// Four lines, and a byte that is no text.
+fn spoilt(alloc: Global) -> ReadLines<ThreeBytes<'static>, OwnLine, Nothing<String>> {
+    let lines = lines_of(slow(b"ab\nc\nd\ne\n\xff\n")).in_blocks_of(4);
+    lines.map_lines(OwnLine { alloc })
+}
+
 #[test]
 fn nothing_is_told_of_what_stands_behind_a_limit(rt: HostRuntime) -> Result<(), LinesError> {
     let alloc = rt.alloc();
     let engine = engine_of(&rt, 4);
-    let lines = || lines_of(slow(b"ab\nc\nd\ne\n\xff\n")).in_blocks_of(4);
-    let own = OwnLine { alloc };
-    let number = lines().map_lines(own).limit(3).count_on(&engine)?;
+    let number = spoilt(alloc).limit(3).count_on(&engine)?;
     assert!(&rt; number == 3);
     let mut texts = Vec::new(alloc);
-    let few = lines()
-        .map_lines(own)
-        .take_while(Composed(Length, Above(1)));
+    let few = spoilt(alloc).take_while(Composed(Length, Above(1)));
     few.for_each_ordered(&engine, &mut texts)?;
     assert!(&rt; are(&texts, &["ab"]));
-    let all = lines().map_lines(own).limit(5).count_on(&engine);
+    let all = spoilt(alloc).limit(5).count_on(&engine);
     assert!(&rt; matches!(all, Err(LinesError::NotUtf8(9) | LinesError::NoMemory)));
     Ok(())
 }

@@ -141,3 +141,8 @@ returns-in_err-take_all-clause-spoilt g c =
     let next = c.take_all.new.self in
     on-err c.from_residual-in_err-take_all.result (g.K.Sink.spoils c.args.action.now next)
     (g.met.K.Sink.spoils_later c.args.action.now c.loop.action next taken.0 taken.1 c.in_err-take_all.ensures.spoilt)
+
+pub take_all-requires : goal.take_all-requires
+take_all-requires g c =
+    let taken = c.loop.invariant.taken in
+    g.met.K.Sink.stays_ready c.args.action.now c.loop.action taken.0 taken.1 c.requires.action
