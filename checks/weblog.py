@@ -24,7 +24,7 @@ WEBLOG = ROOT / "crates" / "weblog" / "out" / "weblog"
 LINES = 800_000
 # the bytes of address space in which a log is read, by how many workers: each has a stack of its own
 LITTLE_MEMORY = {"1": 50_000_000, "4": 210_000_000}
-FULL = "/dev/full: No space left on device (os error 28)"
+SVG, FULL = "{http://www.w3.org/2000/svg}", "/dev/full: No space left on device (os error 28)"
 # lines with a fault, and what is told of them
 BAD = [
     ("", "no client"),
@@ -129,8 +129,8 @@ def timelines(file, wanted):
     for workers in ("1", "4"):
         yield f"with its timeline: the answers, {workers} workers", run(file, "--workers", workers, "--timeline", picture), wanted
         shown = xml.etree.ElementTree.parse(picture).getroot()
-        rows = [row for row in shown.iter("{*}g") if "worker" in "".join(row.itertext())]
-        leaves = len(list(shown.iter("{*}title")))
+        rows = [row for row in shown.iter(f"{SVG}g") if "worker" in "".join(row.itertext())]
+        leaves = len(list(shown.iter(f"{SVG}title")))
         yield f"with its timeline: rows and leaves, {workers} workers", (len(rows), leaves > 25 * 4 * int(workers)), (int(workers), True)
     none = file.with_name("none") / "picture"
     yield "a timeline in no folder", run(file, "--timeline", none), (3, "", f"weblog: {none}: No such file or directory (os error 2)\n")
