@@ -1,6 +1,6 @@
 //! What a line of the log says.
 ghost use Rattle.std.specs.Prelude.{◌≡◌, ◌<◌, ◌==◌, ℕ, suc, option_map};
-ghost use Rattle.mohairjade.specs.Words.{both, both-decides, by_first, by_first-ties, by_first-total, bytes_cmp-ties, bytes_cmp-total, bytes_eq, bytes_eq-decides, int_cmp, int_cmp-ties, int_cmp-total, int_eq, int_eq-decides, nat_cmp, slice_cmp, string_bytes, ⊤};
+ghost use Rattle.mohairjade.specs.Words.{both, both-decides, by_first, by_first-ties, by_first-total, bytes_cmp-ties, bytes_cmp-total, bytes_eq, bytes_eq-decides, int_cmp, int_cmp-ties, int_cmp-total, int_eq, int_eq-decides, nat_cmp, piece, slice_cmp, string_bytes, ⊤};
 ghost use Rattle.weblog.specs.Log.{IsRequest, fault, figure, figure-value, name, parsed, parsed-value};
 ghost use Rattle.weblog.specs.Log as spec;
 

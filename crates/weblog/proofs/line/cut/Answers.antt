@@ -1,7 +1,7 @@
 use Rattle.std.proofs.Common.{◌≡◌, ◌==◌, ◌∙◌, ℕ, zero, suc, Bool, List, [], length, ap, sym, refl, arith}
 use Rattle.std.specs.List.{position_or_len, before_first, after_first}
 use Rattle.std.proofs.lemmas.List.{take_all, drop_all}
-use Rattle.mohairjade.specs.Words.{piece}
+use Rattle.stream_functions.specs.Pieces.{piece}
 use Rattle.weblog.proofs.line.cut.Goals as goal
 
 first-piece : (ends : ℕ → Bool) (text : List ℕ) → before_first ends text ≡ piece ends zero text

@@ -1,5 +1,5 @@
 use Rattle.std.proofs.Common.{◌≡◌, ◌∙◌, ap, refl, rules, ℤ, List, ℕ, to_z, of_z, w64}
-use Rattle.std.specs.Prelude.{Option, Some, None}
+use Rattle.std.specs.Prelude.{Option, None}
 use Rattle.std.proofs.lemmas.Int.{wraps}
 use Rattle.weblog.specs.Log as spec
 use Rattle.weblog.proofs.line.RequestsLineFunction.read.Goals as goal
