@@ -258,49 +258,131 @@ fn seven(alloc: Global, size: usize) -> ReadLines<ThreeBytes<'static>, OwnLine, 
     lines.map_lines(OwnLine { alloc })
 }
 
-fn barriers_leave<R: Threads + Clock + Abort + Alloc<A = Global> + Sync>(
+fn one_skips<R: Threads + Clock + Abort + Alloc<A = Global> + Sync>(
     engine: &Engine<'_, R, NoGate>,
     size: usize,
 ) -> Result<(), LinesError>
     requires { 0 < size }
 {
-    let alloc = engine.alloc;
     leave(
         engine,
-        seven(alloc, size).skip(1),
+        seven(engine.alloc, size).skip(1),
         &["bb", "a", "ccc", "", "bb", "d"],
-    )?;
-    leave(engine, seven(alloc, size).skip(9), &[])?;
-    leave(engine, seven(alloc, size).limit(3), &["a", "bb", "a"])?;
-    leave(engine, seven(alloc, size).limit(0), &[])?;
+    )
+}
+
+fn one_limits<R: Threads + Clock + Abort + Alloc<A = Global> + Sync>(
+    engine: &Engine<'_, R, NoGate>,
+    size: usize,
+) -> Result<(), LinesError>
+    requires { 0 < size }
+{
     leave(
         engine,
-        seven(alloc, size).distinct(),
+        seven(engine.alloc, size).limit(3),
+        &["a", "bb", "a"],
+    )?;
+    leave(engine, seven(engine.alloc, size).limit(0), &[])
+}
+
+fn differing_stay<R: Threads + Clock + Abort + Alloc<A = Global> + Sync>(
+    engine: &Engine<'_, R, NoGate>,
+    size: usize,
+) -> Result<(), LinesError>
+    requires { 0 < size }
+{
+    leave(
+        engine,
+        seven(engine.alloc, size).distinct(),
         &["a", "bb", "ccc", "", "d"],
-    )?;
+    )
+}
+
+fn one_takes_while<R: Threads + Clock + Abort + Alloc<A = Global> + Sync>(
+    engine: &Engine<'_, R, NoGate>,
+    size: usize,
+) -> Result<(), LinesError>
+    requires { 0 < size }
+{
     leave(
         engine,
-        seven(alloc, size).take_while(SOME),
+        seven(engine.alloc, size).take_while(SOME),
         &["a", "bb", "a", "ccc"],
-    )?;
+    )
+}
+
+fn one_drops_while<R: Threads + Clock + Abort + Alloc<A = Global> + Sync>(
+    engine: &Engine<'_, R, NoGate>,
+    size: usize,
+) -> Result<(), LinesError>
+    requires { 0 < size }
+{
     leave(
         engine,
-        seven(alloc, size).drop_while(SOME),
+        seven(engine.alloc, size).drop_while(SOME),
         &["", "bb", "d"],
-    )?;
-    let third = seven(alloc, size).filter(SOME).skip(2).limit(1);
-    leave(engine, third, &["a"])?;
-    let differing = seven(alloc, size).skip(1).filter(SOME).distinct().limit(3);
-    leave(engine, differing, &["bb", "a", "ccc"])?;
-    let later = seven(alloc, size).drop_while(SOME).filter(SOME).skip(1);
-    leave(engine, later, &["d"])
+    )
+}
+
+fn two_leave_the_third<R: Threads + Clock + Abort + Alloc<A = Global> + Sync>(
+    engine: &Engine<'_, R, NoGate>,
+    size: usize,
+) -> Result<(), LinesError>
+    requires { 0 < size }
+{
+    leave(
+        engine,
+        seven(engine.alloc, size).filter(SOME).skip(2).limit(1),
+        &["a"],
+    )
+}
+
+fn three_leave_the_first_that_differ<R: Threads + Clock + Abort + Alloc<A = Global> + Sync>(
+    engine: &Engine<'_, R, NoGate>,
+    size: usize,
+) -> Result<(), LinesError>
+    requires { 0 < size }
+{
+    leave(
+        engine,
+        seven(engine.alloc, size)
+            .skip(1)
+            .filter(SOME)
+            .distinct()
+            .limit(3),
+        &["bb", "a", "ccc"],
+    )
+}
+
+fn two_leave_the_last<R: Threads + Clock + Abort + Alloc<A = Global> + Sync>(
+    engine: &Engine<'_, R, NoGate>,
+    size: usize,
+) -> Result<(), LinesError>
+    requires { 0 < size }
+{
+    leave(
+        engine,
+        seven(engine.alloc, size)
+            .drop_while(SOME)
+            .filter(SOME)
+            .skip(1),
+        &["d"],
+    )
 }
 
 #[test]
 fn barriers_go_on_from_block_to_block(rt: HostRuntime) -> Result<(), LinesError> {
     for workers in [1, 4] {
+        let engine = engine_of(&rt, workers);
         for size in [4, 5, 7, 64] {
-            barriers_leave(&engine_of(&rt, workers), size)?;
+            one_skips(&engine, size)?;
+            one_limits(&engine, size)?;
+            differing_stay(&engine, size)?;
+            one_takes_while(&engine, size)?;
+            one_drops_while(&engine, size)?;
+            two_leave_the_third(&engine, size)?;
+            three_leave_the_first_that_differ(&engine, size)?;
+            two_leave_the_last(&engine, size)?;
         }
     }
     Ok(())
