@@ -16,7 +16,7 @@ use Rattle.stealing_pool.specs.Jobs.{Work, EndsLeaf, StandsForRun}
 use Rattle.stealing_pool.specs.Reports.{Reports}
 use Rattle.stealing_pool.specs.Spans.{joined, work_of}
 use Rattle.stealing_pool.specs.SpanLaws.{leaf-ends}
-use Rattle.parallel_streams.specs.LeafLaws.{joined-through}
+use Rattle.parallel_streams.specs.LeafLaws.{joined-through, map-fused}
 use Rattle.parallel_streams.specs.Progress.{EndedThinned, barred_work}
 use Rattle.parallel_streams.specs.ProgressLaws.{ends-own, ends-own_ok}
 use Rattle.parallel_streams.specs.declared.part.Part.{Part}
@@ -105,3 +105,11 @@ pub carried-link : {C : Type 0} (needed : Option ℕ) (counted : C → Bool) (im
     → (more : List C) → old (flat_map images (whole ++ more)) ≡ left ++ now (flat_map images more)
 carried-link needed counted images old now law whole front left outcome carried more =
     ap old (flat_map-append images whole more) ∙ goes-on needed counted old now law (flat_map images whole) front left outcome carried (flat_map images more)
+
+-- what holds of the leaves' lists through the first link's stage and another fused holds through one after the other
+pub through-fused : {A G C D : Type 0} (expand : A → C → List C) (onward : G → C → List D) (P : List (List D) → Type 0) (a a' : A) (b b' : G) (parts lists : List (List C))
+    → a ≡ a' → b ≡ b' → lists ≡ map (flat_map (expand a')) parts → P (map (flat_map (λ x. flat_map (onward b) (expand a x))) parts) → P (map (flat_map (onward b')) lists)
+through-fused {A} {G} expand onward P a a' b b' parts lists first second is fused =
+    let Q : A → Type 0 = λ x. P (map (flat_map (λ y. flat_map (onward b) (expand x y))) parts) in
+    let R : G → Type 0 = λ x. P (map (flat_map (λ y. flat_map (onward x) (expand a' y))) parts) in
+    subst P (map-fused (expand a') (onward b') parts ∙ ap (map (flat_map (onward b'))) (sym is)) (subst R second (subst Q first fused))

@@ -1,5 +1,5 @@
 -- What holds of chains of links.
-use Rattle.std.specs.Prelude.{◌≡◌, ◌<◌, ◌==◌, ◌&&◌, ℕ, zero, suc, Bool, true, false, List, [], ◌∷◌, ◌++◌, Option, Some, None, drop, flat_map, length, map, slice_get, slice_index_or, slice_set, refl}
+use Rattle.std.specs.Prelude.{◌≡◌, ◌<◌, ◌≤◌, ◌==◌, ◌&&◌, ℕ, zero, suc, Bool, true, false, List, [], ◌∷◌, ◌++◌, Option, Some, None, drop, flat_map, length, map, slice_get, slice_index_or, slice_set, refl}
 use Rattle.std.proofs.Common.{sym, ap, ◌∙◌, subst, arith, true≢false, append-nil}
 use Rattle.std.specs.declared.cmp.Ordering.{Ordering}
 use Rattle.std.proofs.lemmas.List.{length-map}
@@ -44,10 +44,10 @@ module _ {L C : Type 0} (images : L → C → List C) (parts : List (List C)) wh
   first-none (link ∷ links) (suc run) is = absurd (omega (arith, is))
 
   -- behind the stage of the first link
-  pub first-some : (links : List L) (run : ℕ) (link : L) → 0 < run → 0 < length links → link ≡ slice_index_or links 0 link → first_lists images links run parts ≡ map (flat_map (images link)) parts
-  first-some [] run link later some is = absurd (omega (arith, some))
-  first-some (l ∷ links) zero link later some is = absurd (omega (arith, later))
-  first-some (l ∷ links) (suc run) link later some is = ap (λ x. map (flat_map (images x)) parts) (sym is)
+  pub first-some : (links : List L) (run : ℕ) (link : L) → 0 < run → run ≤ length links → link ≡ slice_index_or links 0 link → first_lists images links run parts ≡ map (flat_map (images link)) parts
+  first-some [] run link later within is = absurd (omega (arith, later, within))
+  first-some (l ∷ links) zero link later within is = absurd (omega (arith, later))
+  first-some (l ∷ links) (suc run) link later within is = ap (λ x. map (flat_map (images x)) parts) (sym is)
 
 -- the next run has the leaves that are told
 module _ {L T C : Type 0} (images : L → C → List C) (content : T → C) (links : List L) (run : ℕ) where
@@ -58,10 +58,13 @@ module _ {L T C : Type 0} (images : L → C → List C) (content : T → C) (lin
   chain-leaves false before own parts n None counts of_before of_own = of_before refl
   chain-leaves done before own parts n (Some l) counts of_before of_own = counts ∙ length-cut_at 0 (ends_of l.places) (map content l.items.items)
 
-  pub count-lists : (done : Bool) (parts : List (List C)) (n : ℕ) (listed : Option (Listed T)) → is_own_turn done listed ≡ true
+  pub count-lists : (done : Bool) (parts : List (List C)) (n : ℕ) (listed : Option (Listed T)) → (is_own_turn done listed && (run == length links)) ≡ true
       → (done ≡ true → length parts ≡ n) → length (lists_of images content links run parts listed) ≡ next_leaves n listed
-  count-lists done parts n None is of_own = first-count images parts links run ∙ of_own is
-  count-lists done parts n (Some l) is of_own = length-cut_at 0 (ends_of l.places) (map content l.items.items)
+  count-lists done parts n listed is of_own = count listed (both-true (is_own_turn done listed) (run == length links) is).0
+    where
+      count : (l : Option (Listed T)) → is_own_turn done l ≡ true → length (lists_of images content links run parts l) ≡ next_leaves n l
+      count None turn = first-count images parts links run ∙ of_own turn
+      count (Some l) turn = length-cut_at 0 (ends_of l.places) (map content l.items.items)
 
 module _ {L S C : Type 0} (step : L → S → List C → List C) where
   -- fresh links in their states make their value
@@ -219,10 +222,10 @@ nothing-at (l ∷ lists) (suc leaf) = nothing-at lists leaf
 
 -- a leaf of the present list
 module _ {L T C : Type 0} (images : L → C → List C) (content : T → C) (links : List L) (run : ℕ) (parts : List (List C)) (listed : Option (Listed T)) (l : Listed T) (leaf : ℕ) (is : listed ≡ Some l) where
-  pub within-list : (leaves : ℕ) → leaves ≡ length (lists_of images content links run parts listed) → leaf < leaves → leaf < length (ends_of l.places)
-  within-list leaves all within =
+  pub within-list : leaf < length (lists_of images content links run parts listed) → leaf < length (ends_of l.places)
+  within-list within =
       let Q : ℕ → Type 0 = λ n. leaf < n in
-      subst Q (all ∙ ap (λ o. length (lists_of images content links run parts o)) is ∙ length-cut_at 0 (ends_of l.places) (map content l.items.items)) within
+      subst Q (ap (λ o. length (lists_of images content links run parts o)) is ∙ length-cut_at 0 (ends_of l.places) (map content l.items.items)) within
 
   -- its items, through a stage
   pub list-at : {D : Type 0} (through : List C → List D) (part : List T) → slice_get (cut_at 0 (ends_of l.places) l.items.items) leaf ≡ Some part

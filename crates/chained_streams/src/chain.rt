@@ -14,7 +14,7 @@ ghost use Rattle.parallel_streams.specs.Progress.{barred_work, next_leaves};
 ghost use Rattle.chained_streams.specs.Chains.{AreFresh, HoldsChain, IsFirstRun, IsPlannedChain, behind_links, is_own_turn, left_of_chain, link_behind, link_value, link_work, links_waiting, lists_of, through_links};
 ghost use Rattle.chained_streams.specs.ChainReading.{EnoughLink, FirstLets, LetsPass, ReadsChain, SomeEnough, StandLinks, StandsLink};
 ghost use Rattle.chained_streams.specs.ChainReadingLaws.{links-read};
-ghost use Rattle.chained_streams.specs.ChainLaws.{IsSound-unknown, both-true, chain-leaves, chain-parts, chain-whole, count-lists};
+ghost use Rattle.chained_streams.specs.ChainLaws.{IsSound-unknown, chain-leaves, chain-parts, chain-whole, count-lists};
 
 use barriers::{Barrier, Behind, Demand, Need};
 use collectors::{Collector, ToList};
@@ -249,9 +249,8 @@ where
     ghost cut_law = { λ s workers target p held planned done. tt };
 
     ghost parts_count = { λ s p done.
-        let turn = both-true (is_own_turn (U.done s.upstream p.before) p.listed) (p.run == length s.links.items) done in
         let count = count-lists (λ link. A.expand link.stage) U.Item.content s.links.items p.run (U.done s.upstream p.before) in
-        count (U.parts s.upstream p.before) (U.leaves_next s.upstream p.before) p.listed turn.0 (U.parts_count s.upstream p.before) };
+        count (U.parts s.upstream p.before) (U.leaves_next s.upstream p.before) p.listed done (U.parts_count s.upstream p.before) };
 
     fn known_size(&self) -> Option<u64> {
         None

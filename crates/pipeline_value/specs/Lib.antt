@@ -1,5 +1,5 @@
-pub mod Arrangements
 pub mod Barriers
+pub mod Groups
 pub mod Items
 pub mod Typed
 pub mod Value

@@ -49,7 +49,7 @@ number_told (terminals.AnyMatch p) l = Ok (truth_text (any_meets (number_holds p
 number_told (terminals.NoneMatch p) l = Ok (truth_text (not (any_meets (number_holds p) l)))
 number_told (terminals.GroupBy f summary) l = Ok (groups_text signed_decimal int_eq (number_image f) (number_summary_text summary) l)
 number_told (terminals.Partition p summary) l = Ok (parts_text (number_holds p) (number_summary_text summary) l)
-number_told (terminals.ToMap key (value, merge)) l = Ok (merged_text signed_decimal signed_decimal int_eq (number_image key) (number_image value) (number_join merge) l)
+number_told (terminals.ToMap key value) l = Ok (merged_text signed_decimal signed_decimal int_eq (number_image key) (number_image value.0) (number_join value.1) l)
 number_told (terminals.ToMapStrict key value) l = strict_told signed_decimal signed_decimal int_eq (number_image key) (number_image value) l
 number_told (terminals.Teeing one other) l = Ok (pair_text (number_summary_text one l) (number_summary_text other l))
 

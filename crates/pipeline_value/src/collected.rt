@@ -3,10 +3,9 @@
 ghost use Rattle.std.specs.Prelude.{Ok, List};
 ghost use Rattle.pipeline_value.specs.Value.{Tells};
 
-use crate::engine::Engine;
-use crate::told::{ValueError, ran};
+use crate::told::ValueError;
 use collectors::Collector;
-use parallel_streams::{Plumbing, Stream};
+use parallel_streams::{Engine, Plumbing, Stream};
 use std::alloc::Global;
 use std::thread::Threads;
 use std::time::Clock;
@@ -14,26 +13,21 @@ use stealing_pool::Gate;
 use value_text::{Rope, Summarizes, Written, write_result};
 
 /// The text of what a collector makes of a stream.
-pub(crate) fn collected<R, X, C, H>(
-    engine: &Engine<'_, R, H>,
+pub(crate) fn collected<X, C>(
+    engine: &Engine<'_, impl Threads + Clock + Sync, impl Gate + Sync>,
     stream: &X,
     collector: &C,
 ) -> Result<Rope, ValueError>
 where
-    R: Threads + Clock + Sync,
     X: Plumbing,
     C: Summarizes + Collector<Item = X::Item> + Sync,
     C::Acc: Send,
     C::Out: Written + Send,
-    H: Gate + Sync,
     requires stream { X.ready stream.now }
     requires collector { C.ready collector.now }
     ensures { Tells (Ok (C.summary collector.now (X.value stream.now))) result }
 {
-    let made = ran(
-        engine,
-        stream.collect(engine.rt, engine.alloc, &engine.run, collector),
-    )?;
+    let made = stream.collect_on(engine, collector)?;
     told_summary(engine.alloc, collector, &made)
 }
 

@@ -11,12 +11,13 @@ ghost use Rattle.pipeline_plan.specs.Outlooks.{IsOutlook};
 ghost use Rattle.pipeline_value.specs.Typed.{number_told, text_end_told, text_told};
 ghost use Rattle.pipeline_value.specs.Value.{Tells};
 
-use crate::engine::Engine;
 use crate::told::{ValueError, told};
+use parallel_streams::Engine;
 use pipeline_language::{NumberTerminal, NumberTotal, TextEnd, TextTerminal};
 use pipeline_plan::{
     NumberRange, Numbers, Outlook, Plan, PlanSource, Texts, known_sum, outlook_of,
 };
+use std::alloc::Global;
 use value_text::Rope;
 
 /// A number of items, as an `i64` that wraps.
@@ -76,15 +77,15 @@ pub(crate) fn known_text_count<'a>(outlook: Outlook, end: &TextEnd<'a>) -> Optio
 /// ```text
 /// range 0 10, skip 3, map negate, limit 5, count    // 5
 /// ```
-pub(crate) fn known_number_count<S: PlanSource<Numbers>, R, H>(
-    engine: &Engine<'_, R, H>,
+pub(crate) fn known_number_count<S: PlanSource<Numbers>>(
+    alloc: Global,
     plan: &Plan<S, Numbers>,
     terminal: &NumberTerminal,
 ) -> Option<Result<Rope, ValueError>>
     ensures { IfSome result (Tells (number_told terminal.now (number_stages plan.now.stages.items (S.items plan.now.source)))) }
 {
     let count = number_count(outlook_of::<Numbers, S>(plan), terminal)?;
-    Some(told(engine.alloc, &count))
+    Some(told(alloc, &count))
 }
 
 /// The text of the sum of a plan's numbers, where it is known. A target of the user's own has its leaves run.

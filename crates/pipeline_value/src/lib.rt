@@ -2,24 +2,19 @@
 #![tactic(auto)]
 
 mod arranged;
-mod arrangements;
 mod collected;
-mod engine;
+mod groups;
 mod known;
 mod language_stages;
 mod laws;
 mod linked;
 mod maps;
-mod nested;
 mod number_end;
-mod number_groups;
 mod numbers;
 mod ranges;
 mod sizes;
 mod text_end;
-mod text_groups;
 mod text_maps;
-mod text_parts;
 mod texts;
 mod told;
 mod totals;

@@ -6,12 +6,10 @@ ghost use Rattle.value_text.specs.Texts.{merged_text};
 ghost use Rattle.pipeline_value.specs.Value.{Tells, strict_told};
 
 use crate::collected::collected;
-use crate::engine::Engine;
-use crate::nested::merged;
-use crate::told::{ValueError, ran, told};
-use collectors::{Collector, DuplicateKey, ToMapStrict};
+use crate::told::{ValueError, told};
+use collectors::{Collector, DuplicateKey, ToMap, ToMapStrict};
 use indexmap::IndexMap;
-use parallel_streams::{Plumbing, Stream};
+use parallel_streams::{Engine, Plumbing, Stream};
 use pipeline_meaning::SeededHashes;
 use spliterator::{EqualValue, Value};
 use stages::{Mapping, Operator};
@@ -23,22 +21,21 @@ use stealing_pool::Gate;
 use value_text::{Rope, Spelled, text_of};
 
 /// The text of the map of a stream's keys and values, where values of one key are merged.
-pub(crate) fn merged_value<R, X, U, K, V, M, H>(
-    engine: &Engine<'_, R, H>,
+pub(crate) fn merged_value<X, U, K, V, M>(
+    engine: &Engine<'_, impl Threads + Clock + Sync, impl Gate + Sync>,
+    hashes: SeededHashes,
     stream: &X,
     key: K,
     value: V,
     merge: M,
 ) -> Result<Rope, ValueError>
 where
-    R: Threads + Clock + Sync,
     X: Plumbing,
     U: Spelled + Drop + Send + Sync,
     K: Mapping<X::Item> + Drop + Sync,
     V: Mapping<X::Item, Out = U> + Drop + Sync,
     M: Operator<U> + Drop + Sync,
     K::Out: EqualValue + Spelled + Hash + Drop + Send,
-    H: Gate + Sync,
     requires stream { X.ready stream.now }
     requires keys { K.ready key }
     requires values { V.ready value }
@@ -46,35 +43,31 @@ where
     requires associative { IsAssociative U.is_value (M.join merge) }
     ensures { Tells (Ok (merged_text K.Out.spelling U.spelling K.Out.same (K.image key) (V.image value) (M.join merge) (X.value stream.now))) result }
 {
-    let map = merged(engine.alloc, engine.hashes, key, value, merge);
+    let map = ToMap::with_hasher(engine.alloc, key, value, merge, hashes);
     collected(engine, stream, &map)
 }
 
 /// The text of the map of a stream's keys and values, or of the first key that comes again.
-pub(crate) fn strict_value<R, X, K, V, H>(
-    engine: &Engine<'_, R, H>,
+pub(crate) fn strict_value<X, K, V>(
+    engine: &Engine<'_, impl Threads + Clock + Sync, impl Gate + Sync>,
+    hashes: SeededHashes,
     stream: &X,
     key: K,
     value: V,
 ) -> Result<Rope, ValueError>
 where
-    R: Threads + Clock + Sync,
     X: Plumbing,
     K: Mapping<X::Item> + Drop + Sync,
     V: Mapping<X::Item> + Drop + Sync,
     K::Out: EqualValue + Spelled + Hash + Drop + Send,
     V::Out: Spelled + Drop + Send,
-    H: Gate + Sync,
     requires stream { X.ready stream.now }
     requires keys { K.ready key }
     requires values { V.ready value }
     ensures { Tells (strict_told K.Out.spelling V.Out.spelling K.Out.same (K.image key) (V.image value) (X.value stream.now)) result }
 {
-    let strict = ToMapStrict::with_hasher(engine.alloc, key, value, engine.hashes);
-    let made = ran(
-        engine,
-        stream.collect(engine.rt, engine.alloc, &engine.run, &strict),
-    )?;
+    let strict = ToMapStrict::with_hasher(engine.alloc, key, value, hashes);
+    let made = stream.collect_on(engine, &strict)?;
     told_strict(engine.alloc, &strict, &made)
 }
 

@@ -1,68 +1,94 @@
 //! What the terminals make of numbers.
 
+ghost use Rattle.std.specs.Prelude.{◌≡◌, true};
+ghost use Rattle.pipeline_value.specs.Groups.{arranges};
 ghost use Rattle.pipeline_value.specs.Typed.{number_told};
 ghost use Rattle.pipeline_value.specs.Value.{Tells};
 
-use crate::arranged::arranged_value;
-use crate::engine::Engine;
+use crate::arranged::{group_value, paired_value, parted_value};
+use crate::groups::number_group;
 use crate::maps::{merged_value, strict_value};
-use crate::number_groups::number_arrangement;
-use crate::told::{ValueError, ran_optional, ran_text, ran_told};
+use crate::told::{ValueError, told, told_item};
 use crate::totals::total_value;
-use parallel_streams::{Plumbing, Stream};
+use parallel_streams::{Engine, Plumbing, Stream};
 use pipeline_language::NumberTerminal;
-use pipeline_meaning::{NumberCheck as Check, NumberMapping as Mapping, NumberMerging};
+use pipeline_meaning::{
+    NumberCheck as Check, NumberMapping as Mapping, NumberMerging, SeededHashes, number_summary,
+};
 use std::thread::Threads;
 use std::time::Clock;
 use stealing_pool::Gate;
 use value_text::{JoinedText, Rope};
 
 /// The text of a terminal's value on a stream of numbers.
-pub(crate) fn number_end<R, X, H>(
-    engine: &Engine<'_, R, H>,
+pub(crate) fn number_end<X>(
+    engine: &Engine<'_, impl Threads + Clock + Sync, impl Gate + Sync>,
+    hashes: SeededHashes,
     stream: &X,
     terminal: &NumberTerminal,
 ) -> Result<Rope, ValueError>
 where
-    R: Threads + Clock + Sync,
     X: Plumbing<Item = i64>,
-    H: Gate + Sync,
     requires stream { X.ready stream.now }
     ensures { Tells (number_told terminal.now (X.value stream.now)) result }
 {
-    if let Some(arrangement) = number_arrangement(engine, terminal) {
-        return arranged_value(engine, stream, arrangement);
-    }
-    let (rt, alloc, run) = (engine.rt, engine.alloc, &engine.run);
+    let alloc = engine.alloc;
     match *terminal {
-        NumberTerminal::Count => ran_told(engine, stream.count(rt, alloc, run)),
-        NumberTerminal::FindFirst => ran_optional(engine, stream.find_first(rt, alloc, run)),
-        NumberTerminal::ToList => {
-            let list = JoinedText::list(alloc);
-            ran_text(engine, stream.collect(rt, alloc, run, &list))
-        }
+        NumberTerminal::Count => told(alloc, &stream.count_on(engine)?),
+        NumberTerminal::FindFirst => told_item(alloc, &stream.find_first_on(engine)?),
+        NumberTerminal::ToList => Ok(stream.collect_on(engine, &JoinedText::list(alloc))?),
         NumberTerminal::AllMatch(test) => {
-            let check = Check::of(test);
-            ran_told(engine, stream.all_match(rt, alloc, run, &check))
+            told(alloc, &stream.all_match_on(engine, &Check::of(test))?)
         }
         NumberTerminal::AnyMatch(test) => {
-            let check = Check::of(test);
-            ran_told(engine, stream.any_match(rt, alloc, run, &check))
+            told(alloc, &stream.any_match_on(engine, &Check::of(test))?)
         }
         NumberTerminal::NoneMatch(test) => {
-            let check = Check::of(test);
-            ran_told(engine, stream.none_match(rt, alloc, run, &check))
+            told(alloc, &stream.none_match_on(engine, &Check::of(test))?)
         }
-        NumberTerminal::ToMap(key, (value, merge)) => {
-            let (key, value) = (Mapping::of(key), Mapping::of(value));
-            merged_value(engine, stream, key, value, NumberMerging::of(merge))
+        NumberTerminal::ToMap(key, value) => {
+            let merge = NumberMerging::of(value.1);
+            let (key, value) = (Mapping::of(key), Mapping::of(value.0));
+            merged_value(engine, hashes, stream, key, value, merge)
         }
         NumberTerminal::ToMapStrict(key, value) => {
-            strict_value(engine, stream, Mapping::of(key), Mapping::of(value))
+            strict_value(engine, hashes, stream, Mapping::of(key), Mapping::of(value))
         }
         NumberTerminal::Own(total) => total_value(engine, stream, total),
         NumberTerminal::GroupBy(_, _)
         | NumberTerminal::Partition(_, _)
-        | NumberTerminal::Teeing(_, _) => unreachable!(),
+        | NumberTerminal::Teeing(_, _) => arranged_end(engine, hashes, stream, terminal),
+    }
+}
+
+/// The text of the value of a terminal that puts numbers under keys, parts them, or collects them twice.
+fn arranged_end<X>(
+    engine: &Engine<'_, impl Threads + Clock + Sync, impl Gate + Sync>,
+    hashes: SeededHashes,
+    stream: &X,
+    terminal: &NumberTerminal,
+) -> Result<Rope, ValueError>
+where
+    X: Plumbing<Item = i64>,
+    requires stream { X.ready stream.now }
+    requires arranges { arranges terminal.now ≡ true }
+    ensures { Tells (number_told terminal.now (X.value stream.now)) result }
+{
+    let alloc = engine.alloc;
+    match *terminal {
+        NumberTerminal::GroupBy(key, summary) => {
+            let group = number_group(alloc, hashes, summary);
+            group_value(engine, hashes, stream, Mapping::of(key), group)
+        }
+        NumberTerminal::Partition(test, summary) => {
+            let parts = number_summary(alloc, hashes, summary);
+            parted_value(engine, stream, Check::of(test), parts)
+        }
+        NumberTerminal::Teeing(one, other) => {
+            let one = number_summary(alloc, hashes, one);
+            let other = number_summary(alloc, hashes, other);
+            paired_value(engine, stream, one, other)
+        }
+        _ => unreachable!(),
     }
 }

@@ -4,10 +4,9 @@ ghost use Rattle.pipeline_language.specs.declared.grammar.Terminal.TheVariants.{
 ghost use Rattle.pipeline_value.specs.Typed.{number_told};
 ghost use Rattle.pipeline_value.specs.Value.{Tells};
 
-use crate::engine::Engine;
-use crate::told::{ValueError, ran_optional, ran_told};
+use crate::told::{ValueError, told, told_item};
 use collectors::SummingLong;
-use parallel_streams::{Plumbing, Stream};
+use parallel_streams::{Engine, Plumbing, Stream};
 use pipeline_language::NumberTotal;
 use stages::{Max, Min, WrapMul};
 use std::thread::Threads;
@@ -17,36 +16,25 @@ use stream_functions::Itself;
 use value_text::Rope;
 
 /// The text of what joins all numbers of a stream into one.
-pub(crate) fn total_value<R, X, H>(
-    engine: &Engine<'_, R, H>,
+pub(crate) fn total_value<X>(
+    engine: &Engine<'_, impl Threads + Clock + Sync, impl Gate + Sync>,
     stream: &X,
     total: NumberTotal,
 ) -> Result<Rope, ValueError>
 where
-    R: Threads + Clock + Sync,
     X: Plumbing<Item = i64>,
-    H: Gate + Sync,
     requires stream { X.ready stream.now }
     ensures { Tells (number_told (Own total) (X.value stream.now)) result }
 {
-    let (rt, alloc, run) = (engine.rt, engine.alloc, &engine.run);
+    let alloc = engine.alloc;
     match total {
         // a sum needs no question whether a number came before
         NumberTotal::Sum => {
             let sum = SummingLong::new(Itself);
-            ran_told(engine, stream.collect(rt, alloc, run, &sum))
+            told(alloc, &stream.collect_on(engine, &sum)?)
         }
-        NumberTotal::Product => {
-            let product = WrapMul::new();
-            ran_told(engine, stream.reduce(rt, alloc, run, 1, &product))
-        }
-        NumberTotal::Max => {
-            let larger = Max::new();
-            ran_optional(engine, stream.reduce_optional(rt, alloc, run, &larger))
-        }
-        NumberTotal::Min => {
-            let smaller = Min::new();
-            ran_optional(engine, stream.reduce_optional(rt, alloc, run, &smaller))
-        }
+        NumberTotal::Product => told(alloc, &stream.reduce_on(engine, 1, &WrapMul::new())?),
+        NumberTotal::Max => told_item(alloc, &stream.reduce_optional_on(engine, &Max::new())?),
+        NumberTotal::Min => told_item(alloc, &stream.reduce_optional_on(engine, &Min::new())?),
     }
 }

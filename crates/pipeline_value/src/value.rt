@@ -1,23 +1,20 @@
 //! The value of a pipeline.
 
-ghost use Rattle.parallel_streams.specs.Runs.{IsLawfulRun};
 ghost use Rattle.pipeline_language.specs.Content.{program_of};
 ghost use Rattle.pipeline_value.specs.Typed.{number_body_told, source_numbers};
 ghost use Rattle.pipeline_value.specs.Value.{Tells, program_told};
 
-use crate::engine::Engine;
 use crate::known::{known_number_count, known_number_sum};
 use crate::numbers::number_value;
 use crate::ranges::{closed_numbers, open_numbers};
 use crate::texts::text_value;
 use crate::told::ValueError;
-use parallel_streams::{Run, of};
+use parallel_streams::{Engine, of};
 use pipeline_language::{NumberBody, NumberSource, Pipeline};
 use pipeline_meaning::SeededHashes;
 use pipeline_plan::{NumberRange, Numbers, Plan, Window, optimised};
 use sources::{RangeSplit, SliceSplit};
 use spliterator::Spliterator;
-use std::alloc::Global;
 use std::thread::Threads;
 use std::time::Clock;
 use stealing_pool::Gate;
@@ -25,50 +22,39 @@ use value_text::Rope;
 
 /// The text of a pipeline's value. Keys are hashed by `hashes`, since whoever writes a file picks them. A count that is known from the
 /// source's size runs no leaf.
-pub fn pipeline_value<R: Threads + Clock + Sync, H: Gate + Sync>(
-    rt: &R,
-    alloc: Global,
+pub fn pipeline_value(
+    engine: &Engine<'_, impl Threads + Clock + Sync, impl Gate + Sync>,
     hashes: SeededHashes,
     pipeline: Pipeline<'_>,
-    run: &Run<'_, H>,
 ) -> Result<Rope, ValueError>
-    requires settings { IsLawfulRun run.now.workers run.now.target }
     ensures { Tells (program_told (program_of pipeline.entry)) result }
 {
-    let engine = &Engine {
-        rt,
-        alloc,
-        hashes,
-        run: Run {
-            workers: run.workers,
-            target: run.target,
-            gate: run.gate,
-        },
-    };
     match pipeline {
-        Pipeline::Numbers(source, body) => source_value(engine, source, body),
-        Pipeline::Texts(texts, body) => text_value(engine, texts.as_slice(), body),
+        Pipeline::Numbers(source, body) => source_value(engine, hashes, source, body),
+        Pipeline::Texts(texts, body) => text_value(engine, hashes, texts.as_slice(), body),
     }
 }
 
 /// The text of the value of a body, over a source of numbers.
-fn source_value<R: Threads + Clock + Sync, H: Gate + Sync>(
-    engine: &Engine<'_, R, H>,
+fn source_value(
+    engine: &Engine<'_, impl Threads + Clock + Sync, impl Gate + Sync>,
+    hashes: SeededHashes,
     source: NumberSource,
     body: NumberBody,
 ) -> Result<Rope, ValueError>
     ensures { Tells (number_body_told body (source_numbers source)) result }
 {
     match source {
-        NumberSource::Range(range) => range_value(engine, open_numbers(range), body),
-        NumberSource::Closed(range) => range_value(engine, closed_numbers(range), body),
-        NumberSource::Numbers(numbers) => list_value(engine, numbers.as_slice(), body),
+        NumberSource::Range(range) => range_value(engine, hashes, open_numbers(range), body),
+        NumberSource::Closed(range) => range_value(engine, hashes, closed_numbers(range), body),
+        NumberSource::Numbers(numbers) => list_value(engine, hashes, numbers.as_slice(), body),
     }
 }
 
 /// The text of the value of a body, over numbers as they stand.
-fn list_value<R: Threads + Clock + Sync, H: Gate + Sync>(
-    engine: &Engine<'_, R, H>,
+fn list_value(
+    engine: &Engine<'_, impl Threads + Clock + Sync, impl Gate + Sync>,
+    hashes: SeededHashes,
     numbers: &[i64],
     body: NumberBody,
 ) -> Result<Rope, ValueError>
@@ -80,11 +66,12 @@ fn list_value<R: Threads + Clock + Sync, H: Gate + Sync>(
     };
     let mut plan: Plan<Window<SliceSplit<'_, i64>>, Numbers> = Plan { source, stages };
     optimised(&mut plan);
-    if let Some(told) = known_number_count(engine, &plan, &terminal) {
+    if let Some(told) = known_number_count(engine.alloc, &plan, &terminal) {
         return told;
     }
     number_value(
         engine,
+        hashes,
         of(plan.source.source),
         plan.stages.as_slice(),
         &terminal,
@@ -92,8 +79,9 @@ fn list_value<R: Threads + Clock + Sync, H: Gate + Sync>(
 }
 
 /// The text of the value of a body, over a range.
-fn range_value<R: Threads + Clock + Sync, H: Gate + Sync>(
-    engine: &Engine<'_, R, H>,
+fn range_value(
+    engine: &Engine<'_, impl Threads + Clock + Sync, impl Gate + Sync>,
+    hashes: SeededHashes,
     range: RangeSplit,
     body: NumberBody,
 ) -> Result<Rope, ValueError>
@@ -103,7 +91,7 @@ fn range_value<R: Threads + Clock + Sync, H: Gate + Sync>(
     let source = NumberRange::Range(range);
     let mut plan: Plan<NumberRange, Numbers> = Plan { source, stages };
     optimised(&mut plan);
-    if let Some(told) = known_number_count(engine, &plan, &terminal) {
+    if let Some(told) = known_number_count(engine.alloc, &plan, &terminal) {
         return told;
     }
     if let Some(told) = known_number_sum(engine, &plan, &terminal) {
@@ -111,6 +99,7 @@ fn range_value<R: Threads + Clock + Sync, H: Gate + Sync>(
     }
     number_value(
         engine,
+        hashes,
         of(plan.source.steps()),
         plan.stages.as_slice(),
         &terminal,

@@ -1,18 +1,13 @@
-use Rattle.std.proofs.Common.{sym, ◌∙◌}
-use Rattle.std.proofs.lemmas.Result.{IfOk-weaker}
+use Rattle.std.proofs.Common.{◌≡◌, Ok, of_z, subst, sym, to_z, rules, w64, ◌∙◌}
+use Rattle.std.specs.Fmt.{signed_decimal}
 use Rattle.collectors.specs.Sums.{total}
+use Rattle.pipeline_value.specs.Value.{Tells}
 use Rattle.pipeline_value.proofs.totals.total_value.Goals as goal
 
-pub returns-in-Sum : goal.returns-in-Sum
-returns-in-Sum g c =
-    let l = g.X.Plumbing.value c.args.stream.now in
-    rw c.in-Sum.is (c.ran_told.ensures _ (IfOk-weaker c.collect.result _ _ (λ n is. is ∙ sym (total (λ x. x) l)) c.collect.ensures.value))
-
-pub returns-in-Product : goal.returns-in-Product
-returns-in-Product g c = rw c.in-Product.is (c.ran_told-in-Product.ensures _ c.reduce.ensures.value)
-
-pub returns-in-Max : goal.returns-in-Max
-returns-in-Max g c = rw c.in-Max.is (c.ran_optional.ensures _ c.reduce_optional.ensures.value)
-
-pub returns-in-Min : goal.returns-in-Min
-returns-in-Min g c = rw c.in-Min.is (c.ran_optional-in-Min.ensures _ c.reduce_optional-in-Min.ensures.value)
+pub returns-in_ok-collect_on-in-Sum : goal.returns-in_ok-collect_on-in-Sum
+returns-in_ok-collect_on-in-Sum g c =
+    let sum = c.in_ok-collect_on-in-Sum.field-0 in
+    let same : to_z w64 (of_z w64 sum) ≡ sum = search rules in
+    let told : Tells (Ok (signed_decimal sum)) c.told.result = rw same at c.told.ensures in
+    let is = c.in_ok-collect_on-in-Sum.ensures.value ∙ sym (total (λ x. x) (g.X.Plumbing.value c.args.stream.now)) in
+    rw c.in-Sum.is (subst (λ n. Tells (Ok (signed_decimal n)) c.told.result) is told)

@@ -1,9 +1,9 @@
-use Rattle.std.proofs.Common.{◌≡◌, ◌<◌, [], List, OnOk, Some, arith, flat_map, length, map, slice_get, slice_index_or, subst, sym, ap, ◌∙◌}
-use Rattle.parallel_streams.specs.LeafLaws.{map-fused}
+use Rattle.std.proofs.Common.{◌≡◌, [], List, OnOk, Some, arith, flat_map, slice_get, slice_index_or, subst, sym, ap, ◌∙◌}
 use Rattle.chained_streams.specs.Chains.{lists_of}
 use Rattle.parallel_streams.specs.Cuts.{cut_at}
 use Rattle.parallel_streams.specs.Ends.{ends_of}
 use Rattle.chained_streams.specs.ChainLaws.{first-some, list-at}
+use Rattle.chained_streams.proofs.LinkRuns.{through-fused}
 use Rattle.chained_streams.proofs.chain.ChainPlumbing.feed_last_leaf.Goals as goal
 
 pub returns-in-Some : goal.returns-in-Some
@@ -19,18 +19,11 @@ returns-in-Some g c =
 
 pub returns-in-None-2 : goal.returns-in-None-2
 returns-in-None-2 g c =
-    let s = c.args.self.now in
     let p = c.args.progress.now in
     let link = c.index.result.now in
-    let links = s.links.items in
-    let parts = g.U.Plumbing.parts s.upstream p.before in
+    let links = c.args.self.now.links.items in
+    let parts = g.U.Plumbing.parts c.args.self.now.upstream p.before in
     let P : List (List _) → Type 0 = λ lists. OnOk c.feed_last_leaf-in-None-2.result (g.K.Sink.takes c.args.sink.now (slice_index_or lists c.args.leaf []) c.feed_last_leaf-in-None-2.new.sink) in
-    let Q : g.row.A.Denot → Type 0 = λ a. P (map (flat_map (λ x. flat_map (g.G.Stage.expand c.new-fused.result.second.now) (g.A.Stage.expand a x))) parts) in
-    let R : g.row.G.Denot → Type 0 = λ b. P (map (flat_map (λ x. flat_map (g.G.Stage.expand b) (g.A.Stage.expand link.stage x))) parts) in
-    let first = subst Q (ap (λ r. r.now) c.new-fused.ensures.first) c.feed_last_leaf-in-None-2.ensures in
-    let both = subst R (ap (λ r. r.now) c.new-fused.ensures.second) first in
-    let later : 0 < p.run = omega (arith, c.if-progress-eq0.false) in
-    let some : 0 < length links = omega (arith, later, c.requires.holds.1.1) in
     let here = ap (lists_of (λ link. g.A.Stage.expand link.stage) g.U.Item.Value.content links p.run parts) c.in-None-2.is
-    ∙ first-some (λ link. g.A.Stage.expand link.stage) parts links p.run link later some c.index.ensures in
-    subst P (map-fused (g.A.Stage.expand link.stage) (g.G.Stage.expand c.args.stage.now) parts ∙ ap (map (flat_map (g.G.Stage.expand c.args.stage.now))) (sym here)) both
+    ∙ first-some (λ link. g.A.Stage.expand link.stage) parts links p.run link (omega (arith, c.if-progress-eq0.false)) c.requires.holds.1.1 c.index.ensures in
+    through-fused g.A.Stage.expand g.G.Stage.expand P _ _ _ _ parts _ (ap (λ r. r.now) c.new-fused.ensures.first) (ap (λ r. r.now) c.new-fused.ensures.second) here c.feed_last_leaf-in-None-2.ensures

@@ -1,4 +1,4 @@
-use Rattle.std.proofs.Common.{◌≡◌, ◌<◌, ◌∙◌, ℕ, Bool, List, Option, Some, [], ap, arith, flat_map, IfOk, length, map, refl, slice_get, subst, sym}
+use Rattle.std.proofs.Common.{◌≡◌, ◌<◌, ◌∙◌, ℕ, List, Some, [], ap, arith, flat_map, IfOk, length, map, slice_get, subst, sym}
 use Rattle.std.proofs.lemmas.List.{length-map}
 use Rattle.collectors.specs.NestedLaws.{push}
 use Rattle.leaf_reading.specs.Fronts.{folding}
@@ -7,12 +7,10 @@ use Rattle.stealing_pool.specs.Spans.{work_of}
 use Rattle.stealing_pool.specs.SpanLaws.{leaf-ends-ok}
 use Rattle.parallel_streams.specs.Cuts.{cut_at}
 use Rattle.parallel_streams.specs.Ends.{ends_of}
-use Rattle.parallel_streams.specs.LeafLaws.{map-fused}
-use Rattle.parallel_streams.specs.Progress.{barred_work}
-use Rattle.chained_streams.specs.Chains.{is_own_turn, link_work, lists_of}
+use Rattle.chained_streams.specs.Chains.{is_own_turn, lists_of}
 use Rattle.chained_streams.specs.ChainLaws.{first-none, first-some, list-at, within-list}
 use Rattle.chained_streams.specs.declared.chain.Link.{Link}
-use Rattle.chained_streams.proofs.LinkRuns.{ends-link, get-none, get-some, nothing-kept, leaves-own}
+use Rattle.chained_streams.proofs.LinkRuns.{ends-link, get-none, get-some, nothing-kept, leaves-own, through-fused}
 use Rattle.chained_streams.proofs.chain.ChainPlumbing.run_barrier_leaf.Goals as goal
 use Rattle.chained_streams.proofs.chain.ChainPlumbing.run_barrier_leaf.Goals.{in-Some, in-None, in-None-2}
 
@@ -41,7 +39,7 @@ part-items-requires-clause-within g c =
     let inside =
     leaves-own {L = Link g.row.A.Denot g.row.B.Denot} {S = g.row.B-State.Denot} (λ link state. g.B.Barrier.needed_behind link.barrier state) (λ link. g.B.Demand.counted link.barrier) (λ link state. g.B.Barrier.value_behind link.barrier state) (λ link. g.A.Stage.expand link.stage)
     g.U.Item.Value.is_value content lists (U.work s.upstream p.before) (is_own_turn (U.done s.upstream p.before) p.listed) (slice_get links p.run) (slice_get p.states.items p.run) c.args.leaf turn c.requires.within in
-    within-list (λ link. g.A.Stage.expand link.stage) content links p.run parts p.listed c.in-Some.listed c.args.leaf c.in-Some.is (length lists) refl inside
+    within-list (λ link. g.A.Stage.expand link.stage) content links p.run parts p.listed c.in-Some.listed c.args.leaf c.in-Some.is inside
 
 pub returns-clause-end : goal.returns-clause-end
 returns-clause-end g c =
@@ -85,14 +83,9 @@ returns-clause-end g c =
           let first = w.index.result.now in
           let r = w.run_last_leaf-end-in-None-2 in
           let P : List (List g.row.U-Item-Content.Denot) → Type 0 = λ l. Ends l r.result (cut r.new.seat) in
-          let Q : g.row.A.Denot → Type 0 = λ a. P (map (flat_map (λ x. flat_map (g.A.Stage.expand w.new-fused.result.second.now) (g.A.Stage.expand a x))) parts) in
-          let R : g.row.A.Denot → Type 0 = λ b. P (map (flat_map (λ x. flat_map (g.A.Stage.expand b) (g.A.Stage.expand first.stage x))) parts) in
-          let one = subst Q (ap (λ r. r.now) w.new-fused.ensures.first) r.ensures.end in
-          let both = subst R (ap (λ r. r.now) w.new-fused.ensures.second) one in
           let later : 0 < p.run = omega (arith, w.if-run-eq0.false) in
-          let some : 0 < length links = omega (arith, later, c.requires.holds.1.1) in
-          let here = ap (lists_of images content links p.run parts) w.in-None-2.is ∙ first-some images parts links p.run first later some w.index.ensures in
-          let ends = subst P (map-fused (g.A.Stage.expand first.stage) (g.A.Stage.expand link.stage) parts ∙ ap (map through) (sym here)) both in
+          let here = ap (lists_of images content links p.run parts) w.in-None-2.is ∙ first-some images parts links p.run first later c.requires.holds.1.1 w.index.ensures in
+          let ends = through-fused g.A.Stage.expand g.A.Stage.expand P _ _ _ _ parts lists (ap (λ r. r.now) w.new-fused.ensures.first) (ap (λ r. r.now) w.new-fused.ensures.second) here r.ensures.end in
           subst (λ seat. Ends (map through lists) c.match-progress.end (cut seat)) (sym w.seat-is) (subst (λ end. Ends (map through lists) end (cut r.new.seat)) (sym w.end-is) ends)
     ] in
     ends-link {L = Link g.row.A.Denot g.row.B.Denot} {S = g.row.B-State.Denot} (λ link state. g.B.Barrier.needed_behind link.barrier state) (λ link. g.B.Demand.counted link.barrier) (λ link state. g.B.Barrier.value_behind link.barrier state) (λ link. g.A.Stage.expand link.stage)
