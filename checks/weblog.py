@@ -131,7 +131,8 @@ def timelines(file, wanted):
         shown = xml.etree.ElementTree.parse(picture).getroot()
         rows = [row for row in shown.iter(f"{SVG}g") if "worker" in "".join(row.itertext())]
         leaves = len(list(shown.iter(f"{SVG}title")))
-        yield f"with its timeline: rows and leaves, {workers} workers", (len(rows), leaves > 25 * 4 * int(workers)), (int(workers), True)
+        blocks = file.stat().st_size // 8_388_608
+        yield f"with its timeline: rows and leaves, {workers} workers", (len(rows), leaves >= blocks * int(workers)), (int(workers), True)
     none = file.with_name("none") / "picture"
     yield "a timeline in no folder", run(file, "--timeline", none), (3, "", f"weblog: {none}: No such file or directory (os error 2)\n")
     yield "a timeline that is full", run("--timeline", "/dev/full", input=b""), (3, answers([])[1], f"weblog: {FULL}\n")
