@@ -1,5 +1,5 @@
 #!/usr/bin/env python3
-"""Runs the parts of the gate one after another, and tells at the end what each took.
+"""Runs the parts of .ci/run one after another, and tells at the end what each took.
 
     checks/timed.py COMMAND..
 

@@ -103,10 +103,6 @@ module _ {X : Type 0} (p : X → Bool) where
           one-more (prefix_len p (items ++ more)) x (items ++ more) ∙ later (omega (arith, rest, same)) ∙ ap (λ l. l ++ more) (sym (one-more (prefix_len p items) x items))
       head false later rest = refl
 
-  pub left-open : (is_dropping : Bool) (items more : List X) → is_dropping ≡ false → left_while is_dropping p (items ++ more) ≡ items ++ left_while is_dropping p more
-  left-open true items more opened = absurd cc
-  left-open false items more opened = refl
-
   pub left-dropping : (is_dropping : Bool) (items kept more : List X) (n : ℕ) → is_dropping ≡ true → kept ≡ drop_while p items → n ≡ length kept
       → left_while is_dropping p (items ++ more) ≡ kept ++ left_while (n == 0) p more
   left-dropping false items kept more n dropping is counts = absurd cc

@@ -9,14 +9,6 @@ IsThinned None value whole kept = (before more : List _) → value (before ++ (w
 IsThinned (Some n) value whole kept = kept ≡ whole
 
 module _ {C : Type 0} (value : List C → List C) where
-  pub thinned-itself : (needed : Option ℕ) (l : List C) → IsThinned needed value l l
-  thinned-itself None l = λ before more. refl
-  thinned-itself (Some n) l = refl
-
-  pub thinned-again : (needed : Option ℕ) (l m k : List C) → IsThinned needed value l m → IsThinned needed value m k → IsThinned needed value l k
-  thinned-again None l m k first second = λ before more. first before more ∙ second before more
-  thinned-again (Some n) l m k first second = second ∙ first
-
   pub thinned-both : (needed : Option ℕ) (l m kept following : List C) → IsThinned needed value l kept → IsThinned needed value m following → IsThinned needed value (l ++ m) (kept ++ following)
   thinned-both None l m kept following first second = λ before more.
       ap (λ r. value (before ++ r)) (append_assoc l m more)

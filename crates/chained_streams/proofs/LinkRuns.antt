@@ -19,8 +19,8 @@ use Rattle.stealing_pool.specs.SpanLaws.{leaf-ends}
 use Rattle.parallel_streams.specs.LeafLaws.{joined-through, map-fused}
 use Rattle.parallel_streams.specs.Progress.{EndedThinned, barred_work}
 use Rattle.parallel_streams.specs.ProgressLaws.{ends-own, ends-own_ok}
-use Rattle.parallel_streams.specs.declared.part.Part.{Part}
-use Rattle.parallel_streams.specs.declared.part.Part.TheVariants.{Own}
+use Rattle.parallel_streams.specs.declared.kept.Kept.{Kept}
+use Rattle.parallel_streams.specs.declared.kept.Kept.TheVariants.{Own}
 use Rattle.parallel_streams.proofs.Gathering.{goes-on, kept-own}
 use Rattle.chained_streams.specs.Chains.{counted_at, images_at, link_work, needed_at, no_images}
 use Rattle.chained_streams.specs.ChainLaws.{nothing-at}
@@ -45,7 +45,7 @@ module _ {L S T C : Type 0} (needed : L → S → Option ℕ) (counted : L → C
   listed link state = work_of (folding (needed_at needed link state) (counted_at counted link state) is_value [] push) (map content) (map (flat_map (images_at images link state)) lists)
 
   -- a leaf of the run of a link
-  pub ends-link : {P E : Type 0} (before : Work P) (turn : Bool) (links : Option L) (states : Option S) (link : L) (state : S) (cut leaf : ℕ) (r : Result (LeafEnd (List T)) E) (ended : Result (LeafEnd (Part P T)) E)
+  pub ends-link : {P E : Type 0} (before : Work P) (turn : Bool) (links : Option L) (states : Option S) (link : L) (state : S) (cut leaf : ℕ) (r : Result (LeafEnd (List T)) E) (ended : Result (LeafEnd (Kept P T)) E)
       → turn ≡ true → links ≡ Some link → states ≡ Some state → EndedThinned (λ whole kept. IsThinned (needed link state) (behind link state) (map content whole) (map content kept)) ended r
       → IfOk r (EndsLeaf (listed (Some link) (Some state)) cut leaf) → IfOk ended (EndsLeaf (barred_work turn before (own links states)) cut leaf)
   ends-link before turn links states link state cut leaf r ended is is_link is_state thinned h =
@@ -70,12 +70,12 @@ module _ {L S T C : Type 0} (needed : L → S → Option ℕ) (counted : L → C
       (([], ends.0, λ before more. refl), ends.1, ends.2)
 
   -- once all links have run, nothing is kept
-  pub nothing-kept : {P E : Type 0} (before : Work P) (turn : Bool) (link : Option L) (state : Option S) (cut leaf : ℕ) (r : Result (LeafEnd (Part P T)) E) → turn ≡ true → link ≡ None
+  pub nothing-kept : {P E : Type 0} (before : Work P) (turn : Bool) (link : Option L) (state : Option S) (cut leaf : ℕ) (r : Result (LeafEnd (Kept P T)) E) → turn ≡ true → link ≡ None
       → leaf < (barred_work turn before (own link state)).leaves
       → IfOk r (λ end. end ≡ Done (record { count = 0; kept = Own [] })) → IfOk r (EndsLeaf (barred_work turn before (own link state)) cut leaf)
   nothing-kept before turn link state cut leaf (Err e) is none within h = tt
   nothing-kept {P} before turn link state cut leaf (Ok end) is none within h =
-      let Q : LeafEnd (Part P T) → Type 0 = λ e. EndsLeaf (barred_work turn before (own link state)) cut leaf e in
+      let Q : LeafEnd (Kept P T) → Type 0 = λ e. EndsLeaf (barred_work turn before (own link state)) cut leaf e in
       let R : Option L → Type 0 = λ l. EndsLeaf (barred_work turn before (own l state)) cut leaf (Done (record { count = 0; kept = Own [] })) in
       let W : Bool → Type 0 = λ b. leaf < (barred_work b before (own link state)).leaves in
       let V : ℕ → Type 0 = λ n. leaf < n in
@@ -83,14 +83,14 @@ module _ {L S T C : Type 0} (needed : L → S → Option ℕ) (counted : L → C
       subst Q (sym h) (subst R (sym none) (ends-own before (own None state) turn cut leaf (Done (record { count = 0; kept = [] })) is (nothing-ends cut leaf state few)))
 
   -- what a link's run kept
-  pub kept-link : {P : Type 0} (before : Work P) (turn : Bool) (links : Option L) (states : Option S) (link : L) (state : S) (part : Part P T) (items : List T) (entry : Outcome)
+  pub kept-link : {P : Type 0} (before : Work P) (turn : Bool) (links : Option L) (states : Option S) (link : L) (state : S) (part : Kept P T) (items : List T) (entry : Outcome)
       → links ≡ Some link → states ≡ Some state → part ≡ Own items
       → StandsForRun (barred_work turn before (own links states)) part
       → Reports (barred_work turn before (own links states)).needed (barred_work turn before (own links states)).leaves (barred_work turn before (own links states)).full entry.leaves (count_of entry) (cut_of entry)
       → (turn ≡ true) × (front : List C) × IsOutcome (needed link state) (counted link) (flat_map (images link) (joined lists)) front × IsThinned (needed link state) (behind link state) front (map content items)
       × IsToldBy (needed link state) (counted link) (map content items) (is_some (cut_of entry))
   kept-link {P} before turn links states link state part items entry is_link is_state is stands reports =
-      let work : Option L → Option S → Work (Part P T) = λ l s. barred_work turn before (own l s) in
+      let work : Option L → Option S → Work (Kept P T) = λ l s. barred_work turn before (own l s) in
       let Stands : Option L → Option S → Type 0 = λ l s. StandsForRun (work l s) part in
       let Told : Option L → Option S → Type 0 = λ l s. Reports (work l s).needed (work l s).leaves (work l s).full entry.leaves (count_of entry) (cut_of entry) in
       let stood = subst (λ s. Stands (Some link) s) is_state (subst (λ l. Stands l states) is_link stands) in

@@ -12,7 +12,7 @@ use Rattle.parallel_streams.specs.Ends.{ends_of}
 use Rattle.parallel_streams.specs.Progress.{HoldsListed, barred_work, next_leaves}
 use Rattle.parallel_streams.specs.LeafLaws.{get-mapped, left-through, map-both}
 use Rattle.parallel_streams.specs.ProgressLaws.{joined-listed}
-use Rattle.parallel_streams.specs.declared.part.Listed.{Listed}
+use Rattle.parallel_streams.specs.declared.kept.Listed.{Listed}
 use Rattle.chained_streams.specs.Chains.{AreFresh, HoldsChain, IsFirstRun, IsPlannedChain, behind_links, first_lists, is_own_turn, left_by, left_of_chain, lists_of, no_images, through_links}
 
 -- nothing is told of a chain's items

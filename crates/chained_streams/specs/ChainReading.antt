@@ -2,7 +2,7 @@
 use Rattle.std.specs.Prelude.{◌≡◌, ◌⊎◌, ℕ, zero, suc, Bool, List, [], ◌∷◌, ◌++◌, Option, Some, None, flat_map, map}
 use Rattle.barriers.specs.Needs.{IsEnough}
 use Rattle.parallel_streams.specs.Reading.{StandsBehind}
-use Rattle.parallel_streams.specs.declared.part.Listed.{Listed}
+use Rattle.parallel_streams.specs.declared.kept.Listed.{Listed}
 use Rattle.chained_streams.specs.declared.chain.Link.{Link}
 
 -- a link's state stands behind what its stage makes of these items

@@ -7,7 +7,7 @@ use Rattle.parallel_streams.specs.LeafLaws.{joined-through}
 use Rattle.parallel_streams.specs.ProgressLaws.{joined-listed}
 use Rattle.parallel_streams.specs.Reading.{StandsBehind}
 use Rattle.parallel_streams.specs.ReadingLaws.{stands-carried, stands-fresh, stands-passed}
-use Rattle.parallel_streams.specs.declared.part.Listed.{Listed}
+use Rattle.parallel_streams.specs.declared.kept.Listed.{Listed}
 use Rattle.stealing_pool.specs.Spans.{joined}
 use Rattle.chained_streams.specs.Chains.{HoldsChain, first_lists, is_own_turn, link_behind, link_value, lists_of, through_links}
 use Rattle.chained_streams.specs.ChainLaws.{all-run, both-true}

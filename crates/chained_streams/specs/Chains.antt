@@ -6,7 +6,7 @@ use Rattle.parallel_streams.specs.Cuts.{cut_at}
 use Rattle.parallel_streams.specs.Ends.{ends_of}
 use Rattle.stealing_pool.specs.Jobs.{Work}
 use Rattle.parallel_streams.specs.Progress.{HoldsListed, own_work}
-use Rattle.parallel_streams.specs.declared.part.Listed.{Listed}
+use Rattle.parallel_streams.specs.declared.kept.Listed.{Listed}
 use Rattle.chained_streams.specs.declared.chain.Link.{Link}
 
 -- what a link makes of a list: its barrier's value of what its stage makes of it

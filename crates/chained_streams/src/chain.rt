@@ -4,7 +4,7 @@ ghost use Rattle.std.proofs.lemmas.List.{length-map};
 ghost use Rattle.leaf_board.specs.Statuses.{SameFrom, StaysSeat};
 ghost use Rattle.leaf_reading.specs.Fronts.{folding};
 ghost use Rattle.leaf_reading.specs.declared.leaf_end.LeafEnd.TheVariants.{Done};
-ghost use Rattle.parallel_streams.specs.declared.part.Part.TheVariants.{Own};
+ghost use Rattle.parallel_streams.specs.declared.kept.Kept.TheVariants.{Own};
 ghost use Rattle.spliterator.specs.Clones.{ClonesAlike};
 ghost use Rattle.stages.specs.declared.flags.StreamFlags.{StreamFlags};
 ghost use Rattle.stages.specs.Flags.{flags_of};
@@ -20,7 +20,7 @@ use barriers::{Barrier, Behind, Demand, Need};
 use collectors::{Collector, ToList};
 use leaf_board::Handout;
 use leaf_reading::{LeafEnd, Portion, Reading, feed_whole, read_leaf};
-use parallel_streams::{Listed, Part, Places, Plumbing, end_before, end_own};
+use parallel_streams::{Kept, Listed, Places, Plumbing, end_before, end_own};
 use sources::SliceSplit;
 use split_tree::Tree;
 use spliterator::{NoMemory, OrderedValue, Value};
@@ -54,20 +54,20 @@ pub struct ChainProgress<P, S, T> {
     pub states: Vec<S>,
     pub run: usize,
     pub listed: Option<Listed<T>>,
-    pub gathered: u64,
+    pub longest_list: u64,
 }
 
 // What is kept of a leaf of which nothing is listed.
 fn nothing_kept<P: Drop, T: Value + Clone + Drop>(
     alloc: Global,
-) -> Result<LeafEnd<Part<P, T>>, NoMemory>
+) -> Result<LeafEnd<Kept<P, T>>, NoMemory>
     requires { ClonesAlike T.is_clone T.content }
     ensures { IfOk result (λ end. end ≡ Done (record { count = 0; kept = Own [] })) }
 {
     let kept = ToList::new(alloc).supply()?;
     Ok(LeafEnd::Done(Portion {
         count: 0,
-        kept: Part::Own(kept),
+        kept: Kept::Own(kept),
     }))
 }
 
@@ -136,10 +136,10 @@ fn first_run<T: OrderedValue, A: Stage<In = T, Out = T>, B: Barrier<T>>(
 }
 
 // Whether the barriers of the stream before have run.
-fn own_turn<T>(is_gathered: bool, listed: &Option<Listed<T>>) -> bool
-    ensures { result ≡ is_own_turn is_gathered listed.now }
+fn own_turn<T>(is_through: bool, listed: &Option<Listed<T>>) -> bool
+    ensures { result ≡ is_own_turn is_through listed.now }
 {
-    listed.is_some() || is_gathered
+    listed.is_some() || is_through
 }
 
 impl<U: Plumbing, A: Stage<In = U::Item, Out = U::Item> + Sync, B: Barrier<U::Item> + Sync> Plumbing
@@ -151,7 +151,7 @@ where
 
     type Progress = ChainProgress<U::Progress, B::State, U::Item>;
 
-    type Part = Part<U::Part, U::Item>;
+    type Kept = Kept<U::Kept, U::Item>;
 
     ghost ready = { λ s. U.ready s.upstream × ClonesAlike U.Item.is_clone U.Item.content
         × All (λ link. A.ready link.stage × B.Demand.ready link.barrier × B.can_carry link.barrier) s.links.items };
@@ -205,7 +205,7 @@ where
 
     ghost parts = { λ s p. lists_of (λ link. A.expand link.stage) U.Item.content s.links.items p.run (U.parts s.upstream p.before) p.listed };
 
-    ghost cut_into = { λ _ _ _ _. ⊤ };
+    ghost leaf_lists = { λ _ _ _ _. ⊤ };
 
     ghost planned = { λ s workers target p.
         let step = link_behind A.expand B.value_behind in
@@ -286,7 +286,7 @@ where
             states,
             run: 0,
             listed: None,
-            gathered: 0,
+            longest_list: 0,
         })
     }
 
@@ -310,7 +310,7 @@ where
             states,
             run,
             listed: None,
-            gathered: 0,
+            longest_list: 0,
         })
     }
 
@@ -321,15 +321,15 @@ where
         }
     }
 
-    fn gathered(&self, progress: &ChainProgress<U::Progress, B::State, U::Item>) -> u64 {
+    fn longest_list(&self, progress: &ChainProgress<U::Progress, B::State, U::Item>) -> u64 {
         self.upstream
-            .gathered(&progress.before)
-            .max(progress.gathered)
+            .longest_list(&progress.before)
+            .max(progress.longest_list)
     }
 
-    fn is_gathered(&self, progress: &ChainProgress<U::Progress, B::State, U::Item>) -> bool {
-        let is_gathered = self.upstream.is_gathered(&progress.before);
-        own_turn(is_gathered, &progress.listed) && progress.run == self.links.len()
+    fn is_through(&self, progress: &ChainProgress<U::Progress, B::State, U::Item>) -> bool {
+        let is_through = self.upstream.is_through(&progress.before);
+        own_turn(is_through, &progress.listed) && progress.run == self.links.len()
     }
 
     fn leaves(&self, progress: &ChainProgress<U::Progress, B::State, U::Item>) -> usize {
@@ -347,8 +347,8 @@ where
     }
 
     fn need(&self, progress: &ChainProgress<U::Progress, B::State, U::Item>) -> Need {
-        let is_gathered = self.upstream.is_gathered(&progress.before);
-        if !own_turn(is_gathered, &progress.listed) {
+        let is_through = self.upstream.is_through(&progress.before);
+        if !own_turn(is_through, &progress.listed) {
             return self.upstream.need(&progress.before);
         }
         let Some(link) = self.links.get(progress.run) else {
@@ -367,9 +367,9 @@ where
         board: &L,
         seat: &mut L::Seat,
         leaf: usize,
-    ) -> Result<LeafEnd<Part<U::Part, U::Item>>, NoMemory> {
+    ) -> Result<LeafEnd<Kept<U::Kept, U::Item>>, NoMemory> {
         let (upstream, before) = (&self.upstream, &progress.before);
-        if !own_turn(upstream.is_gathered(before), &progress.listed) {
+        if !own_turn(upstream.is_through(before), &progress.listed) {
             let end = upstream.run_barrier_leaf(alloc, before, board, seat, leaf);
             return end_before(end);
         }
@@ -414,46 +414,46 @@ where
         &self,
         alloc: Global,
         progress: &ChainProgress<U::Progress, B::State, U::Item>,
-        kept: &mut Part<U::Part, U::Item>,
-        following: Part<U::Part, U::Item>,
+        kept: &mut Kept<U::Kept, U::Item>,
+        following: Kept<U::Kept, U::Item>,
     ) -> Result<(), NoMemory> {
         match kept {
-            Part::Before(kept) => match following {
-                Part::Before(following) => {
+            Kept::Before(kept) => match following {
+                Kept::Before(following) => {
                     self.upstream
                         .combine(alloc, &progress.before, kept, following)
                 }
-                Part::Own(_following) => Ok(()),
+                Kept::Own(_following) => Ok(()),
             },
-            Part::Own(kept) => match following {
-                Part::Before(_following) => Ok(()),
-                Part::Own(following) => Ok(kept.join(following)?),
+            Kept::Own(kept) => match following {
+                Kept::Before(_following) => Ok(()),
+                Kept::Own(following) => Ok(kept.join(following)?),
             },
         }
     }
 
-    fn gather(
+    fn make_list(
         &self,
         alloc: Global,
         progress: ChainProgress<U::Progress, B::State, U::Item>,
-        part: Part<U::Part, U::Item>,
+        part: Kept<U::Kept, U::Item>,
         entry: &RunEntry,
         workers: u32,
         target: u64,
     ) -> Result<ChainProgress<U::Progress, B::State, U::Item>, NoMemory> {
         let mut progress = progress;
         match part {
-            Part::Before(part) => {
+            Kept::Before(part) => {
                 let before = progress.before;
                 progress.before = self
                     .upstream
-                    .gather(alloc, before, part, entry, workers, target)?;
+                    .make_list(alloc, before, part, entry, workers, target)?;
                 Ok(progress)
             }
-            Part::Own(pieces) => {
+            Kept::Own(pieces) => {
                 let run = progress.run;
                 let list = pieces.into_list()?;
-                progress.gathered = progress.gathered.max(list.len() as u64);
+                progress.longest_list = progress.longest_list.max(list.len() as u64);
                 if run >= self.links.len() {
                     return Ok(progress);
                 }

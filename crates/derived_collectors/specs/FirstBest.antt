@@ -53,24 +53,6 @@ module _ {X J : Type 0} (beats : J → J → Bool) (key : X → J) where
   abbrev pub best_merge : Option (X × J) → Option (X × J) → Option (X × J)
   best_merge kept later = reduce_merge better kept later
 
-  pub best_add-takes : (kept : Option (X × J)) (x : X) → best_add kept x ≡ cond (takes_place beats (option_map (λ p. p.1) kept) (key x)) (Some (keyed x)) kept
-  best_add-takes None x = refl
-  best_add-takes (Some p) x =
-      either (beats (key x) p.1)
-      (λ h. simp h)
-      (λ h. simp h)
-
-  pub best_merge-takes : (kept : Option (X × J)) (p : X × J) → best_merge kept (Some p) ≡ cond (takes_place beats (option_map (λ p. p.1) kept) p.1) (Some p) kept
-  best_merge-takes None p = refl
-  best_merge-takes (Some q) p =
-      either (beats p.1 q.1)
-      (λ h. simp h)
-      (λ h. simp h)
-
-  pub best_merge-none : (kept : Option (X × J)) → best_merge kept None ≡ kept
-  best_merge-none None = refl
-  best_merge-none (Some p) = refl
-
   abbrev item_beats : X → X → Bool
   item_beats x y = beats (key x) (key y)
 

@@ -98,7 +98,7 @@ fn copies_before_a_distinct_are_dropped(rt: HostRuntime) -> Result<(), Fail> {
 }
 
 #[test]
-fn windows_of_some_copies_stay(rt: HostRuntime) -> Result<(), Fail> {
+fn sections_of_some_copies_stay(rt: HostRuntime) -> Result<(), Fail> {
     let stages = vec![in rt.alloc(); repeat(4), limit(10), limit(9), skip(3)]?;
     assert_eq!(rt; left(&rt, stages).0, 3);
     Ok(())

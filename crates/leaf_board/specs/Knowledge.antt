@@ -15,7 +15,7 @@ pub record Knowledge : Type 0 where
   pub least : ℕ
   -- how many shares it found empty, from its own on round the ring
   pub passed : ℕ
-  -- how many steps of each kind it made
+  -- how many of each step it made
   pub draws : ℕ
   pub publishes : ℕ
   pub looks : ℕ

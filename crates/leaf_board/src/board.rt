@@ -11,7 +11,7 @@ ghost use Rattle.leaf_board.specs.Closing.{AreOf, AreAll, AreNew, Shows, IsRecor
 use crate::handout::Draw;
 use crate::record::Record;
 use crate::rule::{
-    Case, Cuts, Deal, Draws, Gather, Looks, OneLeaf, Order, Publishes, Reads, Skips,
+    Case, Cuts, Deal, Draws, JoinSeats, Looks, OneLeaf, Order, Publishes, Reads, Skips,
 };
 use crate::view::View;
 use atomic_table::{Seat, Shared, Table};
@@ -159,7 +159,7 @@ fn opening_words<C: Case>(alloc: Global, leaves: usize, seats: usize) -> Result<
 }
 
 // The views of all seats, in one.
-fn gather<C: Case>(
+fn join_seats<C: Case>(
     shared: &Shared<(), View, (), Order<C>>,
     first: BoardSeat<C>,
     mut others: Vec<BoardSeat<C>>,
@@ -171,7 +171,7 @@ fn gather<C: Case>(
     ensures shows { Shows result.me.0 (others.items ++ first ∷ []) }
 {
     let BoardSeat {
-        seat: mut gathered,
+        seat: mut joined,
         number: _,
         passed: _,
         case: _,
@@ -183,9 +183,9 @@ fn gather<C: Case>(
             passed: _,
             case: _,
         } = other;
-        shared.join_seat::<Gather>(&mut gathered, seat);
+        shared.join_seat::<JoinSeats>(&mut joined, seat);
     }
-    gathered
+    joined
 }
 
 impl<C: Case> Board<C> {
@@ -238,8 +238,8 @@ impl<C: Case> Board<C> {
         let Some(first) = seats.pop() else {
             unreachable!()
         };
-        let gathered = gather(&table.shared, first, seats);
-        let closed = table.close_with(gathered);
+        let joined = join_seats(&table.shared, first, seats);
+        let closed = table.close_with(joined);
         Record::new(closed, leaves, count)
     }
 

@@ -11,8 +11,8 @@ use std::alloc::Global;
 /// The source items between two questions whether the leaf was cut.
 const STRETCH: u64 = 1024;
 
-/// The source items of a round, which are those between two questions how many items are left.
-const ROUND: u64 = 16;
+/// The source items of a batch, which are those between two questions how many items are left.
+const BATCH: u64 = 16;
 
 /// Feeds one of the source's items to a sink. Says whether it did: nothing is left, or no item makes a difference any more.
 #[inline(always)]
@@ -62,12 +62,12 @@ fn feed_some<S: Spliterator, G: Stage<In = S::Item>, K: Sink<G::Out>>(
     Ok(true)
 }
 
-/// Feeds rounds of a source's items to a sink, at least one, as long as it tells that more than so many items are left. Says whether more
+/// Feeds batches of a source's items to a sink, at least one, as long as it tells that more than so many items are left. Says whether more
 /// may make a difference.
 ///
-/// The loop keeps one number, the source's own. Where it is at least a round's, that each item of a round is there follows from it.
+/// The loop keeps one number, the source's own. Where it is at least a batch's, that each item of a batch is there follows from it.
 #[inline(always)]
-fn feed_rounds<S: Spliterator, G: Stage<In = S::Item>, K: Sink<G::Out>>(
+fn feed_batches<S: Spliterator, G: Stage<In = S::Item>, K: Sink<G::Out>>(
     stage: &G,
     source: &mut S,
     sink: &mut K,
@@ -80,7 +80,7 @@ fn feed_rounds<S: Spliterator, G: Stage<In = S::Item>, K: Sink<G::Out>>(
     ensures more { IfOk result (λ more. MatchBool more (length (S.items source.new) < length (S.items source.old)) (K.takes sink.new (flat_map (G.expand stage.now) (S.items source.new)) sink.new)) }
 {
     'reading: loop {
-        if !feed_some(stage, source, sink, ROUND)? {
+        if !feed_some(stage, source, sink, BATCH)? {
             return Ok(false);
         }
         match source.exact_size() {
@@ -92,7 +92,7 @@ fn feed_rounds<S: Spliterator, G: Stage<In = S::Item>, K: Sink<G::Out>>(
 
 /// Feeds a source's items to a sink until it tells that no more than so many are left. Says whether more may make a difference.
 ///
-/// It feeds rounds as long as one fits, and then single items.
+/// It feeds batches as long as one fits, and then single items.
 #[inline(always)]
 fn feed_counted<S: Spliterator, G: Stage<In = S::Item>, K: Sink<G::Out>>(
     stage: &G,
@@ -106,10 +106,10 @@ fn feed_counted<S: Spliterator, G: Stage<In = S::Item>, K: Sink<G::Out>>(
     ensures ready { OnOk result (K.ready sink.new) }
     ensures more { IfOk result (λ more. MatchBool more (length (S.items source.new) < length (S.items source.old)) (K.takes sink.new (flat_map (G.expand stage.now) (S.items source.new)) sink.new)) }
 {
-    let above = rest.saturating_add(ROUND - 1);
+    let above = rest.saturating_add(BATCH - 1);
     'reading: loop {
         let more = match source.exact_size() {
-            Some(left) if above < left => feed_rounds(stage, source, sink, above)?,
+            Some(left) if above < left => feed_batches(stage, source, sink, above)?,
             _ => feed_one(stage, source, sink)?,
         };
         if !more {

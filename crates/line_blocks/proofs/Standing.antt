@@ -1,5 +1,5 @@
 -- Where blocks stand in the known bytes, and what is told of them.
-use Rattle.std.specs.Prelude.{◌≡◌, ◌≤◌, ◌+◌, ℕ, List, [], ◌++◌, Option, Some, None, length, refl, ⊤}
+use Rattle.std.specs.Prelude.{◌≡◌, ◌≤◌, ◌+◌, ℕ, List, [], ◌++◌, Option, Some, None, length}
 use Rattle.std.proofs.Common.{ap, sym, subst, ◌∙◌, append_assoc, arith, length-append}
 use Rattle.std.specs.Str.{IsUtf8}
 use Rattle.std.proofs.lemmas.Str.{IsUtf8-append, IsUtf8-nil}
@@ -8,8 +8,8 @@ use Rattle.line_blocks.specs.declared.error.LinesError.{LinesError}
 use Rattle.line_blocks.specs.declared.error.LinesError.TheVariants.{NoMemory, NotUtf8, LongLine, Read, TooLong}
 use Rattle.sources.specs.Lines.{LacksLineFeed}
 use Rattle.line_blocks.proofs.Places.{valid-behind}
-use Rattle.line_blocks.specs.Blocks.{IsBlock, TakesBlock}
-use Rattle.line_blocks.specs.Faults.{IsBehind, StandsAt, IsFault, IsBadBlock, IsLongFront, IsNoFault}
+use Rattle.line_blocks.specs.Blocks.{TakesBlock}
+use Rattle.line_blocks.specs.Faults.{StandsAt, IsFault, IsBadBlock, IsLongFront, IsNoFault}
 
 -- behind one more block of text
 pub stands-more : (all before after : Option (List ℕ)) (block : List ℕ) (place next : ℕ) → StandsAt all before place → TakesBlock before block after → IsUtf8 block
@@ -74,11 +74,11 @@ long-line size (Some xs) (Some ys) place (Read e) at h = tt
 long-line size (Some xs) (Some ys) place TooLong at h = tt
 
 -- nothing was taken off yet
-pub stands-first : (all : Option (List ℕ)) (rest : List ℕ) (place : ℕ) → rest ≡ [] → place ≡ 0 → StandsAt all (prepend_known rest all) place
-stands-first None rest place none zero = tt
-stands-first (Some xs) rest place none zero = record {
+pub stands-first : (all left : Option (List ℕ)) (rest : List ℕ) (place : ℕ) → left ≡ all → rest ≡ [] → place ≡ 0 → StandsAt all (prepend_known rest left) place
+stands-first None left rest place same none zero = tt
+stands-first (Some xs) left rest place same none zero = subst (λ k. StandsAt (Some xs) (prepend_known rest k) place) (sym same) (record {
   front = [];
   bytes = sym (ap (λ r. r ++ xs) none);
   length_is = zero;
   text = IsUtf8-nil;
-}
+})

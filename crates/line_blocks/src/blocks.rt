@@ -93,7 +93,9 @@ impl<I: Read> LineBlocks<I> {
     }
 
     /// Memory for a block. Where the thread that takes it also gives the blocks back, it serves for one after another.
-    pub fn room(&self, alloc: Global) -> Result<Vec<u8>, AllocError> {
+    pub fn room(&self, alloc: Global) -> Result<Vec<u8>, AllocError>
+        ensures empty { IfOk result (λ room. room.items ≡ []) }
+    {
         Vec::with_capacity(alloc, self.size)
     }
 

@@ -6,7 +6,7 @@ use Rattle.std.proofs.lemmas.List.Concat.{flat_map-append}
 use Rattle.std.specs.Io.KnownBytes.{IsAtEnd, prepend_known}
 use Rattle.sources.specs.Lines.{text_lines}
 use Rattle.line_blocks.specs.Blocks.{IsFolded, TakesBlock}
-use Rattle.line_blocks.proofs.Cuts.{folded-all, folded-more}
+use Rattle.line_blocks.proofs.Cuts.{folded-all, folded-more, folded-none}
 use Rattle.line_readers.specs.Values.{values_of, line_values, GoesOn, IsTaken}
 
 one-image : {X Y : Type 0} (f : X → Y) (l : List X) → flat_map (λ x. f x ∷ []) l ≡ map f l
@@ -14,7 +14,7 @@ one-image f [] = refl
 one-image f (x ∷ l) = ap (λ m. f x ∷ m) (one-image f l)
 
 -- nothing was read yet
-pub known-first : (known : Option (List ℕ)) (rest : List ℕ) → rest ≡ [] → prepend_known rest known ≡ known
+known-first : (known : Option (List ℕ)) (rest : List ℕ) → rest ≡ [] → prepend_known rest known ≡ known
 known-first None rest none = refl
 known-first (Some xs) rest none = ap (λ l. Some (l ++ xs)) none
 
@@ -26,81 +26,98 @@ module _ {Y Z : Type 0} (image : List ℕ → Y) (expand : Y → List Z) where
   pub lines-values : (lines : List (List ℕ)) → flat_map expand (flat_map (λ x. image x ∷ []) lines) ≡ values_of image expand lines
   lines-values lines = ap (flat_map expand) (one-image image lines)
 
-  module _ {B O : Type 0} (is_container : List Z → B → Type 0) (Gives : List Z → O → Type 0) where
-    abbrev made_of : List (List ℕ) → B → Type 0
-    made_of lines = is_container (values_of image expand lines)
-
-    -- what the lines so far decide, all lines give
-    pub decided-lines : (known left after : Option (List ℕ)) (acc next : B) (block : List ℕ) (out : O) → IsFolded made_of known acc left → TakesBlock left block after
-        → ((l : List (List ℕ)) → made_of l acc → made_of (l ++ text_lines block) next)
-        → ((l more : List Z) → is_container l next → Gives l out → Gives (l ++ more) out) → ((l : List Z) → is_container l next → Gives l out)
-        → IfSome known (λ bytes. Gives (line_values image expand bytes) out)
-    decided-lines None left after acc next block out so_far taken worked enough finished = tt
-    decided-lines (Some xs) left None acc next block out so_far taken worked enough finished = absurd (folded-more made_of (Some xs) left None acc next block so_far taken worked)
-    decided-lines (Some xs) left (Some zs) acc next block out so_far taken worked enough finished =
-        let folded = folded-more made_of (Some xs) left (Some zs) acc next block so_far taken worked in
-        let done = values_of image expand folded.0 in
-        let rest = text_lines zs in
-        subst (λ l. Gives l out) (sym (ap (values_of image expand) folded.2 ∙ values-append folded.0 rest))
-        (enough done (values_of image expand rest) folded.1 (finished done folded.1))
-
-    -- all lines have come
-    pub last-lines : (known left after : Option (List ℕ)) (acc next : B) (block : List ℕ) (out : O) → IsFolded made_of known acc left → TakesBlock left block after → IsAtEnd after
-        → ((l : List (List ℕ)) → made_of l acc → made_of (l ++ text_lines block) next) → ((l : List Z) → is_container l next → Gives l out)
-        → IfSome known (λ bytes. Gives (line_values image expand bytes) out)
-    last-lines None left after acc next block out so_far taken ended worked finished = tt
-    last-lines (Some xs) left after acc next block out so_far taken ended worked finished =
-        finished (line_values image expand xs) (folded-all made_of xs after next (folded-more made_of (Some xs) left after acc next block so_far taken worked) ended)
-
 -- where all pass through stages, the next items do
 pub passes-on : {X Y : Type 0} (behind : List X → List Y) (stages : X → List Y) → ((l : List X) → behind l ≡ flat_map stages l)
     → (items : List X) → GoesOn behind behind items (flat_map stages items)
 passes-on behind stages passes items = λ more.
     passes (items ++ more) ∙ flat_map-append stages items more ∙ ap (λ l. flat_map stages items ++ l) (sym (passes more))
 
-module _ {X Y Z C S : Type 0} (made : List Z → C → Type 0) (last : Y → List Z) (whole : List X → List Y) (behind : S → List X → List Y) where
-  -- what was taken of some items, and then of the next ones
-  pub taken-more : (acc next : C) (state later : S) (items more : List X) (new : List Y) → GoesOn (behind state) (behind later) more new
-      → ((l : List Z) → made l acc → made (l ++ flat_map last new) next) → IsTaken made last whole behind items (acc, state) → IsTaken made last whole behind (items ++ more) (next, later)
-  taken-more acc next state later items more new goes_on joins (kept, in_acc, on) = (
-    kept ++ new,
-    subst (λ l. made l next) (sym (flat_map-append last kept new)) (joins (flat_map last kept) in_acc),
-    λ rest.
-        ap whole (append_assoc items more rest) ∙ on (more ++ rest) ∙ ap (λ l. kept ++ l) (goes_on rest) ∙ sym (append_assoc kept new (behind later rest)),
-  )
+-- what was taken of some lines, and then of the next ones
+pub taken-more : {Y X W Z C S : Type 0} (image : List ℕ → Y) (first : Y → List X) {made : List Z → C → Type 0} {last : W → List Z} {whole : List X → List W} {behind : S → List X → List W}
+    {acc : C} {state : S} (l : List (List ℕ)) → IsTaken made last whole behind (values_of image first l) (acc, state) → (lines : List (List ℕ)) (new : List W) (next : C) (later : S)
+    → GoesOn (behind state) (behind later) (values_of image first lines) new → ((l : List Z) → made l acc → made (l ++ flat_map last new) next)
+    → IsTaken made last whole behind (values_of image first (l ++ lines)) (next, later)
+taken-more image first {made = made} {last = last} {whole = whole} {behind = behind} l is lines new next later goes_on joins =
+    let items = values_of image first l in
+    let more = values_of image first lines in
+    record {
+      kept = is.kept ++ new;
+      in_acc = subst (λ l. made l next) (sym (flat_map-append last is.kept new)) (joins (flat_map last is.kept) is.in_acc);
+      on = λ rest.
+          ap (λ xs. whole (xs ++ rest)) (values-append image first l lines) ∙ ap whole (append_assoc items more rest) ∙ is.on (more ++ rest)
+          ∙ ap (λ l. is.kept ++ l) (goes_on rest) ∙ sym (append_assoc is.kept new (behind later rest));
+    }
 
-  module _ (acc : C) (state : S) (items : List X) (taken : IsTaken made last whole behind items (acc, state)) where
+-- what lines go through: a function, a stage, operations that look at many items, from the first item on and behind a state, and a stage behind them
+pub record Way (Y X W Z S : Type 0) : Type 0 where
+  pub image : List ℕ → Y
+  pub first : Y → List X
+  pub whole : List X → List W
+  pub behind : S → List X → List W
+  pub last : W → List Z
+
+module _ {Y X W Z S C : Type 0} (way : Way Y X W Z S) (made : List Z → C → Type 0) where
+  -- what becomes of some lines is in the container
+  abbrev pub taken_of : List (List ℕ) → C × S → Type 0
+  taken_of lines = IsTaken made way.last way.whole way.behind (values_of way.image way.first lines)
+
+  -- nothing was read yet
+  pub none-taken : (all left : Option (List ℕ)) (rest : List ℕ) (taken : C × S) → left ≡ all → rest ≡ [] → made [] taken.0
+      → ((more : List X) → way.behind taken.1 more ≡ way.whole more) → IsFolded taken_of all taken (prepend_known rest left)
+  none-taken all left rest taken same none begun fresh =
+      folded-none taken_of all (prepend_known rest left) taken (known-first left rest none ∙ same) (record { kept = []; in_acc = begun; on = λ more. sym (fresh more) })
+
+  module _ {O : Type 0} (Gives : List Z → O → Type 0) (out : O) (taken : C × S) (nothing : way.behind taken.1 [] ≡ []) (finished : (l : List Z) → made l taken.0 → Gives l out) where
+    abbrev given_of : List X → Type 0
+    given_of items = Gives (flat_map way.last (way.whole items)) out
+
     -- what was kept is the value of the items
-    pub kept-whole : behind state [] ≡ [] → whole items ≡ taken.0
-    kept-whole nothing = ap whole (sym (append-nil items)) ∙ taken.2 [] ∙ ap (λ l. taken.0 ++ l) nothing ∙ append-nil taken.0
+    kept-whole : (items : List X) (is : IsTaken made way.last way.whole way.behind items taken) → way.whole items ≡ is.kept
+    kept-whole items is = ap way.whole (sym (append-nil items)) ∙ is.on [] ∙ ap (λ l. is.kept ++ l) nothing ∙ append-nil is.kept
 
-    module _ {O : Type 0} (Gives : List Z → O → Type 0) (out : O) where
-      pub taken-gives : behind state [] ≡ [] → ((l : List Z) → made l acc → Gives l out) → Gives (flat_map last (whole items)) out
-      taken-gives nothing finished =
-          subst (λ l. Gives (flat_map last l) out) (sym (kept-whole nothing)) (finished (flat_map last taken.0) taken.1)
+    front-given : (items : List X) → IsTaken made way.last way.whole way.behind items taken → given_of items
+    front-given items is = subst (λ l. Gives (flat_map way.last l) out) (sym (kept-whole items is)) (finished (flat_map way.last is.kept) is.in_acc)
 
-      -- where nothing is left of what is to come, the value is that of the items so far
-      pub over-gives : (more : List X) → ((l : List X) → behind state l ≡ []) → Gives (flat_map last (whole items)) out → Gives (flat_map last (whole (items ++ more))) out
-      over-gives more over gives =
-          let same = taken.2 more ∙ ap (λ l. taken.0 ++ l) (over more) ∙ append-nil taken.0 ∙ sym (kept-whole (over [])) in
-          subst (λ l. Gives (flat_map last l) out) (sym same) gives
+    -- all lines have come
+    pub last-given : (known after : Option (List ℕ)) → IsFolded taken_of known taken after → IsAtEnd after → IfSome known (λ bytes. given_of (line_values way.image way.first bytes))
+    last-given None after folded ended = tt
+    last-given (Some xs) after folded ended = front-given (line_values way.image way.first xs) (folded-all taken_of xs after taken folded ended)
 
-      -- .. and so it is where the container is decided
-      pub decided-gives : (more : List X) → behind state [] ≡ [] → ((l r : List Z) → made l acc → Gives l out → Gives (l ++ r) out)
-          → Gives (flat_map last (whole items)) out → Gives (flat_map last (whole (items ++ more))) out
-      decided-gives more nothing decided gives =
-          let now = subst (λ l. Gives (flat_map last l) out) (kept-whole nothing) gives in
-          let both = decided (flat_map last taken.0) (flat_map last (behind state more)) taken.1 now in
-          subst (λ l. Gives l out) (sym (ap (flat_map last) (taken.2 more) ∙ flat_map-append last taken.0 (behind state more))) both
+    -- what the lines so far decide, all lines give
+    enough-given : ((items more : List X) → IsTaken made way.last way.whole way.behind items taken → given_of (items ++ more)) → (known after : Option (List ℕ))
+        → IsFolded taken_of known taken after → IfSome known (λ bytes. given_of (line_values way.image way.first bytes))
+    enough-given enough None after folded = tt
+    enough-given enough (Some xs) None folded = absurd folded
+    enough-given enough (Some xs) (Some zs) folded =
+        let values = values_of way.image way.first in
+        subst given_of (sym (ap values folded.2 ∙ values-append way.image way.first folded.0 (text_lines zs))) (enough (values folded.0) (values (text_lines zs)) folded.1)
 
--- a sink that took what came, and then what is made of the lines of a block
-pub handed-more : {X Y Z K S : Type 0} (image : List ℕ → Y) (expand : Y → List X) (Takes : K → List Z → K → Type 0)
-    → ((a b c : K) (xs ys : List Z) → Takes a xs b → Takes b ys c → Takes a (xs ++ ys) c) → {W : Type 0} (last : W → List Z) (whole : List X → List W) (behind : S → List X → List W)
-    → (from now next : K) (state later : S) (lines : List (List ℕ)) (kept : List W) (handed : List Z) → handed ≡ flat_map last kept
-    → GoesOn (behind state) (behind later) (values_of image expand lines) kept → Takes now handed next
-    → (l : List (List ℕ)) → IsTaken (Takes from) last whole behind (values_of image expand l) (now, state)
-    → IsTaken (Takes from) last whole behind (values_of image expand (l ++ lines)) (next, later)
-handed-more image expand Takes both last whole behind from now next state later lines kept handed is on takes = λ l taken.
-    subst (λ xs. IsTaken (Takes from) last whole behind xs (next, later)) (sym (values-append image expand l lines))
-    (taken-more (Takes from) last whole behind now next state later (values_of image expand l) (values_of image expand lines) kept on
-    (λ zs came. both from now next zs (flat_map last kept) came (subst (λ ys. Takes now ys next) is takes)) taken)
+    -- .. where nothing is left of what is to come
+    pub over-given : ((l : List X) → way.behind taken.1 l ≡ []) → (known after : Option (List ℕ))
+        → IsFolded taken_of known taken after → IfSome known (λ bytes. given_of (line_values way.image way.first bytes))
+    over-given over = enough-given (λ items more is.
+        let same = is.on more ∙ ap (λ l. is.kept ++ l) (over more) ∙ append-nil is.kept in
+        subst (λ l. Gives (flat_map way.last l) out) (sym same) (finished (flat_map way.last is.kept) is.in_acc))
+
+    -- .. and where the container is decided
+    pub decided-given : ((l r : List Z) → made l taken.0 → Gives l out → Gives (l ++ r) out) → (known after : Option (List ℕ))
+        → IsFolded taken_of known taken after → IfSome known (λ bytes. given_of (line_values way.image way.first bytes))
+    decided-given decided = enough-given (λ items more is.
+        let now = flat_map way.last is.kept in
+        let rest = way.behind taken.1 more in
+        subst (λ l. Gives l out) (sym (ap (flat_map way.last) (is.on more) ∙ flat_map-append way.last is.kept rest))
+        (decided now (flat_map way.last rest) is.in_acc (finished now is.in_acc)))
+
+-- a sink that took what came, and then what a container has of one more block
+pub handed-more : {Y X W Z S A K : Type 0} (way : Way Y X W Z S) (Takes : K → List Z → K → Type 0) → ((a b c : K) (xs ys : List Z) → Takes a xs b → Takes b ys c → Takes a (xs ++ ys) c)
+    → {made : List Z → A → Type 0} (from now next : K) (state later : S) (begun acc : A) (known left after : Option (List ℕ)) (block : List ℕ) (handed : List Z)
+    → IsFolded (taken_of way (Takes from)) known (now, state) left → TakesBlock left block after
+    → ((whole : List X → List W) (l : List (List ℕ)) → IsTaken made way.last whole way.behind (values_of way.image way.first l) (begun, state)
+    → IsTaken made way.last whole way.behind (values_of way.image way.first (l ++ text_lines block)) (acc, later))
+    → made [] begun → ((l : List Z) → made l acc → handed ≡ l) → Takes now handed next → IsFolded (taken_of way (Takes from)) known (next, later) after
+handed-more way Takes both from now next state later begun acc known left after block handed folded block_is worked empty finished takes =
+    let is = worked (way.behind state) [] (record { kept = []; in_acc = empty; on = λ more. refl }) in
+    let here = flat_map way.last is.kept in
+    let takes_here = subst (λ ys. Takes now ys next) (finished here is.in_acc) takes in
+    folded-more (taken_of way (Takes from)) known left after (now, state) (next, later) block folded block_is
+    (λ l taken. taken-more way.image way.first l taken (text_lines block) is.kept next later is.on (λ zs came. both from now next zs here came takes_here))

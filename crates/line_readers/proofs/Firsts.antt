@@ -1,6 +1,5 @@
 -- The first item of a list is that of each longer one.
-use Rattle.std.specs.Prelude.{◌≡◌, Bool, true, List, [], ◌∷◌, ◌++◌, Option, Some, None, fold, option_map, refl}
-use Rattle.std.proofs.Common.{sym, subst}
+use Rattle.std.specs.Prelude.{◌≡◌, true, List, [], ◌∷◌, ◌++◌, Option, Some, None, fold, option_map, refl}
 use Rattle.std.specs.Option.{is_some}
 use Rattle.collectors.specs.Reductions.{first, earlier, reduce_add}
 

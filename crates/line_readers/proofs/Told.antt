@@ -1,11 +1,11 @@
 -- What is told of a reader, in other words for the same.
 use Rattle.std.specs.Prelude.{◌≡◌, ℕ, List, Option, Some, None, Result, Ok, Err, IfOk, IfErr, IfSome, OnErr}
-use Rattle.std.proofs.Common.{sym, subst}
+use Rattle.std.proofs.Common.{subst}
 use Rattle.line_blocks.specs.declared.error.LinesError.{LinesError}
 use Rattle.line_blocks.specs.Faults.{IsFault}
 
-pub same-fault : {V : Type 0} (result : Result V LinesError) (n m : ℕ) (k l : Option (List ℕ)) → n ≡ m → k ≡ l → IfErr result (IsFault n k) → IfErr result (IsFault m l)
-same-fault result n m k l sizes bytes told =
+pub same-fault : {V : Type 0} {n m : ℕ} {k l : Option (List ℕ)} (result : Result V LinesError) → n ≡ m → k ≡ l → IfErr result (IsFault n k) → IfErr result (IsFault m l)
+same-fault {m = m} {k = k} result sizes bytes told =
     subst (λ k. IfErr result (IsFault m k)) bytes (subst (λ n. IfErr result (IsFault n k)) sizes told)
 
 some-value : {V Z : Type 0} (Gives : List Z → V → Type 0) (v w : List ℕ → List Z) (out : V) (k : Option (List ℕ)) → ((bytes : List ℕ) → v bytes ≡ w bytes)
@@ -13,10 +13,10 @@ some-value : {V Z : Type 0} (Gives : List Z → V → Type 0) (v w : List ℕ �
 some-value Gives v w out None same told = tt
 some-value Gives v w out (Some bytes) same told = subst (λ l. Gives l out) (same bytes) told
 
-pub same-value : {V Z E : Type 0} (Gives : List Z → V → Type 0) (v w : List ℕ → List Z) (result : Result V E) (k l : Option (List ℕ)) → k ≡ l → ((bytes : List ℕ) → v bytes ≡ w bytes)
+pub same-value : {V Z E : Type 0} {v w : List ℕ → List Z} {k l : Option (List ℕ)} (Gives : List Z → V → Type 0) (result : Result V E) → k ≡ l → ((bytes : List ℕ) → v bytes ≡ w bytes)
     → IfOk result (λ out. IfSome k (λ bytes. Gives (v bytes) out)) → IfOk result (λ out. IfSome l (λ bytes. Gives (w bytes) out))
-same-value Gives v w (Ok out) k l bytes same told = subst (λ k. IfSome k (λ bytes. Gives (w bytes) out)) bytes (some-value Gives v w out k same told)
-same-value Gives v w (Err e) k l bytes same told = tt
+same-value {v = v} {w = w} {k = k} Gives (Ok out) bytes same told = subst (λ k. IfSome k (λ bytes. Gives (w bytes) out)) bytes (some-value Gives v w out k same told)
+same-value Gives (Err e) bytes same told = tt
 
 pub on-err : {V E : Type 0} (result : Result V E) (P : Type 0) → P → OnErr result P
 on-err (Ok x) P holds = tt

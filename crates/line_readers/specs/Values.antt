@@ -16,5 +16,7 @@ abbrev pub GoesOn : {X Y : Type 0} → (List X → List Y) → (List X → List 
 GoesOn before behind items kept = (more : List _) → before (items ++ more) ≡ kept ++ behind more
 
 -- what was kept of these items is in the container, through the last stage, and the state is the one behind them
-abbrev pub IsTaken : {X Y Z C S : Type 0} → (List Z → C → Type 0) → (Y → List Z) → (List X → List Y) → (S → List X → List Y) → List X → C × S → Type 0
-IsTaken made last value behind items taken = (kept : List _) × made (flat_map last kept) taken.0 × GoesOn value (behind taken.1) items kept
+pub record IsTaken {X Y Z C S : Type 0} (made : List Z → C → Type 0) (last : Y → List Z) (value : List X → List Y) (behind : S → List X → List Y) (items : List X) (taken : C × S) : Type 0 where
+  pub kept : List Y
+  pub in_acc : made (flat_map last kept) taken.0
+  pub on : GoesOn value (behind taken.1) items kept

@@ -1,7 +1,6 @@
 //! Lines of a reader behind an operation that looks at many items.
-ghost use Rattle.std.specs.Prelude.{◌≡◌, ◌<◌, ℕ, List, flat_map};
+ghost use Rattle.std.specs.Prelude.{◌≡◌, flat_map};
 ghost use Rattle.spliterator.specs.Clones.{ClonesAlike};
-ghost use Rattle.line_readers.specs.Values.{line_values};
 
 use crate::{Between, LineParts, LineSteps, LineStream, Linked};
 use barriers::Barrier;
@@ -123,30 +122,7 @@ where
         Linked<L::Barriers, L::Last, B>,
         Then<<L::Barriers as Between>::Stages, L::Last>,
         Z,
-    >
-        ensures function { let ready = L.ready self.upstream × B.Demand.ready self.barrier × B.can_carry self.barrier × Z.ready self.stage
-            × ClonesAlike L.Lead.is_clone L.Lead.content × ClonesAlike L.Item.is_clone L.Item.content in
-            ready → L.Function.ready result.steps.function }
-        ensures first { let ready = L.ready self.upstream × B.Demand.ready self.barrier × B.can_carry self.barrier × Z.ready self.stage
-            × ClonesAlike L.Lead.is_clone L.Lead.content × ClonesAlike L.Item.is_clone L.Item.content in
-            ready → L.First.ready result.steps.first }
-        ensures between { let ready = L.ready self.upstream × B.Demand.ready self.barrier × B.can_carry self.barrier × Z.ready self.stage
-            × ClonesAlike L.Lead.is_clone L.Lead.content × ClonesAlike L.Item.is_clone L.Item.content in
-            let own = result.steps in
-            let before = L.Barriers.ready own.barriers.before own.between.first × L.Last.ready own.between.second in
-            let barrier = B.Demand.ready own.barriers.barrier × B.can_carry own.barriers.barrier in
-            ready → before × barrier }
-        ensures last { let ready = L.ready self.upstream × B.Demand.ready self.barrier × B.can_carry self.barrier × Z.ready self.stage
-            × ClonesAlike L.Lead.is_clone L.Lead.content × ClonesAlike L.Item.is_clone L.Item.content in
-            ready → Z.ready result.steps.last }
-        ensures known { L.Reader.remaining result.reader ≡ L.known self.upstream }
-        ensures longest { result.longest ≡ L.longest self.upstream }
-        ensures value { let own = result.steps in
-            let items = line_values (L.Function.image own.function) (L.First.expand own.first) in
-            let before = λ (bytes : List ℕ). L.Barriers.value own.barriers.before own.between.first (items bytes) in
-            let kept = λ (bytes : List ℕ). B.value own.barriers.barrier (flat_map (L.Last.expand own.between.second) (before bytes)) in
-            (bytes : List ℕ) → flat_map (Z.expand own.last) (kept bytes) ≡ flat_map (Z.expand self.stage) (B.value self.barrier (L.value self.upstream bytes)) }
-    {
+    > {
         let lines = self.upstream.into_lines();
         let LineSteps {
             function,

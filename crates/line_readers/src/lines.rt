@@ -1,5 +1,5 @@
 //! Lines of a reader, lazily.
-ghost use Rattle.std.specs.Prelude.{◌≡◌, ◌<◌, ◌∷◌, ℕ, List, [], flat_map};
+ghost use Rattle.std.specs.Prelude.{◌≡◌, ◌<◌};
 ghost use Rattle.line_readers.specs.Values.{line_values};
 
 use crate::{LineFunction, LineParts, LineSteps, LineStream, NoBarrier};
@@ -193,18 +193,7 @@ where
 
     ghost value = { λ s. line_values (F.image s.function) (A.expand s.stage) };
 
-    fn into_lines(self) -> LineParts<I, F, A, NoBarrier<A::Out>, Nothing<A::Out>, Nothing<A::Out>>
-        ensures function { F.ready self.function × A.ready self.stage
-            → F.ready result.steps.function }
-        ensures first { F.ready self.function × A.ready self.stage → A.ready result.steps.first }
-        ensures known { I.remaining result.reader ≡ I.remaining self.reader }
-        ensures longest { result.longest ≡ self.longest }
-        ensures value { let own = result.steps in
-            let items = line_values (F.image own.function) (A.expand own.first) in
-            let nothing = λ (x : A.Out.Content). x ∷ [] in
-            let values = line_values (F.image self.function) (A.expand self.stage) in
-            (bytes : List ℕ) → flat_map nothing (items bytes) ≡ values bytes }
-    {
+    fn into_lines(self) -> LineParts<I, F, A, NoBarrier<A::Out>, Nothing<A::Out>, Nothing<A::Out>> {
         LineParts {
             reader: self.reader,
             size: self.size,

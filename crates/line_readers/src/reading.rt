@@ -195,11 +195,11 @@ where
     Err(LinesError::TooLong)
 }
 
-/// Hands what becomes of the lines that a reader has left to a sink, block after block.
+/// Hands what becomes of the lines that a reader has left to a sink, block after block, while another thread reads the next one.
 pub(crate) fn hand_lines<
     R: Threads + Clock + Sync,
     H: Gate + Sync,
-    I: Read + Drop,
+    I: Read + Send + Drop,
     F: LineFunction + Sync + Drop,
     A: Stage<In = F::Out> + Sync + Drop,
     Q: Between<In = A::Out> + Drop,
@@ -228,22 +228,27 @@ where
     ensures spoilt { OnErr result (K.spoils action.old action.new) }
 {
     let list = ToList::new(engine.alloc);
-    let mut blocks = LineBlocks::new(engine.alloc, lines.reader, lines.size, lines.longest);
+    let fresh = LineBlocks::new(engine.alloc, lines.reader, lines.size, lines.longest);
     let steps = &lines.steps;
+    let room = fresh.room(engine.alloc)?;
+    let (mut blocks, mut block) = read_ahead(fresh, room)?;
     let mut state = steps.barriers.fresh(engine.alloc);
     for _ in 0..u64::MAX {
-        let room = blocks.room(engine.alloc)?;
-        let (behind, block) = read_ahead(blocks, room)?;
         let taken = (new_container(&list)?, state);
-        let (whole, later) = work(engine, steps, &list, taken, block.text)?;
-        action.take_all(&mut finish_container(&list, whole)?)?;
         if block.is_last {
+            let (whole, _state) = work(engine, steps, &list, taken, block.text)?;
+            action.take_all(&mut finish_container(&list, whole)?)?;
             return Ok(());
         }
+        let (more, ahead) = work_and_read(engine, blocks, steps, &list, taken, block.text)?;
+        let (kept, later) = more;
+        action.take_all(&mut finish_container(&list, kept)?)?;
         if steps.barriers.is_over(&steps.between, &later) {
             return Ok(());
         }
+        let (behind, next) = ahead?;
         blocks = behind;
+        block = next;
         state = later;
     }
     Err(LinesError::TooLong)

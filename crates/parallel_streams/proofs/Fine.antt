@@ -33,11 +33,6 @@ module _ {S C : Type 0} (items : S → List C) (weight estimate told : S → ℕ
       )
 
 module _ {S C : Type 0} (fine : S → Type 0) (source : S) (items : List C) (segment unread : List C) (rest : List S) (told : Option ℕ) where
-  -- nothing was read before the first segment
-  pub reads-first : segment ++ unread ≡ items → (fine source → (told ≡ Some (length segment)) × Each fine rest)
-      → HasReadFrom fine source items segment unread rest told 0 (length segment)
-  reads-first joins tells = (([], sym joins, refl, omega arith), tells)
-
   -- the next one stands behind what was read
   pub reads-next : (unread_old : List C) (rest_old : List S) (told_old : Option ℕ) (n : ℕ) → HasRead fine source items unread_old rest_old told_old n → segment ++ unread ≡ unread_old
       → (fine source → (told ≡ Some (n + length segment)) × Each fine rest) → HasReadFrom fine source items segment unread rest told n (n + length segment)

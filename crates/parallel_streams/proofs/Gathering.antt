@@ -13,8 +13,8 @@ use Rattle.stealing_pool.specs.Reports.{Reports}
 use Rattle.stealing_pool.specs.SpanLaws.{run-last}
 use Rattle.parallel_streams.specs.Progress.{own_work, barred_work}
 use Rattle.parallel_streams.specs.ProgressLaws.{stands-own}
-use Rattle.parallel_streams.specs.declared.part.Part.{Part}
-use Rattle.parallel_streams.specs.declared.part.Part.TheVariants.{Own}
+use Rattle.parallel_streams.specs.declared.kept.Kept.{Kept}
+use Rattle.parallel_streams.specs.declared.kept.Kept.TheVariants.{Own}
 use Rattle.parallel_streams.proofs.Hits.{front-told}
 
 module _ {P T C : Type 0} (before : Work P) (is_value : C → Type 0) (needed : Option ℕ) (counted : C → Bool) (content : T → C) (value : List C → List C) (lists : List (List C)) where
@@ -36,19 +36,19 @@ module _ {P T C : Type 0} (before : Work P) (is_value : C → Type 0) (needed : 
       let told = subst Told same (front-told needed counted lists entry.leaves (count_of entry) (cut_of entry) run.0 reports run.1 run.3) in
       (front, subst Outcome' same run.1, thinned, thinned-told value needed counted front (map content items) (is_some (cut_of entry)) thinned told, reports)
 
-  pub kept-own : (done : Bool) (part : Part P T) (items : List T) (entry : Outcome) → part ≡ Own items
+  pub kept-own : (done : Bool) (part : Kept P T) (items : List T) (entry : Outcome) → part ≡ Own items
       → StandsForRun (barred_work done before own) part
       → Reports (barred_work done before own).needed (barred_work done before own).leaves (barred_work done before own).full entry.leaves (count_of entry) (cut_of entry)
       → (done ≡ true) × KeptOwn items entry
   kept-own false part items entry is stands reports =
-      let Q : Part P T → Type 0 = λ p. StandsForRun (barred_work false before own) p in
+      let Q : Kept P T → Type 0 = λ p. StandsForRun (barred_work false before own) p in
       let none = (stands-own before own false items (subst Q is stands)).0 in
       absurd (no-true none)
     where
       no-true : false ≡ true → ⊥
       no-true e = cc
   kept-own true part items entry is stands reports =
-      let Q : Part P T → Type 0 = λ p. StandsForRun (barred_work true before own) p in
+      let Q : Kept P T → Type 0 = λ p. StandsForRun (barred_work true before own) p in
       (refl, kept-front items entry (stands-own before own true items (subst Q is stands)).1 reports)
 
 module _ {C : Type 0} (needed : Option ℕ) (counted : C → Bool) (value_before value_after : List C → List C) (law : KeepsEnough needed counted value_before)

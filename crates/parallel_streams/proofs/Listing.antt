@@ -26,8 +26,3 @@ take-whole zero [] h = refl
 take-whole (suc n) [] h = absurd (omega (arith, h))
 take-whole zero (x ∷ xs) h = absurd (omega (arith, h))
 take-whole (suc n) (x ∷ xs) h = ap (λ l. x ∷ l) (take-whole n xs (omega (arith, h)))
-
--- the lists of all leaves
-pub listed-all : {T C : Type 0} (content : T → C) (lists : List (List C)) (n : ℕ) (list : List T) → length lists ≡ n
-    → Appends content (joined (take n lists)) [] list → map content list ≡ joined lists
-listed-all content lists n list number all = ap (map content) all.1 ∙ all.2 ∙ ap joined (take-whole n lists number)

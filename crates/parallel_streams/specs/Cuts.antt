@@ -21,10 +21,6 @@ abbrev pub start_at : ℕ → List ℕ → ℕ → ℕ
 start_at from ends zero = from
 start_at from ends (suc i) = slice_index ends i
 
-pub Ascends-push : (from end to : ℕ) (es : List ℕ) → Ascends from end es → end ≤ to → Ascends from to (es ++ to ∷ [])
-Ascends-push from end to [] h further = (omega (arith, h), refl)
-Ascends-push from end to (e ∷ es) h further = (h.0, Ascends-push e end to es h.1 further)
-
 pub Ascends-reach : (from end : ℕ) (es : List ℕ) → Ascends from end es → from ≤ end
 Ascends-reach from end [] h = omega (arith, h)
 Ascends-reach from end (e ∷ es) h = let rest = Ascends-reach e end es h.1 in let first : from ≤ e = h.0 in omega arith

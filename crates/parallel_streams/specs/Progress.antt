@@ -11,10 +11,10 @@ use Rattle.leaf_reading.specs.declared.leaf_end.LeafEnd.TheVariants.{Done, Cut}
 use Rattle.parallel_streams.specs.Cuts.{Ascends, cut_at}
 use Rattle.parallel_streams.specs.Ends.{ends_of}
 use Rattle.parallel_streams.specs.Leaves.{AreLeafEnds}
-use Rattle.parallel_streams.specs.declared.part.BarredProgress.{BarredProgress}
-use Rattle.parallel_streams.specs.declared.part.Listed.{Listed}
-use Rattle.parallel_streams.specs.declared.part.Part.{Part}
-use Rattle.parallel_streams.specs.declared.part.Part.TheVariants.{Before, Own}
+use Rattle.parallel_streams.specs.declared.kept.BarredProgress.{BarredProgress}
+use Rattle.parallel_streams.specs.declared.kept.Listed.{Listed}
+use Rattle.parallel_streams.specs.declared.kept.Kept.{Kept}
+use Rattle.parallel_streams.specs.declared.kept.Kept.TheVariants.{Before, Own}
 
 -- a barrier's list is cut into parts
 abbrev pub IsCut : {T : Type 0} → Listed T → Type 0
@@ -75,11 +75,11 @@ parts_of content before None = before
 parts_of content before (Some listed) = cut_at 0 (ends_of listed.places) (map content listed.items.items)
 
 -- what is kept is a part of a barrier before, or this barrier's own
-abbrev pub KeepsBefore : {P T : Type 0} → (P → Type 0) → Part P T → Type 0
+abbrev pub KeepsBefore : {P T : Type 0} → (P → Type 0) → Kept P T → Type 0
 KeepsBefore keeps (Before p) = keeps p
 KeepsBefore keeps (Own items) = ⊥
 
-abbrev pub KeepsOwn : {P T : Type 0} → (List T → Type 0) → Part P T → Type 0
+abbrev pub KeepsOwn : {P T : Type 0} → (List T → Type 0) → Kept P T → Type 0
 KeepsOwn keeps (Before p) = ⊥
 KeepsOwn keeps (Own items) = keeps items
 
@@ -97,7 +97,7 @@ own_work needed counted is_value content value lists = record {
 }
 
 -- while a barrier before has not run, the next run is that barrier's; then it is this barrier's own
-abbrev pub barred_work : {P T : Type 0} → Bool → Work P → Work (List T) → Work (Part P T)
+abbrev pub barred_work : {P T : Type 0} → Bool → Work P → Work (List T) → Work (Kept P T)
 barred_work false before own = record { leaves = before.leaves; full = before.full; needed = before.needed; Keeps = λ from to count part. KeepsBefore (before.Keeps from to count) part }
 barred_work true before own = record { leaves = own.leaves; full = own.full; needed = own.needed; Keeps = λ from to count part. KeepsOwn (own.Keeps from to count) part }
 
@@ -111,13 +111,13 @@ ended_with f (Ok end) = Ok (end_with f end)
 ended_with f (Err refused) = Err refused
 
 -- how a leaf of a barrier's own run ended, with so much of its list left that it makes the same difference
-abbrev pub EndsThinned : {P T : Type 0} → (List T → List T → Type 0) → LeafEnd (Part P T) → LeafEnd (List T) → Type 0
+abbrev pub EndsThinned : {P T : Type 0} → (List T → List T → Type 0) → LeafEnd (Kept P T) → LeafEnd (List T) → Type 0
 EndsThinned thinned (Done left) (Done p) = (left.count ≡ p.count) × KeepsOwn (thinned p.kept) left.kept
 EndsThinned thinned (Done left) Cut = ⊥
 EndsThinned thinned Cut (Done p) = ⊥
 EndsThinned thinned Cut Cut = Unit {0}
 
-abbrev pub EndedThinned : {P T E : Type 0} → (List T → List T → Type 0) → Result (LeafEnd (Part P T)) E → Result (LeafEnd (List T)) E → Type 0
+abbrev pub EndedThinned : {P T E : Type 0} → (List T → List T → Type 0) → Result (LeafEnd (Kept P T)) E → Result (LeafEnd (List T)) E → Type 0
 EndedThinned thinned (Err refused) end = Unit {0}
 EndedThinned thinned (Ok ended) (Ok end) = EndsThinned thinned ended end
 EndedThinned thinned (Ok ended) (Err refused) = ⊥

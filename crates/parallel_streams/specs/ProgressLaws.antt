@@ -19,9 +19,9 @@ use Rattle.parallel_streams.specs.Ends.{ends_of}
 use Rattle.parallel_streams.specs.Leaves.{IsCutList}
 use Rattle.parallel_streams.specs.LeafCutLaws.{IsCutList-ends}
 use Rattle.parallel_streams.specs.Progress.{HoldsListed, IsCut, IsPlannedList, ToldSoFar, is_listed, is_ready, left_of, next_leaves, parts_of, barred_work, own_work, fronts_of, KeepsOwn, EndsThinned, EndedThinned, end_with, ended_with}
-use Rattle.parallel_streams.specs.declared.part.Listed.{Listed}
-use Rattle.parallel_streams.specs.declared.part.Part.{Part}
-use Rattle.parallel_streams.specs.declared.part.Part.TheVariants.{Before, Own}
+use Rattle.parallel_streams.specs.declared.kept.Listed.{Listed}
+use Rattle.parallel_streams.specs.declared.kept.Kept.{Kept}
+use Rattle.parallel_streams.specs.declared.kept.Kept.TheVariants.{Before, Own}
 
 -- while the last run may not begin, nothing is listed
 pub unready-unlisted : {T : Type 0} (passes done : Bool) (listed : Option (Listed T)) → is_ready passes done listed ≡ false → is_listed listed ≡ false
@@ -88,27 +88,18 @@ count-parts_of content n parts passes done None is count = count (ready-passes p
 count-parts_of content n parts passes done (Some l) is count = length-cut_at 0 (ends_of l.places) (map content l.items.items)
 
 module _ {P T : Type 0} (before : Work P) (own : Work (List T)) where
-  pub combines-before : (done : Bool) (left right both : P) → Combines before left right both → Combines (barred_work done before own) (Before left) (Before right) (Before both)
-  combines-before true left right both h from middle to count more p q kept few following = absurd kept
-  combines-before false left right both h from middle to count more p q kept few following = h from middle to count more p q kept few following
-
   pub combines-own : (done : Bool) (left right both : List T) → Combines own left right both → Combines (barred_work done before own) (Own left) (Own right) (Own both)
   combines-own true left right both h from middle to count more p q kept few following = h from middle to count more p q kept few following
   combines-own false left right both h from middle to count more p q kept few following = absurd kept
 
   -- parts of two kinds stand for no leaves
-  pub combines-mixed : (done : Bool) (left : P) (right : List T) (both : Part P T) → Combines (barred_work done before own) (Before left) (Own right) both
+  pub combines-mixed : (done : Bool) (left : P) (right : List T) (both : Kept P T) → Combines (barred_work done before own) (Before left) (Own right) both
   combines-mixed true left right both from middle to count more p q kept few following = absurd kept
   combines-mixed false left right both from middle to count more p q kept few following = absurd following
 
-  pub combines-mixed_own : (done : Bool) (left : List T) (right : P) (both : Part P T) → Combines (barred_work done before own) (Own left) (Before right) both
+  pub combines-mixed_own : (done : Bool) (left : List T) (right : P) (both : Kept P T) → Combines (barred_work done before own) (Own left) (Before right) both
   combines-mixed_own true left right both from middle to count more p q kept few following = absurd following
   combines-mixed_own false left right both from middle to count more p q kept few following = absurd kept
-
-  -- a part of a barrier before is kept only while that barrier has not run
-  pub stands-before : (done : Bool) (part : P) → StandsForRun (barred_work done before own) (Before part) → (done ≡ false) × StandsForRun before part
-  stands-before true part (to, count, within, keeps, end) = absurd keeps
-  stands-before false part h = (refl, h)
 
   pub stands-own : (done : Bool) (part : List T) → StandsForRun (barred_work done before own) (Own part) → (done ≡ true) × StandsForRun own part
   stands-own true part h = (refl, h)
@@ -143,21 +134,21 @@ module _ {P T : Type 0} (before : Work P) where
           subst Left (sym (ap (map content) joins ∙ map-append content left right)) (thinned-both value needed l m (map content left) (map content right) first second),
         )
 
-    pub combines-joined : (done : Bool) (kept following : Part P T) (left right both : List T) → kept ≡ Own left → following ≡ Own right → both ≡ left ++ right → Combines (barred_work done before own) kept following (Own both)
+    pub combines-joined : (done : Bool) (kept following : Kept P T) (left right both : List T) → kept ≡ Own left → following ≡ Own right → both ≡ left ++ right → Combines (barred_work done before own) kept following (Own both)
     combines-joined done kept following left right both is_left is_right joins =
-        let Q : Part P T → Type 0 = λ k. Combines (barred_work done before own) k following (Own both) in
-        let R : Part P T → Type 0 = λ m. Combines (barred_work done before own) (Own left) m (Own both) in
+        let Q : Kept P T → Type 0 = λ k. Combines (barred_work done before own) k following (Own both) in
+        let R : Kept P T → Type 0 = λ m. Combines (barred_work done before own) (Own left) m (Own both) in
         subst Q (sym is_left) (subst R (sym is_right) (combines-own before own done left right both (combines-thinned left right both joins)))
 
     abbrev Thinned : List T → List T → Type 0
     Thinned whole kept = IsThinned needed value (map content whole) (map content kept)
 
-    keeps-thinned : (i n : ℕ) (whole : List T) (part : Part P T) → (fronts_of needed counted is_value lists).Keeps i (i + 1) n (map content whole) → KeepsOwn (Thinned whole) part → KeepsOwn (own.Keeps i (i + 1) n) part
+    keeps-thinned : (i n : ℕ) (whole : List T) (part : Kept P T) → (fronts_of needed counted is_value lists).Keeps i (i + 1) n (map content whole) → KeepsOwn (Thinned whole) part → KeepsOwn (own.Keeps i (i + 1) n) part
     keeps-thinned i n whole (Before k) keeps thinned = absurd thinned
     keeps-thinned i n whole (Own k) keeps thinned = (map content whole, keeps, thinned)
 
     -- what is left of a leaf's list stands for the leaf
-    ends-thinned : (cut i : ℕ) (end : LeafEnd (List T)) (ended : LeafEnd (Part P T)) (done : Bool) → done ≡ true → EndsThinned Thinned ended end
+    ends-thinned : (cut i : ℕ) (end : LeafEnd (List T)) (ended : LeafEnd (Kept P T)) (done : Bool) → done ≡ true → EndsThinned Thinned ended end
         → EndsLeaf (work_of listing (map content) lists) cut i end → EndsLeaf (barred_work done before own) cut i ended
     ends-thinned cut i end ended false is thinned h = absurd (true≢false (sym is))
     ends-thinned cut i Cut Cut true is thinned h = h
@@ -167,20 +158,11 @@ module _ {P T : Type 0} (before : Work P) where
         let Q : ℕ → Type 0 = λ n. KeepsOwn (own.Keeps i (i + 1) n) left.kept × IsLawful needed (full_count counted lists i) n × IsWithin needed n in
         subst Q (sym thinned.0) (keeps-thinned i p.count p.kept left.kept h.0 thinned.1, h.1, h.2)
 
-    pub ends-own_ok : {E : Type 0} (done : Bool) (cut i : ℕ) (end : Result (LeafEnd (List T)) E) (ended : Result (LeafEnd (Part P T)) E) → EndedThinned Thinned ended end → done ≡ true
+    pub ends-own_ok : {E : Type 0} (done : Bool) (cut i : ℕ) (end : Result (LeafEnd (List T)) E) (ended : Result (LeafEnd (Kept P T)) E) → EndedThinned Thinned ended end → done ≡ true
         → IfOk end (EndsLeaf (work_of listing (map content) lists) cut i) → IfOk ended (EndsLeaf (barred_work done before own) cut i)
     ends-own_ok done cut i end (Err refused) thinned is h = tt
     ends-own_ok done cut i (Ok end) (Ok ended) thinned is h = ends-thinned cut i end ended done is thinned h
     ends-own_ok done cut i (Err refused) (Ok ended) thinned is h = absurd thinned
-
-  pub ends-before_ok : {E : Type 0} (own : Work (List T)) (done : Bool) (cut i : ℕ) (end : Result (LeafEnd P) E) (ended : Result (LeafEnd (Part P T)) E) → ended ≡ ended_with Before end → done ≡ false
-      → IfOk end (EndsLeaf before cut i) → IfOk ended (EndsLeaf (barred_work done before own) cut i)
-  ends-before_ok {E} own done cut i (Ok end) ended is unrun h =
-      let Q : Result (LeafEnd (Part P T)) E → Type 0 = λ r. IfOk r (EndsLeaf (barred_work done before own) cut i) in
-      subst Q (sym is) (ends-before before own done cut i end unrun h)
-  ends-before_ok {E} own done cut i (Err refused) ended is unrun h =
-      let Q : Result (LeafEnd (Part P T)) E → Type 0 = λ r. IfOk r (EndsLeaf (barred_work done before own) cut i) in
-      subst Q (sym is) tt
 
 -- the items of a leaf of a barrier's list
 pub part-at : {T C D : Type 0} (content : T → C) (through : List C → List D) (before : List (List C)) (listed : Option (Listed T)) (l : Listed T) (i : ℕ) (part : List T)

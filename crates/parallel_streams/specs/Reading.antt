@@ -1,7 +1,7 @@
 -- How much is read of a stream's source.
 use Rattle.std.specs.Prelude.{◌≡◌, ◌≤◌, ◌+◌, ◌*◌, ◌^◌, ℕ, Bool, true, false, List, [], ◌∷◌, ◌++◌, Option, Some, None, IsTrue, count_by, length, map}
 use Rattle.barriers.specs.Needs.{less_needed}
-use Rattle.parallel_streams.specs.declared.part.Listed.{Listed}
+use Rattle.parallel_streams.specs.declared.kept.Listed.{Listed}
 use Rattle.spliterator.specs.Characteristics.{tells_sized, tells_subsized}
 
 -- the most items of a first segment

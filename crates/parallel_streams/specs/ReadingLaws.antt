@@ -11,7 +11,7 @@ use Rattle.parallel_streams.specs.LeafLaws.{joined-leaves, joined-through}
 use Rattle.parallel_streams.specs.Progress.{HoldsListed, is_listed, is_ready, parts_of}
 use Rattle.parallel_streams.specs.ProgressLaws.{joined-listed, ready-passes}
 use Rattle.parallel_streams.specs.Reading.{HasRead, HasReadFrom, ReadsBarred, ReadsLittle, StandsBehind, first_segment, most_read}
-use Rattle.parallel_streams.specs.declared.part.Listed.{Listed}
+use Rattle.parallel_streams.specs.declared.kept.Listed.{Listed}
 use Rattle.stealing_pool.specs.Spans.{joined}
 
 pub count-both : {C : Type 0} (counted : C → Bool) (l r : List C) → count_by counted (l ++ r) ≡ count_by counted l + count_by counted r

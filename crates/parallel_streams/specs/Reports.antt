@@ -35,8 +35,8 @@ pub record IsReport {T : Type 0} (IsCut : List (List T) → Type 0) (whole : Lis
 
 -- The entries of the runs up to a barrier's own: of the stream before it these are the cut, the items and the entries.
 abbrev pub IsBarrierReport : {T A : Type 0} → (ℕ → ℕ → List (List T) → Type 0) → List T → (ℕ → ℕ → List Outcome → Type 0) → Option ℕ → (T → Bool) → (List T → A) → ℕ → ℕ → List Outcome → Type 0
-IsBarrierReport cut_into whole reported needed counted answer workers target =
-    IsReport (cut_into workers target) whole (reported workers target) (IsEntryOf needed counted answer)
+IsBarrierReport leaf_lists whole reported needed counted answer workers target =
+    IsReport (leaf_lists workers target) whole (reported workers target) (IsEntryOf needed counted answer)
 
 -- What the run of leaves with these lists left: the fold of a front of them that is all or is enough, and an entry that tells of these leaves.
 abbrev pub IsRunOver : {T C : Type 0} → Folding T C → C → List (List T) → Outcome → Type 0

@@ -5,7 +5,7 @@ ghost use Rattle.parallel_streams.specs.Reports.{IsBarrierReport};
 ghost use Rattle.stages.specs.Flags.{after};
 
 use crate::Plumbing;
-use crate::part::{BarredProgress, Listed, Part, end_before, end_own};
+use crate::kept::{BarredProgress, Kept, Listed, end_before, end_own};
 use crate::places::Places;
 use barriers::{Barrier, Behind, Demand, Need};
 use collectors::{Collector, ToList};
@@ -42,7 +42,7 @@ where
 
     type Progress = BarredProgress<U::Progress, B::State, U::Item>;
 
-    type Part = Part<U::Part, U::Item>;
+    type Kept = Kept<U::Kept, U::Item>;
 
     ghost ready = { λ s. U.ready s.upstream × B.Demand.ready s.barrier × B.can_carry s.barrier × ClonesAlike U.Item.is_clone U.Item.content };
 
@@ -88,18 +88,18 @@ where
 
     ghost parts = { λ s p. parts_of U.Item.content (U.parts s.upstream p.before) p.listed };
 
-    ghost cut_into = { λ s. IsCutList (B.value s.barrier (U.value s.upstream)) };
+    ghost leaf_lists = { λ s. IsCutList (B.value s.barrier (U.value s.upstream)) };
 
     ghost planned = { λ s workers target p.
         let before = IsPlannedBarred (U.planned s.upstream workers target) U.Item.content in
         let fresh = before (B.Demand.needed s.barrier) (B.needed_behind s.barrier) (B.value s.barrier) (B.value_behind s.barrier) in
         fresh (U.value s.upstream) workers target p };
 
-    ghost reported = { λ s. let until = IsBarrierReport (U.cut_into s.upstream) (U.value s.upstream) (U.reported s.upstream) in
+    ghost reported = { λ s. let until = IsBarrierReport (U.leaf_lists s.upstream) (U.value s.upstream) (U.reported s.upstream) in
         until (B.Demand.needed s.barrier) (B.Demand.counted s.barrier) (B.value s.barrier) };
 
     ghost told_so_far = { λ s workers target p.
-        let until = IsBarrierReport (U.cut_into s.upstream) (U.value s.upstream) (U.reported s.upstream) in
+        let until = IsBarrierReport (U.leaf_lists s.upstream) (U.value s.upstream) (U.reported s.upstream) in
         let all = until (B.Demand.needed s.barrier) (B.Demand.counted s.barrier) (B.value s.barrier) workers target in
         ToldSoFar p.passes (U.told_so_far s.upstream workers target p.before) all p.listed };
 
@@ -111,7 +111,7 @@ where
         leaves (U.leaves_next s.upstream p.before) p.listed unrun (U.work_law s.upstream p.before) (U.parts_count s.upstream p.before) };
 
     ghost reported_law = { λ s workers target p entries done told.
-        let until = IsBarrierReport (U.cut_into s.upstream) (U.value s.upstream) (U.reported s.upstream) in
+        let until = IsBarrierReport (U.leaf_lists s.upstream) (U.value s.upstream) (U.reported s.upstream) in
         let all = until (B.Demand.needed s.barrier) (B.Demand.counted s.barrier) (B.value s.barrier) workers target in
         told-all p.passes (U.done s.upstream p.before) (U.told_so_far s.upstream workers target p.before) all p.listed entries done told };
 
@@ -171,7 +171,7 @@ where
             state,
             listed: None,
             passes: false,
-            gathered: 0,
+            longest_list: 0,
         })
     }
 
@@ -195,7 +195,7 @@ where
             state,
             listed: None,
             passes,
-            gathered: 0,
+            longest_list: 0,
         })
     }
 
@@ -206,16 +206,16 @@ where
         }
     }
 
-    fn gathered(&self, progress: &BarredProgress<U::Progress, B::State, U::Item>) -> u64 {
+    fn longest_list(&self, progress: &BarredProgress<U::Progress, B::State, U::Item>) -> u64 {
         self.upstream
-            .gathered(&progress.before)
-            .max(progress.gathered)
+            .longest_list(&progress.before)
+            .max(progress.longest_list)
     }
 
-    fn is_gathered(&self, progress: &BarredProgress<U::Progress, B::State, U::Item>) -> bool {
+    fn is_through(&self, progress: &BarredProgress<U::Progress, B::State, U::Item>) -> bool {
         match &progress.listed {
             Some(_) => true,
-            None => progress.passes && self.upstream.is_gathered(&progress.before),
+            None => progress.passes && self.upstream.is_through(&progress.before),
         }
     }
 
@@ -234,7 +234,7 @@ where
     }
 
     fn need(&self, progress: &BarredProgress<U::Progress, B::State, U::Item>) -> Need {
-        if self.upstream.is_gathered(&progress.before) {
+        if self.upstream.is_through(&progress.before) {
             self.barrier.need_behind(&progress.state)
         } else {
             self.upstream.need(&progress.before)
@@ -248,8 +248,8 @@ where
         board: &L,
         seat: &mut L::Seat,
         leaf: usize,
-    ) -> Result<LeafEnd<Part<U::Part, U::Item>>, NoMemory> {
-        if self.upstream.is_gathered(&progress.before) {
+    ) -> Result<LeafEnd<Kept<U::Kept, U::Item>>, NoMemory> {
+        if self.upstream.is_through(&progress.before) {
             let demand = Behind {
                 barrier: &self.barrier,
                 state: &progress.state,
@@ -276,29 +276,29 @@ where
         &self,
         alloc: Global,
         progress: &BarredProgress<U::Progress, B::State, U::Item>,
-        kept: &mut Part<U::Part, U::Item>,
-        following: Part<U::Part, U::Item>,
+        kept: &mut Kept<U::Kept, U::Item>,
+        following: Kept<U::Kept, U::Item>,
     ) -> Result<(), NoMemory> {
         match kept {
-            Part::Before(kept) => match following {
-                Part::Before(following) => {
+            Kept::Before(kept) => match following {
+                Kept::Before(following) => {
                     self.upstream
                         .combine(alloc, &progress.before, kept, following)
                 }
-                Part::Own(_following) => Ok(()),
+                Kept::Own(_following) => Ok(()),
             },
-            Part::Own(kept) => match following {
-                Part::Before(_following) => Ok(()),
-                Part::Own(following) => Ok(kept.join(following)?),
+            Kept::Own(kept) => match following {
+                Kept::Before(_following) => Ok(()),
+                Kept::Own(following) => Ok(kept.join(following)?),
             },
         }
     }
 
-    fn gather(
+    fn make_list(
         &self,
         alloc: Global,
         progress: BarredProgress<U::Progress, B::State, U::Item>,
-        part: Part<U::Part, U::Item>,
+        part: Kept<U::Kept, U::Item>,
         entry: &RunEntry,
         workers: u32,
         target: u64,
@@ -307,25 +307,25 @@ where
             before,
             mut state,
             passes,
-            gathered,
+            longest_list,
             ..
         } = progress;
         match part {
-            Part::Before(part) => {
+            Kept::Before(part) => {
                 let before = self
                     .upstream
-                    .gather(alloc, before, part, entry, workers, target)?;
+                    .make_list(alloc, before, part, entry, workers, target)?;
                 Ok(BarredProgress {
                     before,
                     state,
                     listed: None,
                     passes,
-                    gathered,
+                    longest_list,
                 })
             }
-            Part::Own(pieces) => {
+            Kept::Own(pieces) => {
                 let list = pieces.into_list()?;
-                let gathered = list.len() as u64;
+                let longest_list = list.len() as u64;
                 let is_cut = entry.cut().is_some();
                 let items = self.barrier.carry(&mut state, list, is_cut)?;
                 let places = Places::cut(alloc, items.as_slice(), workers, target)?;
@@ -335,7 +335,7 @@ where
                     state,
                     listed,
                     passes: false,
-                    gathered,
+                    longest_list,
                 })
             }
         }

@@ -28,7 +28,7 @@ struct BarrierRun<'a, 'b, X: Plumbing> {
 }
 
 impl<X: Plumbing> LeafJob for BarrierRun<'_, '_, X> {
-    type Kept = X::Part;
+    type Kept = X::Kept;
 
     ghost ready = { λ j. X.ready j.stream.now × X.holds j.stream.now j.progress.now × (X.done j.stream.now j.progress.now ≡ false) };
 
@@ -51,12 +51,12 @@ impl<X: Plumbing> LeafJob for BarrierRun<'_, '_, X> {
         board: &B,
         seat: &mut B::Seat,
         leaf: usize,
-    ) -> Result<LeafEnd<X::Part>, NoMemory> {
+    ) -> Result<LeafEnd<X::Kept>, NoMemory> {
         self.stream
             .run_barrier_leaf(self.alloc, self.progress, board, seat, leaf)
     }
 
-    fn combine(&self, left: &mut X::Part, right: X::Part) -> Result<(), NoMemory> {
+    fn combine(&self, left: &mut X::Kept, right: X::Kept) -> Result<(), NoMemory> {
         self.stream.combine(self.alloc, self.progress, left, right)
     }
 }
@@ -128,7 +128,7 @@ fn promise_whole<X: Plumbing>(_stream: &X, _progress: &X::Progress)
     ensures whole { (workers target : ℕ) → X.planned _stream.now workers target _progress.now
         → joined (X.parts _stream.now _progress.now) ≡ X.value _stream.now }
     ensures cut { (workers target : ℕ) → X.planned _stream.now workers target _progress.now
-        → X.cut_into _stream.now workers target (X.parts _stream.now _progress.now) }
+        → X.leaf_lists _stream.now workers target (X.parts _stream.now _progress.now) }
     ensures entries { (workers target : ℕ) (entries : List Outcome)
         → X.told_so_far _stream.now workers target _progress.now entries
         → X.reported _stream.now workers target entries }
@@ -169,7 +169,7 @@ fn run_barrier<R: Threads + Clock + Sync, X: Plumbing, H: Gate + Sync>(
         progress: &progress,
     };
     let tree = stream.tree(&progress);
-    let gathered = run_job(
+    let ran = run_job(
         engine.rt,
         engine.alloc,
         tree,
@@ -177,15 +177,15 @@ fn run_barrier<R: Threads + Clock + Sync, X: Plumbing, H: Gate + Sync>(
         engine.run.workers,
         engine.run.gate,
     )?;
-    let after = stream.gather(
+    let after = stream.make_list(
         engine.alloc,
         progress,
-        gathered.acc,
-        &gathered.entry,
+        ran.acc,
+        &ran.entry,
         engine.run.workers,
         engine.run.target,
     )?;
-    Ok((after, gathered.entry))
+    Ok((after, ran.entry))
 }
 
 /// Runs the barriers over the present segment, one after another. Answers how far the stream has come, and the entries of the runs.
@@ -206,16 +206,16 @@ pub fn run_barriers<R: Threads + Clock + Sync, X: Plumbing, H: Gate + Sync>(
         × (front to ≡ front from ++ joined (X.parts stream.now r.0))) }
     ensures whole { X.planned stream.now engine.now.run.workers engine.now.run.target progress
         → IfOk result (λ r. joined (X.parts stream.now r.0) ≡ X.value stream.now) }
-    ensures cut { let cut_into = X.cut_into stream.now engine.now.run.workers engine.now.run.target in
+    ensures cut { let leaf_lists = X.leaf_lists stream.now engine.now.run.workers engine.now.run.target in
         X.planned stream.now engine.now.run.workers engine.now.run.target progress
-        → IfOk result (λ r. cut_into (X.parts stream.now r.0)) }
+        → IfOk result (λ r. leaf_lists (X.parts stream.now r.0)) }
     ensures entries { X.planned stream.now engine.now.run.workers engine.now.run.target progress
         → X.told_so_far stream.now engine.now.run.workers engine.now.run.target progress []
         → IfOk result (λ r. X.reported stream.now engine.now.run.workers engine.now.run.target r.1.items) }
 {
     let mut entries = Vec::new(engine.alloc);
     let mut progress = progress;
-    while !stream.is_gathered(&progress) {
+    while !stream.is_through(&progress) {
         let (after, entry) = run_barrier(engine, stream, progress)?;
         progress = after;
         entries.push(entry)?;
@@ -321,7 +321,7 @@ where
     ensures { let workers = engine.now.run.workers in
         let target = engine.now.run.target in
         let all = folding None no_item X.Item.is_value (C.empty collector.now) (C.add collector.now) in
-        IfOk result (λ e. IsReport (X.cut_into stream.now workers target) (X.value stream.now)
+        IfOk result (λ e. IsReport (X.leaf_lists stream.now workers target) (X.value stream.now)
         (X.reported stream.now workers target) (IsRunOver all (C.content collector.now e.acc))
         e.entries.items) }
 {

@@ -8,7 +8,7 @@ ghost use Rattle.stealing_pool.specs.Reports.{Reports};
 ghost use Rattle.parallel_streams.specs.Ends.{ends_of};
 ghost use Rattle.parallel_streams.specs.Sources.{idle_work};
 
-use crate::part::Listed;
+use crate::kept::Listed;
 use crate::places::Places;
 use crate::{Engine, Plumbing};
 use barriers::Need;

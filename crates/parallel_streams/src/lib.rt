@@ -6,7 +6,7 @@ mod contrary;
 mod engine;
 mod evaluate;
 mod handover;
-mod part;
+mod kept;
 mod places;
 mod plumbing;
 mod run;
@@ -17,7 +17,7 @@ mod stream;
 
 pub use barred::Barred;
 pub use engine::Engine;
-pub use part::{BarredProgress, Listed, Part, end_before, end_own};
+pub use kept::{BarredProgress, Kept, Listed, end_before, end_own};
 pub use places::Places;
 pub use plumbing::Plumbing;
 pub use run::{MapError, Run, StreamError};

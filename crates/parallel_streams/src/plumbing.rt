@@ -16,7 +16,7 @@ ghost use Rattle.parallel_streams.specs.Progress.{IsCut};
 ghost use Rattle.parallel_streams.specs.Reading.{first_segment, most_read};
 ghost use Rattle.parallel_streams.specs.Runs.{IsLawfulRun};
 
-use crate::part::Listed;
+use crate::kept::Listed;
 use barriers::{Demand, Need};
 use collectors::Collector;
 use leaf_board::Handout;
@@ -38,7 +38,7 @@ pub trait Plumbing: Sync {
     type Progress: Drop + Send + Sync;
 
     /// What is kept of leaves in a barrier's run.
-    type Part: Drop + Send;
+    type Kept: Drop + Send;
 
     // what the methods rely on: stored closures meet their definitions, and behind a barrier an item's clone has its content
     ghost ready: { Self → Type 0 } = { λ _. ⊤ };
@@ -89,13 +89,13 @@ pub trait Plumbing: Sync {
     ghost leaves_next: { Self → Self.Progress → ℕ };
 
     // what there is to do in the run of the next barrier; once all have run, of the last one again. A source has no barrier, and keeps nothing of its leaves.
-    ghost work: { Self → Self.Progress → Work Self.Part };
+    ghost work: { Self → Self.Progress → Work Self.Kept };
 
     // the lists of the leaves of the last run
     ghost parts: { Self → Self.Progress → List (List Self.Item.Content) };
 
     // with so many workers and this target: into which lists the stream's items are cut for the leaves of a run
-    ghost cut_into: { Self → ℕ → ℕ → List (List Self.Item.Content) → Type 0 };
+    ghost leaf_lists: { Self → ℕ → ℕ → List (List Self.Item.Content) → Type 0 };
 
     // .. the present segment is the whole, and the leaves of the next run are cut so
     ghost planned: { Self → ℕ → ℕ → Self.Progress → Type 0 };
@@ -172,12 +172,12 @@ pub trait Plumbing: Sync {
     fn estimate(&self, progress: &Self::Progress) -> u64;
 
     /// How many items the longest list of the present segment's barriers had, before its barrier cut it. It is no promise.
-    fn gathered(&self, _progress: &Self::Progress) -> u64 {
+    fn longest_list(&self, _progress: &Self::Progress) -> u64 {
         0
     }
 
     /// Whether all barriers have run, or let pass what comes.
-    fn is_gathered(&self, progress: &Self::Progress) -> bool
+    fn is_through(&self, progress: &Self::Progress) -> bool
         ensures { result ≡ done self.now progress.now };
 
     /// The number of leaves of the next run.
@@ -203,7 +203,7 @@ pub trait Plumbing: Sync {
         board: &L,
         seat: &mut L::Seat,
         leaf: usize,
-    ) -> Result<LeafEnd<Self::Part>, NoMemory>
+    ) -> Result<LeafEnd<Self::Kept>, NoMemory>
         requires ready { ready self.now }
         requires holds { holds self.now progress.now }
         requires board { L.leaves board.now ≡ (work self.now progress.now).leaves }
@@ -218,18 +218,18 @@ pub trait Plumbing: Sync {
         &self,
         alloc: Global,
         progress: &Self::Progress,
-        kept: &mut Self::Part,
-        following: Self::Part,
+        kept: &mut Self::Kept,
+        following: Self::Kept,
     ) -> Result<(), NoMemory>
         requires { ready self.now }
         ensures { OnOk result (Combines (work self.now progress.now) kept.old following kept.new) };
 
     /// Gathers what the run of the next barrier kept into the barrier's list.
-    fn gather(
+    fn make_list(
         &self,
         alloc: Global,
         progress: Self::Progress,
-        part: Self::Part,
+        part: Self::Kept,
         entry: &RunEntry,
         workers: u32,
         target: u64,
@@ -342,7 +342,7 @@ pub trait Plumbing: Sync {
     // and they are cut as the settings say
     ghost cut_law: { (s : Self) (workers target : ℕ) (p : Self.Progress)
         → holds s p → planned s workers target p → done s p ≡ true
-        → cut_into s workers target (parts s p) };
+        → leaf_lists s workers target (parts s p) };
 
     ghost parts_count: { (s : Self) (p : Self.Progress) → done s p ≡ true → length (parts s p) ≡ leaves_next s p };
 }

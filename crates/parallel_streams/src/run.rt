@@ -8,7 +8,7 @@ use stealing_pool::NoGate;
 use thiserror::Error;
 
 /// How a terminal operation runs: on how many workers, 1 to 64; down to which estimate of a leaf, at most 2^62, where 0 stands for
-/// four leaves a worker; and who is told of each leaf.
+/// four leaves a worker, and of a reader's block for one; and who is told of each leaf.
 #[derive(Clone, Copy)]
 pub struct Run<'a, H> {
     pub workers: u32,
@@ -31,7 +31,7 @@ impl<H> Run<'_, H> {
 }
 
 impl Run<'static, NoGate> {
-    /// On so many workers, 1 to 64, with four leaves a worker, and nobody is told of a leaf.
+    /// On so many workers, 1 to 64, at target 0, and nobody is told of a leaf.
     pub fn new(workers: u32) -> Run<'static, NoGate>
         ensures workers { result.workers ≡ workers }
         ensures target { result.target ≡ 0 }

@@ -51,22 +51,22 @@ impl Extent {
     }
 
     // How many items the segment behind may have, where of this one so many were listed: where as many come of each, or as the stages tell, it lists `MOST` at most.
-    fn next_size(&self, gathered: u64) -> u64 {
+    fn next_size(&self, longest_list: u64) -> u64 {
         let size = self.most.unwrap_or(FIRST);
         let few = (MOST / self.growth.max(1)).max(1);
         let longer = size.saturating_mul(TIMES_LONGER).min(few);
-        match size.saturating_mul(MOST).checked_div(gathered) {
+        match size.saturating_mul(MOST).checked_div(longest_list) {
             Some(fitting) => longer.min(fitting).max(1),
             None => longer,
         }
     }
 
     // The extent of the segment behind, of at most so many items.
-    fn next(&self, most: u64, gathered: u64) -> Extent {
+    fn next(&self, most: u64, longest_list: u64) -> Extent {
         let size = self.most.unwrap_or(FIRST).max(1);
         Extent {
             most: Some(most),
-            growth: self.growth.max(gathered / size),
+            growth: self.growth.max(longest_list / size),
         }
     }
 
@@ -148,9 +148,9 @@ where
     let begun = stream.start(engine.alloc, own.run.workers, own.run.target, extent.most)?;
     let (mut progress, mut whole) = collect_segment(&own, stream, begun, collector)?;
     while !stream.is_last(&progress) {
-        let gathered = stream.gathered(&progress);
-        let most = extent.next_size(gathered);
-        extent = extent.next(most, gathered);
+        let longest_list = stream.longest_list(&progress);
+        let most = extent.next_size(longest_list);
+        extent = extent.next(most, longest_list);
         let own = engine_of(engine, &extent);
         let next = stream.go_on(
             engine.alloc,
@@ -291,9 +291,9 @@ where
         if stream.is_last(&progress) {
             return Ok((progress, whole, false));
         }
-        let gathered = stream.gathered(&progress);
-        let most = extent.next_size(gathered);
-        extent = extent.next(most, gathered);
+        let longest_list = stream.longest_list(&progress);
+        let most = extent.next_size(longest_list);
+        extent = extent.next(most, longest_list);
         let own = engine_of(engine, &extent);
         let next = stream.go_on(
             engine.alloc,

@@ -154,7 +154,7 @@ where
 
     type Progress = SourceProgress<S>;
 
-    type Part = ();
+    type Kept = ();
 
     ghost value = { λ s. S.items s.split };
 
@@ -195,7 +195,7 @@ where
 
     ghost parts = { λ _ p. map S.items (leaves_of p.plan) };
 
-    ghost cut_into = { λ s. IsCutSource S.items S.estimate S.split_gives s.split };
+    ghost leaf_lists = { λ s. IsCutSource S.items S.estimate S.split_gives s.split };
 
     ghost planned = { λ s workers target p. ArePlanned S.estimate S.split_gives s.split workers target (tree_of p.plan) (leaves_of p.plan)
         × (flat_map S.items (leaves_of p.plan) ≡ S.items s.split) };
@@ -286,7 +286,7 @@ where
         progress.size
     }
 
-    fn is_gathered(&self, _progress: &SourceProgress<S>) -> bool {
+    fn is_through(&self, _progress: &SourceProgress<S>) -> bool {
         true
     }
 
@@ -326,7 +326,7 @@ where
         Ok(())
     }
 
-    fn gather(
+    fn make_list(
         &self,
         _alloc: Global,
         progress: SourceProgress<S>,

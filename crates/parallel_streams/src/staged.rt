@@ -31,7 +31,7 @@ where
 
     type Progress = U::Progress;
 
-    type Part = U::Part;
+    type Kept = U::Kept;
 
     ghost ready = { λ s. U.ready s.upstream × A.ready s.stage };
 
@@ -71,7 +71,7 @@ where
 
     ghost parts = { λ s p. map (flat_map (A.expand s.stage)) (U.parts s.upstream p) };
 
-    ghost cut_into = { λ s workers target. AreThrough (U.cut_into s.upstream workers target) (A.expand s.stage) };
+    ghost leaf_lists = { λ s workers target. AreThrough (U.leaf_lists s.upstream workers target) (A.expand s.stage) };
 
     ghost planned = { λ s. U.planned s.upstream };
 
@@ -143,12 +143,12 @@ where
         items.saturating_mul(self.stage.growth())
     }
 
-    fn gathered(&self, progress: &U::Progress) -> u64 {
-        self.upstream.gathered(progress)
+    fn longest_list(&self, progress: &U::Progress) -> u64 {
+        self.upstream.longest_list(progress)
     }
 
-    fn is_gathered(&self, progress: &U::Progress) -> bool {
-        self.upstream.is_gathered(progress)
+    fn is_through(&self, progress: &U::Progress) -> bool {
+        self.upstream.is_through(progress)
     }
 
     fn leaves(&self, progress: &U::Progress) -> usize {
@@ -170,7 +170,7 @@ where
         board: &L,
         seat: &mut L::Seat,
         leaf: usize,
-    ) -> Result<LeafEnd<U::Part>, NoMemory> {
+    ) -> Result<LeafEnd<U::Kept>, NoMemory> {
         self.upstream
             .run_barrier_leaf(alloc, progress, board, seat, leaf)
     }
@@ -179,23 +179,23 @@ where
         &self,
         alloc: Global,
         progress: &U::Progress,
-        kept: &mut U::Part,
-        following: U::Part,
+        kept: &mut U::Kept,
+        following: U::Kept,
     ) -> Result<(), NoMemory> {
         self.upstream.combine(alloc, progress, kept, following)
     }
 
-    fn gather(
+    fn make_list(
         &self,
         alloc: Global,
         progress: U::Progress,
-        part: U::Part,
+        part: U::Kept,
         entry: &RunEntry,
         workers: u32,
         target: u64,
     ) -> Result<U::Progress, NoMemory> {
         self.upstream
-            .gather(alloc, progress, part, entry, workers, target)
+            .make_list(alloc, progress, part, entry, workers, target)
     }
 
     fn feed_last_leaf<G: Stage<In = A::Out>, K: Sink<G::Out>>(

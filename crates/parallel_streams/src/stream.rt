@@ -323,7 +323,7 @@ pub trait Stream: Plumbing + Sized {
         ensures value { IfOk result (λ r. C.gives collector.now (Self.value self.now) r.0) }
         ensures report { let workers = run.now.workers in
             let target = run.now.target in
-            IfOk result (λ r. IsReportedRun (Self.cut_into self.now workers target) (Self.value self.now)
+            IfOk result (λ r. IsReportedRun (Self.leaf_lists self.now workers target) (Self.value self.now)
             (Self.reported self.now workers target) (C.gives collector.now) r.0 r.1) }
     {
         let engine = Engine::new(rt, alloc, run)?;

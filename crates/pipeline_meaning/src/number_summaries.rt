@@ -1,4 +1,4 @@
-//! The language's collectors of numbers, level by level, each chosen at run time.
+//! The language's collectors of numbers, one in another, each chosen at run time.
 ghost use Rattle.std.specs.Prelude.{◌≡◌, ℤ, refl, List};
 ghost use Rattle.std.specs.Fmt.{signed_decimal};
 ghost use Rattle.std.specs.Ordering.{int_eq};

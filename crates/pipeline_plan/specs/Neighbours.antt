@@ -10,10 +10,10 @@ use Rattle.pipeline_meaning.specs.Stages.{Meaning, StageOf, stage_list}
 use Rattle.pipeline_language.specs.declared.grammar.Barrier.TheVariants.{Distinct, Limit, Skip, TakeWhile, DropWhile}
 use Rattle.pipeline_language.specs.declared.grammar.Stage.TheVariants.{Map, Filter, FlatMap, Barrier}
 
-abbrev pub is_window_behind_map : {F P E : Type 0} → StageOf F P E → StageOf F P E → Bool
-is_window_behind_map (Map f) (Barrier (Limit n)) = true
-is_window_behind_map (Map f) (Barrier (Skip n)) = true
-is_window_behind_map _ _ = false
+abbrev pub is_section_behind_map : {F P E : Type 0} → StageOf F P E → StageOf F P E → Bool
+is_section_behind_map (Map f) (Barrier (Limit n)) = true
+is_section_behind_map (Map f) (Barrier (Skip n)) = true
+is_section_behind_map _ _ = false
 
 abbrev pub passes_copies : {F P E : Type 0} → StageOf F P E → Bool
 passes_copies (Map f) = true
@@ -27,10 +27,10 @@ is_distinct (Barrier Distinct) = true
 is_distinct _ = false
 
 -- a limit or a skip of whole copies, and of the items that they are copies of
-abbrev pub IsWindowOver : {F P E : Type 0} → ℕ → StageOf F P E → StageOf F P E → Type 0
-IsWindowOver k (Barrier (Limit n)) (Barrier (Limit i)) = n.number ≡ k * i.number
-IsWindowOver k (Barrier (Skip n)) (Barrier (Skip i)) = n.number ≡ k * i.number
-IsWindowOver k _ _ = ⊥
+abbrev pub IsSectionOver : {F P E : Type 0} → ℕ → StageOf F P E → StageOf F P E → Type 0
+IsSectionOver k (Barrier (Limit n)) (Barrier (Limit i)) = n.number ≡ k * i.number
+IsSectionOver k (Barrier (Skip n)) (Barrier (Skip i)) = n.number ≡ k * i.number
+IsSectionOver k _ _ = ⊥
 
 -- a stage that makes so many copies of each item
 pub record Repeats {F P E X : Type 0} (m : Meaning F P E X) (stage : StageOf F P E) (k : ℕ) : Type 0 where
@@ -38,10 +38,10 @@ pub record Repeats {F P E X : Type 0} (m : Meaning F P E X) (stage : StageOf F P
   pub light : weight stage ≡ 1
 
 module _ {F P E X : Type 0} (m : Meaning F P E X) where
-  pub window-first : (first second : StageOf F P E) → is_window_behind_map first second ≡ true → Betters m (second ∷ first ∷ []) (first ∷ second ∷ [])
-  window-first (Map f) (Barrier (Limit n)) is = record { same = λ l. sym (take-map (m.image f) n.number l); less = λ rest. omega arith }
-  window-first (Map f) (Barrier (Skip n)) is = record { same = λ l. sym (drop-map (m.image f) n.number l); less = λ rest. omega arith }
-  window-first _ _ is = absurd (true≢false (sym is))
+  pub section-first : (first second : StageOf F P E) → is_section_behind_map first second ≡ true → Betters m (second ∷ first ∷ []) (first ∷ second ∷ [])
+  section-first (Map f) (Barrier (Limit n)) is = record { same = λ l. sym (take-map (m.image f) n.number l); less = λ rest. omega arith }
+  section-first (Map f) (Barrier (Skip n)) is = record { same = λ l. sym (drop-map (m.image f) n.number l); less = λ rest. omega arith }
+  section-first _ _ is = absurd (true≢false (sym is))
 
   pub weighs : (s : StageOf F P E) → 1 ≤ weight s
   weighs (FlatMap e) = omega arith
@@ -91,15 +91,15 @@ module _ {F P E X : Type 0} (m : Meaning F P E X) where
       }
   copies-dropped first _ k repeats some is = absurd (true≢false (sym is))
 
-  pub window-before-copies : (first second part : StageOf F P E) (k : ℕ) → Repeats m first k → IsWindowOver k second part → Betters m (part ∷ first ∷ []) (first ∷ second ∷ [])
-  window-before-copies first (Barrier (Limit n)) (Barrier (Limit i)) k repeats is =
+  pub section-before-copies : (first second part : StageOf F P E) (k : ℕ) → Repeats m first k → IsSectionOver k second part → Betters m (part ∷ first ∷ []) (first ∷ second ∷ [])
+  section-before-copies first (Barrier (Limit n)) (Barrier (Limit i)) k repeats is =
       let light = repeats.light in record {
         same = λ l. repeats.copies (take i.number l) ∙ sym (copies-take k i.number l) ∙ ap (λ j. take j (flat_map (replicate k) l)) (sym is) ∙ ap (take n.number) (sym (repeats.copies l));
         less = λ rest. omega (arith, light);
       }
-  window-before-copies first (Barrier (Skip n)) (Barrier (Skip i)) k repeats is =
+  section-before-copies first (Barrier (Skip n)) (Barrier (Skip i)) k repeats is =
       let light = repeats.light in record {
         same = λ l. repeats.copies (drop i.number l) ∙ sym (copies-drop k i.number l) ∙ ap (λ j. drop j (flat_map (replicate k) l)) (sym is) ∙ ap (drop n.number) (sym (repeats.copies l));
         less = λ rest. omega (arith, light);
       }
-  window-before-copies first _ _ k repeats is = absurd is
+  section-before-copies first _ _ k repeats is = absurd is

@@ -6,12 +6,12 @@ mod neighbours;
 mod numbers;
 mod outlook;
 mod plan;
+mod sections;
 mod sums;
-mod windows;
 
 pub use kind::{Kind, Numbers, StageOf, Texts};
 pub use numbers::NumberRange;
 pub use outlook::Outlook;
 pub use plan::{Plan, PlanSource, optimised, outlook_of};
+pub use sections::Section;
 pub use sums::known_sum;
-pub use windows::Window;

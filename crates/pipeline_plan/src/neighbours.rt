@@ -3,7 +3,7 @@
 ghost use Rattle.std.specs.Prelude.{◌≡◌, ◌≤◌, ◌+◌, IfSome, List, [], ◌++◌, drop, length, take, true};
 ghost use Rattle.pipeline_meaning.specs.Stages.{stage_list};
 ghost use Rattle.pipeline_plan.specs.Better.{Betters, IsBetter, instead_list};
-ghost use Rattle.pipeline_plan.specs.Neighbours.{IsWindowOver, Repeats, is_distinct, is_window_behind_map, passes_copies};
+ghost use Rattle.pipeline_plan.specs.Neighbours.{IsSectionOver, Repeats, is_distinct, is_section_behind_map, passes_copies};
 
 use crate::{Kind, StageOf};
 use pipeline_language::{Barrier, Stage};
@@ -15,8 +15,8 @@ pub enum Instead<G> {
 }
 
 /// Whether a limit or a skip stands behind a map.
-fn is_window_behind_map<F, P, E>(first: &Stage<F, P, E>, second: &Stage<F, P, E>) -> bool
-    ensures { result ≡ is_window_behind_map first.now second.now }
+fn is_section_behind_map<F, P, E>(first: &Stage<F, P, E>, second: &Stage<F, P, E>) -> bool
+    ensures { result ≡ is_section_behind_map first.now second.now }
 {
     match (first, second) {
         (Stage::Map(_), Stage::Barrier(Barrier::Limit(_))) => true,
@@ -30,10 +30,10 @@ fn is_window_behind_map<F, P, E>(first: &Stage<F, P, E>, second: &Stage<F, P, E>
 /// ```text
 /// map negate, limit 3    // limit 3, map negate
 /// ```
-fn window_first<K: Kind>(first: &StageOf<K>, second: &StageOf<K>) -> Option<Instead<StageOf<K>>>
+fn section_first<K: Kind>(first: &StageOf<K>, second: &StageOf<K>) -> Option<Instead<StageOf<K>>>
     ensures { IfSome result (IsBetter K.means first.now second.now) }
 {
-    if is_window_behind_map(first, second) {
+    if is_section_behind_map(first, second) {
         Some(Instead::Both(*second, *first))
     } else {
         None
@@ -129,11 +129,11 @@ fn copies_dropped<K: Kind>(first: &StageOf<K>, second: &StageOf<K>) -> Option<In
 }
 
 /// The limit or the skip of items whose copies a limit or a skip is of, where it is of whole copies.
-fn window_over<F: Copy, P: Copy, E: Copy>(
+fn section_over<F: Copy, P: Copy, E: Copy>(
     stage: &Stage<F, P, E>,
     copies: u64,
 ) -> Option<Stage<F, P, E>>
-    ensures { IfSome result (IsWindowOver copies stage.now) }
+    ensures { IfSome result (IsSectionOver copies stage.now) }
 {
     match *stage {
         Stage::Barrier(Barrier::Limit(most)) => {
@@ -153,14 +153,14 @@ fn window_over<F: Copy, P: Copy, E: Copy>(
 /// ```text
 /// flatmap repeat 4, limit 12    // limit 3, flatmap repeat 4
 /// ```
-fn window_before_copies<K: Kind>(
+fn section_before_copies<K: Kind>(
     first: &StageOf<K>,
     second: &StageOf<K>,
 ) -> Option<Instead<StageOf<K>>>
     ensures { IfSome result (IsBetter K.means first.now second.now) }
 {
     let copies = copies_of::<K>(first)?;
-    let part = window_over(second, copies)?;
+    let part = section_over(second, copies)?;
     Some(Instead::Both(part, *first))
 }
 
@@ -170,7 +170,7 @@ fn window_before_copies<K: Kind>(
 /// limit 7, limit 3    // limit 3
 /// skip 7, skip 3      // skip 10
 /// ```
-fn windows_merged<K: Kind>(first: &StageOf<K>, second: &StageOf<K>) -> Option<Instead<StageOf<K>>>
+fn sections_merged<K: Kind>(first: &StageOf<K>, second: &StageOf<K>) -> Option<Instead<StageOf<K>>>
     ensures { IfSome result (IsBetter K.means first.now second.now) }
 {
     match (*first, *second) {
@@ -193,7 +193,7 @@ fn better<K: Kind>(first: &StageOf<K>, second: &StageOf<K>) -> Option<Instead<St
     if let Some(new) = emptied::<K>(first, second) {
         return Some(new);
     }
-    if let Some(new) = window_first::<K>(first, second) {
+    if let Some(new) = section_first::<K>(first, second) {
         return Some(new);
     }
     if let Some(new) = copies_last::<K>(first, second) {
@@ -202,10 +202,10 @@ fn better<K: Kind>(first: &StageOf<K>, second: &StageOf<K>) -> Option<Instead<St
     if let Some(new) = copies_dropped::<K>(first, second) {
         return Some(new);
     }
-    if let Some(new) = window_before_copies::<K>(first, second) {
+    if let Some(new) = section_before_copies::<K>(first, second) {
         return Some(new);
     }
-    windows_merged::<K>(first, second)
+    sections_merged::<K>(first, second)
 }
 
 /// The first neighbours that a rule betters, and what stands in their place.

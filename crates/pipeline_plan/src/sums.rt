@@ -8,7 +8,7 @@ ghost use Rattle.stages.specs.Wrapping.{wrapped, wrapped_sum};
 ghost use Rattle.pipeline_plan.specs.Sums.{pairs_of};
 
 use crate::{NumberRange, Numbers, Plan};
-use sources::{Progression, Windowed};
+use sources::{Placed, Progression};
 use spliterator::Spliterator;
 
 /// A sum that wraps.

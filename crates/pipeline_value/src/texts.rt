@@ -14,7 +14,7 @@ use chained_streams::Chain;
 use parallel_streams::{Engine, Plumbing, Stream, of};
 use pipeline_language::{NumberBody, TextBody, TextEnd};
 use pipeline_meaning::SeededHashes;
-use pipeline_plan::{Plan, Texts as OfTexts, Window, optimised, outlook_of};
+use pipeline_plan::{Plan, Section, Texts as OfTexts, optimised, outlook_of};
 use sources::SliceSplit;
 use spliterator::{OrderedValue, Text};
 use std::thread::Threads;
@@ -33,10 +33,10 @@ pub(crate) fn text_value<'s, 'a>(
     ensures { Tells (text_body_told body.entry (map (λ t. t.now) items.now)) result }
 {
     let TextBody { stages, end } = body;
-    let source = Window {
+    let source = Section {
         source: SliceSplit::new(items),
     };
-    let mut plan: Plan<Window<SliceSplit<'s, &'a str>>, OfTexts<'a>> = Plan { source, stages };
+    let mut plan: Plan<Section<SliceSplit<'s, &'a str>>, OfTexts<'a>> = Plan { source, stages };
     optimised(&mut plan);
     if let Some(count) = known_text_count(outlook_of(&plan), &end) {
         return told(engine.alloc, &count);

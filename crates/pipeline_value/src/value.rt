@@ -12,7 +12,7 @@ use crate::told::ValueError;
 use parallel_streams::{Engine, of};
 use pipeline_language::{NumberBody, NumberSource, Pipeline};
 use pipeline_meaning::SeededHashes;
-use pipeline_plan::{NumberRange, Numbers, Plan, Window, optimised};
+use pipeline_plan::{NumberRange, Numbers, Plan, Section, optimised};
 use sources::{RangeSplit, SliceSplit};
 use spliterator::Spliterator;
 use std::thread::Threads;
@@ -61,10 +61,10 @@ fn list_value(
     ensures { Tells (number_body_told body numbers.now) result }
 {
     let NumberBody { stages, terminal } = body;
-    let source = Window {
+    let source = Section {
         source: SliceSplit::new(numbers),
     };
-    let mut plan: Plan<Window<SliceSplit<'_, i64>>, Numbers> = Plan { source, stages };
+    let mut plan: Plan<Section<SliceSplit<'_, i64>>, Numbers> = Plan { source, stages };
     optimised(&mut plan);
     if let Some(told) = known_number_count(engine.alloc, &plan, &terminal) {
         return told;

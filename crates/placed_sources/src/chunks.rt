@@ -2,7 +2,7 @@
 ghost use Rattle.std.specs.Prelude.{◌≡◌, ◌<◌, ⊤, length};
 ghost use Rattle.placed_sources.specs.Steps.{chunks};
 
-use sources::Windowed;
+use sources::Placed;
 use sources::counted::{capped, told};
 use spliterator::{NoMemory, Spliterator};
 use std::alloc::{AllocError, Global};
@@ -30,7 +30,7 @@ impl<S: Copy> Clone for Chunks<S> {
 
 impl<S: Copy> Copy for Chunks<S> {}
 
-impl<S: Windowed> Chunks<S> {
+impl<S: Placed> Chunks<S> {
     /// ```text
     /// Chunks::new(alloc, RangeSplit::range(1, 9)?, 3)    // [1, 2, 3], [4, 5, 6], [7, 8]
     /// ```
@@ -46,7 +46,7 @@ impl<S: Windowed> Chunks<S> {
     }
 }
 
-impl<S: Windowed> Spliterator for Chunks<S> {
+impl<S: Placed> Spliterator for Chunks<S> {
     ghost use Rattle.std.specs.Cmp.Lexicographic.{slice_cmp};
     ghost use Rattle.sources.specs.Halves.{SplitsInHalf, capped_count, told_by_count};
     ghost use Rattle.sources.specs.HalvesLaws.{IsSplit-halves, IsEstimate-counts, CountsItems-by_count, IsSoundFor-by_count};
@@ -101,7 +101,7 @@ impl<S: Windowed> Spliterator for Chunks<S> {
     ghost flag_law = { λ s. IsSoundFor-by_count (slice_cmp S.Item.order) (chunks s.size (S.items s.source)) };
 }
 
-impl<S: Windowed> Windowed for Chunks<S> {
+impl<S: Placed> Placed for Chunks<S> {
     fn count(&self) -> u64 {
         self.source.count().div_ceil(self.size)
     }

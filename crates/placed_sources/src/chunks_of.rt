@@ -3,7 +3,7 @@ ghost use Rattle.std.specs.Prelude.{◌≡◌, ◌<◌, ⊤, length, map};
 ghost use Rattle.placed_sources.specs.Steps.{chunks};
 
 use sources::counted::{capped, told};
-use sources::{Windowed, front_of, rest_of};
+use sources::{Placed, front_of, rest_of};
 use spliterator::{NoMemory, OrderedValue, Spliterator};
 use std::alloc::AllocError;
 
@@ -95,7 +95,7 @@ impl<'a, T: OrderedValue> Spliterator for ChunksOf<'a, T> {
     ghost flag_law = { λ s. IsSoundFor-by_count (slice_cmp T.order) (chunks s.size (map T.content s.items.now)) };
 }
 
-impl<'a, T: OrderedValue> Windowed for ChunksOf<'a, T> {
+impl<'a, T: OrderedValue> Placed for ChunksOf<'a, T> {
     fn count(&self) -> u64 {
         (self.items.len() as u64).div_ceil(self.size as u64)
     }

@@ -1,7 +1,7 @@
 //! A source from its back to its front.
 ghost use Rattle.std.specs.Prelude.{◌≡◌, ⊤, length, reverse};
 
-use sources::Windowed;
+use sources::Placed;
 use sources::counted::{capped, told};
 use spliterator::{NoMemory, Spliterator};
 
@@ -11,7 +11,7 @@ pub struct Reversed<S> {
     source: S,
 }
 
-impl<S: Windowed> Reversed<S> {
+impl<S: Placed> Reversed<S> {
     /// ```text
     /// Reversed::new(RangeSplit::range(1, 4)?)    // 3, 2, 1
     /// ```
@@ -22,7 +22,7 @@ impl<S: Windowed> Reversed<S> {
     }
 }
 
-impl<S: Windowed> Spliterator for Reversed<S> {
+impl<S: Placed> Spliterator for Reversed<S> {
     ghost use Rattle.sources.specs.Halves.{SplitsInHalf, capped_count, told_by_count};
     ghost use Rattle.sources.specs.HalvesLaws.{IsSplit-halves, IsEstimate-counts, CountsItems-by_count, IsSoundFor-by_count};
 
@@ -88,7 +88,7 @@ impl<S: Windowed> Spliterator for Reversed<S> {
     ghost flag_law = { λ s. IsSoundFor-by_count S.Item.order (reverse (S.items s.source)) };
 }
 
-impl<S: Windowed> Windowed for Reversed<S> {
+impl<S: Placed> Placed for Reversed<S> {
     fn count(&self) -> u64 {
         self.source.count()
     }

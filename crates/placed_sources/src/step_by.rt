@@ -2,7 +2,7 @@
 ghost use Rattle.std.specs.Prelude.{◌≡◌, ◌<◌, ⊤, length};
 ghost use Rattle.placed_sources.specs.Steps.{every};
 
-use sources::Windowed;
+use sources::Placed;
 use sources::counted::{capped, told};
 use spliterator::{NoMemory, Spliterator};
 use std::alloc::AllocError;
@@ -27,7 +27,7 @@ impl<S: Copy> Clone for StepBy<S> {
 
 impl<S: Copy> Copy for StepBy<S> {}
 
-impl<S: Windowed> StepBy<S> {
+impl<S: Placed> StepBy<S> {
     /// ```text
     /// StepBy::new(RangeSplit::range(1, 9)?, 3)    // 1, 4, 7
     /// ```
@@ -39,7 +39,7 @@ impl<S: Windowed> StepBy<S> {
     }
 }
 
-impl<S: Windowed> Spliterator for StepBy<S> {
+impl<S: Placed> Spliterator for StepBy<S> {
     ghost use Rattle.sources.specs.Halves.{SplitsInHalf, capped_count, told_by_count};
     ghost use Rattle.sources.specs.HalvesLaws.{IsSplit-halves, IsEstimate-counts, CountsItems-by_count, IsSoundFor-by_count};
 
@@ -91,7 +91,7 @@ impl<S: Windowed> Spliterator for StepBy<S> {
     ghost flag_law = { λ s. IsSoundFor-by_count S.Item.order (every s.step (S.items s.source)) };
 }
 
-impl<S: Windowed> Windowed for StepBy<S> {
+impl<S: Placed> Placed for StepBy<S> {
     fn count(&self) -> u64 {
         self.source.count().div_ceil(self.step)
     }

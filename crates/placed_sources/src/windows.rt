@@ -2,7 +2,7 @@
 ghost use Rattle.std.specs.Prelude.{◌≡◌, ◌<◌, ⊤, length};
 ghost use Rattle.placed_sources.specs.Slides.{windows};
 
-use sources::Windowed;
+use sources::Placed;
 use sources::counted::{capped, told};
 use spliterator::{NoMemory, Spliterator};
 use std::alloc::{AllocError, Global};
@@ -30,7 +30,7 @@ impl<S: Copy> Clone for Windows<S> {
 
 impl<S: Copy> Copy for Windows<S> {}
 
-impl<S: Windowed> Windows<S> {
+impl<S: Placed> Windows<S> {
     /// ```text
     /// Windows::new(alloc, RangeSplit::range(1, 6)?, 3)    // [1, 2, 3], [2, 3, 4], [3, 4, 5]
     /// ```
@@ -46,7 +46,7 @@ impl<S: Windowed> Windows<S> {
     }
 }
 
-impl<S: Windowed> Spliterator for Windows<S> {
+impl<S: Placed> Spliterator for Windows<S> {
     ghost use Rattle.std.specs.Cmp.Lexicographic.{slice_cmp};
     ghost use Rattle.sources.specs.Halves.{SplitsInHalf, capped_count, told_by_count};
     ghost use Rattle.sources.specs.HalvesLaws.{IsSplit-halves, IsEstimate-counts, CountsItems-by_count, IsSoundFor-by_count};
@@ -101,7 +101,7 @@ impl<S: Windowed> Spliterator for Windows<S> {
     ghost flag_law = { λ s. IsSoundFor-by_count (slice_cmp S.Item.order) (windows s.size (S.items s.source)) };
 }
 
-impl<S: Windowed> Windowed for Windows<S> {
+impl<S: Placed> Placed for Windows<S> {
     fn count(&self) -> u64 {
         self.source.count().saturating_sub(self.size - 1)
     }

@@ -4,7 +4,7 @@ ghost use Rattle.std.specs.List.{zip};
 ghost use Rattle.placed_sources.specs.Zips.{numbered_from};
 
 use sources::counted::{capped, told};
-use sources::{RangeSplit, RangeTooLong, Windowed};
+use sources::{Placed, RangeSplit, RangeTooLong};
 use spliterator::{NoMemory, Spliterator};
 
 /// The pairs of the items that stand at the same places of two sources: as many as the shorter one has. They split in half, rounded
@@ -15,7 +15,7 @@ pub struct Zip<A, B> {
     right: B,
 }
 
-impl<A: Windowed, B: Windowed> Zip<A, B> {
+impl<A: Placed, B: Placed> Zip<A, B> {
     /// ```text
     /// Zip::new(RangeSplit::range(1, 4)?, SliceSplit::new(&[7, 8]))    // (1, 7), (2, 8)
     /// ```
@@ -27,7 +27,7 @@ impl<A: Windowed, B: Windowed> Zip<A, B> {
     }
 }
 
-impl<A: Windowed, B: Windowed> Spliterator for Zip<A, B> {
+impl<A: Placed, B: Placed> Spliterator for Zip<A, B> {
     ghost use Rattle.std.specs.Prelude.{◌⊎◌};
     ghost use Rattle.sources.specs.Halves.{SplitsInHalf, capped_count, told_by_count};
     ghost use Rattle.sources.specs.HalvesLaws.{IsSplit-halves, IsEstimate-counts, CountsItems-by_count, IsSoundFor-by_count};
@@ -85,7 +85,7 @@ impl<A: Windowed, B: Windowed> Spliterator for Zip<A, B> {
     ghost flag_law = { λ s. IsSoundFor-by_count (by_first A.Item.order B.Item.order) (zip (A.items s.left) (B.items s.right)) };
 }
 
-impl<A: Windowed, B: Windowed> Windowed for Zip<A, B> {
+impl<A: Placed, B: Placed> Placed for Zip<A, B> {
     fn count(&self) -> u64 {
         self.left.count().min(self.right.count())
     }
@@ -110,7 +110,7 @@ impl<A: Windowed, B: Windowed> Windowed for Zip<A, B> {
 /// ```text
 /// indexed(SliceSplit::new(&[7, 8]))?    // (0, 7), (1, 8)
 /// ```
-pub fn indexed<S: Windowed>(source: S) -> Result<Zip<RangeSplit, S>, RangeTooLong>
+pub fn indexed<S: Placed>(source: S) -> Result<Zip<RangeSplit, S>, RangeTooLong>
     ensures ok { let items = ⟦<Zip<RangeSplit, S> as Spliterator>⟧.items in
         IfOk result (λ s. items s ≡ numbered_from 0 (S.items source)) }
     ensures too_long { IsErr result ↔ (2 ^ 62 < length (S.items source)) }

@@ -6,7 +6,7 @@ use crate::reading::read;
 use placed_sources::{
     Chunks, ChunksOf, Reversed, StepBy, Windows, WindowsOf, Zip, indexed, take_last,
 };
-use sources::{CopiesSplit, LentSplit, MAX_RANGE, RangeSplit, SliceSplit, Windowed};
+use sources::{CopiesSplit, LentSplit, MAX_RANGE, Placed, RangeSplit, SliceSplit};
 use spliterator::{MAX_ESTIMATE, NoMemory, Spliterator};
 use std::alloc::{AllocError, Global};
 use std::process::Abort;
@@ -17,7 +17,7 @@ static NUMBERS: [i64; 7] = [3, 1, 4, 1, 5, 9, 2];
 static SIZES: [usize; 7] = [1, 2, 3, 6, 7, 8, usize::MAX];
 
 /// Checks a source: its number of items, these in five ways, and what is before and behind each place.
-fn check<S: Windowed + Copy>(
+fn check<S: Placed + Copy>(
     rt: &impl Abort,
     alloc: Global,
     source: S,

@@ -4,7 +4,7 @@ ghost use Rattle.std.specs.List.Sorted.{IsSorted};
 ghost use Rattle.sources.specs.Ascending.{IsSorted-prop};
 
 use crate::counted::{capped, told_sorted};
-use crate::windowed::{Windowed, front_of, rest_of};
+use crate::placed::{Placed, front_of, rest_of};
 use spliterator::{NoMemory, OrderedValue, Spliterator};
 use std::alloc::AllocError;
 
@@ -96,7 +96,7 @@ impl<'a, T: OrderedValue> Spliterator for SortedSplit<'a, T> {
     ghost flag_law = { λ s. IsSoundFor-ascending T.order T.order_total (map T.content s.items.now) s.ascending };
 }
 
-impl<'a, T: OrderedValue> Windowed for SortedSplit<'a, T> {
+impl<'a, T: OrderedValue> Placed for SortedSplit<'a, T> {
     fn count(&self) -> u64 {
         self.items.len() as u64
     }

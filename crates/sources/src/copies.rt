@@ -2,7 +2,7 @@
 ghost use Rattle.std.specs.Prelude.{◌≡◌, ⊤, length, replicate};
 ghost use Rattle.spliterator.specs.Clones.{ClonesAlike, TestsClonesAlike};
 
-use crate::Windowed;
+use crate::Placed;
 use crate::counted::{capped, told};
 use spliterator::{NoMemory, OrderedValue, Spliterator, Value};
 use std::alloc::AllocError;
@@ -102,7 +102,7 @@ impl<'a, T: OrderedValue + Clone> Spliterator for CopiesSplit<'a, T> {
     ghost flag_law = { λ s. IsSoundFor-by_count T.order (replicate s.left (T.content s.value.now)) };
 }
 
-impl<'a, T: OrderedValue + Clone> Windowed for CopiesSplit<'a, T> {
+impl<'a, T: OrderedValue + Clone> Placed for CopiesSplit<'a, T> {
     fn count(&self) -> u64 {
         self.left
     }

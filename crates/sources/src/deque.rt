@@ -1,8 +1,8 @@
 ghost use Rattle.std.specs.Prelude.{◌≡◌, ⊤, ◌≤◌, length, map};
 ghost use Rattle.spliterator.specs.Clones.{ClonesAlike, TestsClonesAlike};
-ghost use Rattle.sources.specs.Windows.{window};
+ghost use Rattle.sources.specs.Sections.{section};
 
-use crate::Windowed;
+use crate::Placed;
 use crate::counted::{capped, told};
 use spliterator::{NoMemory, OrderedValue, Spliterator, Value};
 use std::alloc::AllocError;
@@ -54,17 +54,17 @@ impl<'a, T: OrderedValue + Clone> Spliterator for DequeSplit<'a, T> {
 
     type Item = T;
 
-    ghost items = { λ s. map T.content (window s.from s.to s.items.now.items) };
+    ghost items = { λ s. map T.content (section s.from s.to s.items.now.items) };
 
-    ghost weight = { λ s. length (map T.content (window s.from s.to s.items.now.items)) };
+    ghost weight = { λ s. length (map T.content (section s.from s.to s.items.now.items)) };
 
-    ghost estimate = { λ s. capped_count (length (map T.content (window s.from s.to s.items.now.items))) };
+    ghost estimate = { λ s. capped_count (length (map T.content (section s.from s.to s.items.now.items))) };
 
-    ghost told = { λ s. told_by_count (length (map T.content (window s.from s.to s.items.now.items))) };
+    ghost told = { λ s. told_by_count (length (map T.content (section s.from s.to s.items.now.items))) };
 
     ghost MayRefuse = { λ _. ¬ ((x : T) → T.is_infallible x) };
 
-    ghost split_gives = { SplitsInHalf (λ s. map T.content (window s.from s.to s.items.now.items)) };
+    ghost split_gives = { SplitsInHalf (λ s. map T.content (section s.from s.to s.items.now.items)) };
 
     fn try_advance(&mut self) -> Result<Option<T>, NoMemory> {
         if self.from == self.to {
@@ -99,14 +99,14 @@ impl<'a, T: OrderedValue + Clone> Spliterator for DequeSplit<'a, T> {
         told((self.to - self.from) as u64)
     }
 
-    ghost split_law = { λ s part rest h. IsSplit-halves (λ r. map T.content (window r.from r.to r.items.now.items)) _ _ _ (CountsItems-by_count (λ r. map T.content (window r.from r.to r.items.now.items))) s part rest h };
+    ghost split_law = { λ s part rest h. IsSplit-halves (λ r. map T.content (section r.from r.to r.items.now.items)) _ _ _ (CountsItems-by_count (λ r. map T.content (section r.from r.to r.items.now.items))) s part rest h };
 
-    ghost size_law = { λ s. IsEstimate-counts (λ r. map T.content (window r.from r.to r.items.now.items)) _ _ _ (CountsItems-by_count (λ r. map T.content (window r.from r.to r.items.now.items))) s };
+    ghost size_law = { λ s. IsEstimate-counts (λ r. map T.content (section r.from r.to r.items.now.items)) _ _ _ (CountsItems-by_count (λ r. map T.content (section r.from r.to r.items.now.items))) s };
 
-    ghost flag_law = { λ s. IsSoundFor-by_count T.order (map T.content (window s.from s.to s.items.now.items)) };
+    ghost flag_law = { λ s. IsSoundFor-by_count T.order (map T.content (section s.from s.to s.items.now.items)) };
 }
 
-impl<'a, T: OrderedValue + Clone> Windowed for DequeSplit<'a, T> {
+impl<'a, T: OrderedValue + Clone> Placed for DequeSplit<'a, T> {
     fn count(&self) -> u64 {
         (self.to - self.from) as u64
     }

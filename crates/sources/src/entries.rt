@@ -5,7 +5,7 @@ ghost use Rattle.std.proofs.lemmas.Map.Keys.{IsDistinct-prop};
 ghost use Rattle.sources.specs.Entries.{entry_contents};
 
 use crate::counted::DIFFERING;
-use crate::windowed::{Windowed, front_of, rest_of};
+use crate::placed::{Placed, front_of, rest_of};
 use indexmap::IndexMap;
 use spliterator::{EqualValue, NoMemory, OrderedValue, Spliterator};
 use std::alloc::{AllocError, Allocator};
@@ -126,7 +126,7 @@ impl<'a, K: OrderedValue + EqualValue, V: OrderedValue> Spliterator for EntriesS
         sound (by_first K.order V.order) K.same_decides V.same_decides s.keys.now s.values.now s.differ };
 }
 
-impl<'a, K: OrderedValue + EqualValue, V: OrderedValue> Windowed for EntriesSplit<'a, K, V> {
+impl<'a, K: OrderedValue + EqualValue, V: OrderedValue> Placed for EntriesSplit<'a, K, V> {
     fn count(&self) -> u64 {
         self.estimate_size()
     }

@@ -5,7 +5,7 @@ ghost use Rattle.std.proofs.lemmas.Map.Keys.{IsDistinct-prop};
 ghost use Rattle.indexmap.specs.IndexMap.{keys};
 
 use crate::counted::DIFFERING;
-use crate::windowed::{Windowed, front_of, rest_of};
+use crate::placed::{Placed, front_of, rest_of};
 use indexmap::{IndexMap, IndexSet};
 use spliterator::{EqualValue, NoMemory, OrderedValue, Spliterator};
 use std::alloc::{AllocError, Allocator};
@@ -120,7 +120,7 @@ impl<'a, K: OrderedValue + EqualValue> Spliterator for KeysSplit<'a, K> {
         (contents-differ K.content K.PartialEq.eq K.same K.eq_is_same s.keys.now s.differ) };
 }
 
-impl<'a, K: OrderedValue + EqualValue> Windowed for KeysSplit<'a, K> {
+impl<'a, K: OrderedValue + EqualValue> Placed for KeysSplit<'a, K> {
     fn count(&self) -> u64 {
         self.estimate_size()
     }

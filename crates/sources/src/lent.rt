@@ -1,7 +1,7 @@
 ghost use Rattle.std.specs.Prelude.{◌≡◌, ⊤, length, map};
 
 use crate::counted::{capped, told};
-use crate::windowed::{Windowed, front_of, rest_of};
+use crate::placed::{Placed, front_of, rest_of};
 use spliterator::{NoMemory, OrderedValue, Spliterator, Value};
 use std::alloc::AllocError;
 
@@ -84,7 +84,7 @@ impl<'a, T: OrderedValue> Spliterator for LentSplit<'a, T> {
     ghost flag_law = { λ s. IsSoundFor-by_count T.order (map T.content s.items.now) };
 }
 
-impl<'a, T: OrderedValue> Windowed for LentSplit<'a, T> {
+impl<'a, T: OrderedValue> Placed for LentSplit<'a, T> {
     fn count(&self) -> u64 {
         self.items.len() as u64
     }

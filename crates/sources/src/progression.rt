@@ -5,7 +5,7 @@ ghost use Rattle.sources.specs.Halves.{SplitsInHalf, told_sized};
 ghost use Rattle.sources.specs.Progressions.{progression};
 
 use crate::counted::COUNTED;
-use crate::{RangeSplit, Windowed};
+use crate::{Placed, RangeSplit};
 use spliterator::{NoMemory, Spliterator};
 
 /// A product that wraps.
@@ -151,7 +151,7 @@ impl Spliterator for Progression {
     ghost flag_law = { λ p. IsSoundFor-sized _ (progression p.next p.step p.left) };
 }
 
-impl Windowed for Progression {
+impl Placed for Progression {
     fn count(&self) -> u64 {
         self.left
     }

@@ -2,7 +2,7 @@ ghost use Rattle.std.specs.Prelude.{◌≡◌, ⊤, length};
 ghost use Rattle.spliterator.specs.Codes.{code_order};
 
 use crate::counted::{capped, told};
-use crate::windowed::{Windowed, front_of, rest_of};
+use crate::placed::{Placed, front_of, rest_of};
 use spliterator::{NoMemory, Row, Spliterator};
 use std::alloc::AllocError;
 
@@ -85,7 +85,7 @@ impl<'a, T> Spliterator for RowsSplit<'a, T> {
     ghost flag_law = { λ s. IsSoundFor-by_count (code_order T.row.coded) s.items.now };
 }
 
-impl<'a, T> Windowed for RowsSplit<'a, T> {
+impl<'a, T> Placed for RowsSplit<'a, T> {
     fn count(&self) -> u64 {
         self.items.len() as u64
     }

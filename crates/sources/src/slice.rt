@@ -2,7 +2,7 @@ ghost use Rattle.std.specs.Prelude.{◌≡◌, ⊤, length, map};
 ghost use Rattle.spliterator.specs.Clones.{ClonesAlike, TestsClonesAlike};
 
 use crate::counted::{capped, told};
-use crate::windowed::{Windowed, front_of, rest_of};
+use crate::placed::{Placed, front_of, rest_of};
 use spliterator::{NoMemory, OrderedValue, Spliterator, Value};
 use std::alloc::AllocError;
 
@@ -103,7 +103,7 @@ impl<'a, T: OrderedValue + Clone> Spliterator for SliceSplit<'a, T> {
     ghost flag_law = { λ s. IsSoundFor-by_count T.order (map T.content s.items.now) };
 }
 
-impl<'a, T: OrderedValue + Clone> Windowed for SliceSplit<'a, T> {
+impl<'a, T: OrderedValue + Clone> Placed for SliceSplit<'a, T> {
     fn count(&self) -> u64 {
         self.items.len() as u64
     }

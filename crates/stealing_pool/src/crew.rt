@@ -62,13 +62,11 @@ pub(crate) fn join_apart<
 }
 
 /// The shifts of a seat and of those behind it, in one list.
-fn put_first<S: Drop>(alloc: Global, first: S, mut others: Vec<S>) -> Result<Vec<S>, AllocError>
+fn put_first<S: Drop>(first: S, mut others: Vec<S>) -> Result<Vec<S>, AllocError>
     ensures { IfOk result (λ v. v.items ≡ first ∷ others.items) }
 {
-    let mut shifts = Vec::new(alloc);
-    shifts.push(first)?;
-    shifts.append(&mut others)?;
-    Ok(shifts)
+    others.insert(0, first)?;
+    Ok(others)
 }
 
 /// Gives each seat to the worker in this thread, from the first on.
@@ -86,7 +84,7 @@ fn run_here<W: Worker>(
     };
     let shift = worker.run(seat);
     let others = run_here(alloc, worker, seats)?;
-    put_first(alloc, shift, others)
+    put_first(shift, others)
 }
 
 /// Gives each seat to a worker in a thread of its own, from the first on.
@@ -114,7 +112,7 @@ fn start_workers<R: Threads + Sync, W: Worker>(
         ensures each { IfOk result (λ v. (k : ℕ) (d : W.Seat) (e : W.Shift) → k < length seats.rest.items → W.gives worker.entry.now (slice_index_or seats.rest.items k d) (slice_index_or v.items k e)) }
     { start_workers(rt, alloc, worker, seats) };
     let (shift, others) = join(rt, first, later);
-    put_first(alloc, shift, others?)
+    put_first(shift, others?)
 }
 
 /// Ends a shift, and gives the other seats to workers, each in a thread of its own.
@@ -168,10 +166,10 @@ fn run_patiently<R: Threads + Clock + Sync, W: Worker>(
     let (shift, left) = worker.begin(&patience, seat);
     if left {
         let (shift, others) = end_apart(rt, alloc, worker, shift, seats);
-        return put_first(alloc, shift, others?);
+        return put_first(shift, others?);
     }
     let others = run_here(alloc, worker, seats)?;
-    put_first(alloc, shift, others)
+    put_first(shift, others)
 }
 
 /// Gives each seat to a worker of its own, and waits for all of them. The shifts stand in the order of the seats.

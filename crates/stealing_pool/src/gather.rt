@@ -23,7 +23,7 @@ fn put_all<K: Drop>(places: &mut Vec<Option<Portion<K>>>, ran: Vec<Ran<K>>)
 fn empty_places<K: Drop>(alloc: Global, n: usize) -> Result<Vec<Option<Portion<K>>>, NoMemory>
     ensures { IfOk result (λ v. v.items ≡ replicate n None) }
 {
-    let mut places = Vec::new(alloc);
+    let mut places = Vec::with_capacity(alloc, n)?;
     for _at in 0..n {
         places.push(None)?;
     }
@@ -41,7 +41,7 @@ pub fn sort_shifts<T: Drop, K: Drop>(
     ensures places { IfOk result (λ r. r.1.items ≡ place_shifts (replicate n None) shifts.items) }
     ensures served { OnOk result (All (λ s. s.refused ≡ false) shifts.items) }
 {
-    let mut seats = Vec::new(alloc);
+    let mut seats = Vec::with_capacity(alloc, shifts.len())?;
     let mut places = empty_places(alloc, n)?;
     for shift in shifts {
         let Shift { seat, ran, refused } = shift;
@@ -68,7 +68,7 @@ pub fn pick_row<J: LeafJob>(
     ensures { IfOk result (λ row. IsRow (J.work job.now) row.items) }
 {
     let need = job.need();
-    let mut row = Vec::new(alloc);
+    let mut row = Vec::with_capacity(alloc, places.len())?;
     let mut total = 0;
     for place in places {
         let Some(portion) = place else { unreachable!() };

@@ -4,7 +4,7 @@ use Rattle.std.specs.declared.cmp.Ordering.{Ordering}
 use Rattle.std.specs.List.Sorted.{IsPermutation, IsSorted, IsStable}
 
 -- `sorted` has the members of the list, they ascend, and those that tie stand in the order that they have in the list.
--- There is at most one such list (`sorted-once` of SortedLaws).
+-- There is at most one such list (`sorted_by_key-once` of SortedLaws, with an item as its own key).
 -- java.util.stream.Stream, sorted
 pub record IsSortedList {C : Type 0} (order : C → C → Ordering) (list sorted : List C) : Type 0 where
   pub permutation : IsPermutation list sorted

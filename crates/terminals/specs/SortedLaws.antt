@@ -106,8 +106,3 @@ sorted_by_key-once {C} key order total list s t a b =
     (λ i j d low inside. sorted_far below weak s a.ascending i j d (omega arith) inside)
     (λ i j d low inside. sorted_far below weak t b.ascending i j d (omega arith) inside)
     (λ c. a.stable c ∙ sym (b.stable c))
-
--- and so are two that are the list, sorted by a total order
-pub sorted-once : {C : Type 0} (order : C → C → Ordering) → IsTotalOrder order
-    → (list s t : List C) → IsSortedList order list s → IsSortedList order list t → s ≡ t
-sorted-once order total list s t a b = sorted_by_key-once (λ c. c) order total list s t a b

@@ -8,7 +8,7 @@ mod lists;
 mod workers;
 
 use parallel_streams::{Engine, Run, Source, Stream, StreamError, of};
-use sources::RangeSplit;
+use sources::{LinesSplit, RangeSplit};
 use spliterator::NoMemory;
 use std::alloc::Global;
 use std::env;
@@ -245,6 +245,28 @@ fn fronts_of_a_great_source_end(rt: HostRuntime) -> Result<(), StreamError> {
         let behind = numbers_below(&rt, end).skip(u64::from(cut));
         let found = behind.find_first_on(&engine)?;
         assert!(rt; found == Some(i64::from(cut)), "{cut}: {found:?}");
+    }
+    Ok(())
+}
+
+// Of a long text the lines behind a front stay unread, so that no leaf of a later segment is entered.
+#[test]
+fn fronts_of_a_long_text_end(rt: HostRuntime) -> Result<(), StreamError> {
+    let mut text = String::new(rt.alloc());
+    for _ in 0..1 << 18 {
+        text.push_str("line\n")?;
+    }
+    for front in [1, 5_000] {
+        let gate = &Workers::new(0, 1);
+        let run = Run::new(4).with_gate(gate);
+        let engine = Engine::new(&rt, rt.alloc(), &run)?;
+        let lines = of(LinesSplit::new(text.as_str())).limit(front as u64);
+        let count = lines.count_on(&engine)?;
+        let (leaves, _) = gate.counts();
+        assert!(rt;
+            count == front && leaves <= 64,
+            "{front}: {count}, {leaves} leaves"
+        );
     }
     Ok(())
 }

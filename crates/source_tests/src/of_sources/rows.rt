@@ -2,8 +2,8 @@ use super::{Side, check_row, range, walks, wrapped};
 use crate::reading::read;
 use either::{Left, Right};
 use sources::{
-    Concat, DequeSplit, LinesSplit, MAX_RANGE, Progression, RangeSplit, RangeTooLong, SliceSplit,
-    Windowed,
+    Concat, DequeSplit, LinesSplit, MAX_RANGE, Placed, Progression, RangeSplit, RangeTooLong,
+    SliceSplit,
 };
 use spliterator::{MAX_ESTIMATE, NoMemory, Spliterator};
 use std::alloc::{AllocError, Global};
@@ -18,7 +18,7 @@ pub fn tells<S: Spliterator>(split: &S, told: u32, estimate: u64) -> bool {
 }
 
 /// Checks that a source of three items has this front and this rest at a number of items.
-fn check_cut<S: Windowed + Copy>(
+fn check_cut<S: Placed + Copy>(
     rt: &impl Abort,
     alloc: Global,
     source: S,

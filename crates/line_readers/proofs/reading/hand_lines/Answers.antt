@@ -1,148 +1,135 @@
-use Rattle.std.proofs.Common.{List, [], ℕ, ◌++◌, ◌∙◌, ap, flat_map, map, refl, string_bytes, subst, sym}
+use Rattle.std.proofs.Common.{Err, List, [], ◌++◌, ◌∙◌, ap, map, string_bytes, subst}
+use Rattle.std.proofs.lemmas.Result.{err_from_is_err_and}
 use Rattle.std.specs.Io.KnownBytes.{prepend_known}
-use Rattle.sources.specs.Lines.{text_lines}
-use Rattle.line_blocks.specs.Faults.{StandsAt}
-use Rattle.line_blocks.proofs.Cuts.{folded-more, folded-none}
+use Rattle.line_blocks.specs.Blocks.{IsFolded}
+use Rattle.line_blocks.specs.Faults.{IsFault}
 use Rattle.line_blocks.proofs.Standing.{stands-first}
-use Rattle.line_readers.specs.Values.{IsTaken, values_of}
-use Rattle.line_readers.proofs.Behind.{decided-lines, handed-more, known-first, last-lines, over-gives, taken-gives}
+use Rattle.line_readers.proofs.Behind.{handed-more, last-given, none-taken, over-given, taken_of}
 use Rattle.line_readers.proofs.Told.{on-err}
+use Rattle.line_readers.proofs.reading.hand_lines.Invariants.{way}
+use Rattle.line_readers.proofs.reading.hand_lines.Goals.{In-loop, In_ok-take_all-2}
 use Rattle.line_readers.proofs.reading.hand_lines.Goals as goal
 
 pub loop-init : goal.loop-init
 loop-init g c =
-    let K = g.K.Sink in
-    let from = c.args.action.now in
     let own = c.args.lines.steps in
-    let last = g.Z.Stage.expand own.last in
-    let whole = g.Q.Between.value own.barriers own.between in
-    let behind = g.Q.Between.value_behind own.barriers own.between in
-    let image = g.F.LineFunction.image own.function in
-    let first = g.A.Stage.expand own.first in
-    let remaining = g.I.Read.remaining in
-    let all = remaining c.args.lines.reader in
-    let fresh = c.new-blocks.result in
-    let told = c.new-blocks.ensures in
-    let taken = λ (lines : List (List ℕ)). IsTaken (K.takes from) last whole behind (values_of image first lines) in
-    let known = ap (λ r. prepend_known fresh.rest.items (remaining r)) told.reader ∙ known-first all fresh.rest.items told.rest in
-    let state = c.fresh-state.result in
+    let all = g.I.Read.remaining c.args.lines.reader in
+    let fresh = c.new-fresh.result in
+    let left = g.I.Read.remaining fresh.reader in
+    let told = c.new-fresh.ensures in
+    let same = ap g.I.Read.remaining told.reader in
+    let from = c.args.action.now in
+    let none = g.met.K.Sink.takes_none from in
     record {
-      handed = folded-none taken all (prepend_known fresh.rest.items (remaining fresh.reader)) (from, state) known ([], g.met.K.Sink.takes_none from, λ more. sym (c.fresh-state.ensures own.between more));
-      taken = ([], g.met.K.Sink.takes_none from);
-      stands = subst (λ r. StandsAt all (prepend_known fresh.rest.items (remaining r)) fresh.place) (sym told.reader) (stands-first all fresh.rest.items fresh.place told.rest told.place);
-      longest = told.longest;
+      ahead = (
+        prepend_known fresh.rest.items left,
+        none-taken (way g own) (g.K.Sink.takes from) all left fresh.rest.items (from, c.fresh-state.result) same told.rest none (c.fresh-state.ensures own.between),
+        c.in_ok-blocks.ensures.block,
+      );
+      taken = ([], none);
+      stands = c.in_ok-blocks.ensures.stands all (stands-first all left fresh.rest.items fresh.place same told.rest told.place);
+      longest = c.in_ok-blocks.ensures.longest ∙ told.longest;
+      last = c.in_ok-blocks.ensures.last;
     }
+
+-- the block is handed over
+handed : (g : _) (c : In_ok-take_all-2 g) → IsFolded (taken_of (way g c.args.lines.steps) (g.K.Sink.takes c.args.action.now)) (g.I.Read.remaining c.args.lines.reader)
+    (c.take_all-in-loop.new.self, c.in_ok-more.more.1) (prepend_known c.loop.blocks.rest.items (g.I.Read.remaining c.loop.blocks.reader))
+handed g c =
+    let ahead = c.loop.invariant.ahead in
+    handed-more (way g c.args.lines.steps) g.K.Sink.takes g.met.K.Sink.takes_both c.args.action.now c.loop.action c.take_all-in-loop.new.self c.loop.state c.in_ok-more.more.1
+    c.in_ok-new_container.field-0 c.in_ok-more.more.0 _ ahead.0 _ (string_bytes c.loop.block.text) (map g.Z.Out.Value.content c.in_ok-finish_container-2.field-0.items) ahead.1 ahead.2
+    c.in_ok-more.ensures.worked c.in_ok-new_container.ensures c.in_ok-finish_container-2.ensures c.in_ok-take_all-2.ensures.taken
+
+taken : (g : _) (c : In_ok-take_all-2 g) → (items : List g.row.Z-Out-Content.Denot) × g.K.Sink.takes c.args.action.now items c.take_all-in-loop.new.self
+taken g c =
+    let so_far = c.loop.invariant.taken in
+    let items = map g.Z.Out.Value.content c.in_ok-finish_container-2.field-0.items in
+    (so_far.0 ++ items, g.met.K.Sink.takes_both c.args.action.now c.loop.action c.take_all-in-loop.new.self so_far.0 items so_far.1 c.in_ok-take_all-2.ensures.taken)
 
 pub loop-preserved : goal.loop-preserved
 loop-preserved g c =
-    let K = g.K.Sink in
-    let from = c.args.action.now in
-    let own = c.args.lines.steps in
-    let last = g.Z.Stage.expand own.last in
-    let whole = g.Q.Between.value own.barriers own.between in
-    let behind = g.Q.Between.value_behind own.barriers own.between in
-    let image = g.F.LineFunction.image own.function in
-    let first = g.A.Stage.expand own.first in
-    let remaining = g.I.Read.remaining in
-    let all = remaining c.args.lines.reader in
-    let left = prepend_known c.loop.blocks.rest.items (remaining c.loop.blocks.reader) in
-    let after = prepend_known c.in_ok-behind.behind.rest.items (remaining c.in_ok-behind.behind.reader) in
-    let block = string_bytes c.in_ok-behind.block.text in
-    let state = c.loop.state in
-    let later = c.in_ok-whole.later in
-    let next = c.take_all.new.self in
-    let made = c.in_ok-whole.ensures (behind state) [] ([], c.in_ok-new_container.ensures, λ more. refl) in
-    let is = c.in_ok-finish_container.ensures (flat_map last made.0) made.1 in
-    let items = map g.Z.Out.Value.content c.in_ok-finish_container.field-0.items in
-    let step = handed-more image first K.takes g.met.K.Sink.takes_both last whole behind from c.loop.action next state later (text_lines block) made.0 items is made.2 c.in_ok-take_all.ensures.taken in
-    let taken = λ (lines : List (List ℕ)). IsTaken (K.takes from) last whole behind (values_of image first lines) in
+    let here = (goal.at.loop-preserved g c).In_ok-take_all-2 in
+    let stands = c.in_ok-more.ensures.stands (g.I.Read.remaining c.args.lines.reader) c.loop.invariant.stands in
     record {
-      handed = folded-more taken all left after (c.loop.action, state) (next, later) block c.loop.invariant.handed c.in_ok-behind.ensures.block step;
-      taken = (
-        c.loop.invariant.taken.0 ++ items,
-        g.met.K.Sink.takes_both from c.loop.action next c.loop.invariant.taken.0 items c.loop.invariant.taken.1 c.in_ok-take_all.ensures.taken,
+      ahead = (
+        prepend_known c.loop.blocks.rest.items (g.I.Read.remaining c.loop.blocks.reader),
+        handed g here,
+        rw c.in_ok-behind.was at c.in_ok-more.ensures.block,
       );
-      stands = c.in_ok-behind.ensures.stands all c.loop.invariant.stands;
-      longest = c.in_ok-behind.ensures.longest ∙ c.loop.invariant.longest;
+      taken = taken g here;
+      stands = rw c.in_ok-behind.was at stands;
+      longest = (rw c.in_ok-behind.was at c.in_ok-more.ensures.longest) ∙ c.loop.invariant.longest;
+      last = rw c.in_ok-behind.was at c.in_ok-more.ensures.last;
     }
 
 pub returns-then-block-clause-taken : goal.returns-then-block-clause-taken
 returns-then-block-clause-taken g c =
-    let K = g.K.Sink in
-    let from = c.args.action.now in
     let own = c.args.lines.steps in
-    let last = g.Z.Stage.expand own.last in
-    let whole = g.Q.Between.value own.barriers own.between in
-    let behind = g.Q.Between.value_behind own.barriers own.between in
-    let image = g.F.LineFunction.image own.function in
-    let first = g.A.Stage.expand own.first in
-    let remaining = g.I.Read.remaining in
-    let all = remaining c.args.lines.reader in
-    let left = prepend_known c.loop.blocks.rest.items (remaining c.loop.blocks.reader) in
-    let after = prepend_known c.in_ok-behind.behind.rest.items (remaining c.in_ok-behind.behind.reader) in
-    let block = string_bytes c.in_ok-behind.block.text in
-    let state = c.loop.state in
-    let later = c.in_ok-whole.later in
+    let way = way g own in
+    let from = c.args.action.now in
     let next = c.take_all.new.self in
-    let made = c.in_ok-whole.ensures (behind state) [] ([], c.in_ok-new_container.ensures, λ more. refl) in
-    let is = c.in_ok-finish_container.ensures (flat_map last made.0) made.1 in
-    let items = map g.Z.Out.Value.content c.in_ok-finish_container.field-0.items in
-    let step = handed-more image first K.takes g.met.K.Sink.takes_both last whole behind from c.loop.action next state later (text_lines block) made.0 items is made.2 c.in_ok-take_all.ensures.taken in
-    let nothing = g.met.Q.Between.of_nothing own.barriers own.between later in
-    last-lines image first (IsTaken (K.takes from) last whole behind) (λ xs o. K.takes from (flat_map last (whole xs)) o)
-    all left after (c.loop.action, state) (next, later) block next c.loop.invariant.handed c.in_ok-behind.ensures.block (c.in_ok-behind.ensures.last c.if-block.true) step
-    (λ xs t. taken-gives (K.takes from) last whole behind next later xs t (K.takes from) next nothing (λ l took. took))
+    let ahead = c.loop.invariant.ahead in
+    let all = g.I.Read.remaining c.args.lines.reader in
+    let left = prepend_known c.loop.blocks.rest.items (g.I.Read.remaining c.loop.blocks.reader) in
+    let state = c.in_ok-whole._state in
+    last-given way (g.K.Sink.takes from) (g.K.Sink.takes from) next (next, state) (g.met.Q.Between.of_nothing own.barriers own.between state) (λ l took. took) all left
+    (handed-more way g.K.Sink.takes g.met.K.Sink.takes_both from c.loop.action next c.loop.state state c.in_ok-new_container.field-0 c.in_ok-whole.whole all ahead.0 left (string_bytes c.loop.block.text)
+    (map g.Z.Out.Value.content c.in_ok-finish_container.field-0.items) ahead.1 ahead.2 c.in_ok-whole.ensures c.in_ok-new_container.ensures c.in_ok-finish_container.ensures c.in_ok-take_all.ensures.taken)
+    (c.loop.invariant.last c.if-block.true)
 
 pub returns-then-is_over-clause-taken : goal.returns-then-is_over-clause-taken
 returns-then-is_over-clause-taken g c =
-    let K = g.K.Sink in
-    let from = c.args.action.now in
     let own = c.args.lines.steps in
-    let last = g.Z.Stage.expand own.last in
-    let whole = g.Q.Between.value own.barriers own.between in
-    let behind = g.Q.Between.value_behind own.barriers own.between in
-    let image = g.F.LineFunction.image own.function in
-    let first = g.A.Stage.expand own.first in
-    let remaining = g.I.Read.remaining in
-    let all = remaining c.args.lines.reader in
-    let left = prepend_known c.loop.blocks.rest.items (remaining c.loop.blocks.reader) in
-    let after = prepend_known c.in_ok-behind.behind.rest.items (remaining c.in_ok-behind.behind.reader) in
-    let block = string_bytes c.in_ok-behind.block.text in
-    let state = c.loop.state in
-    let later = c.in_ok-whole.later in
-    let next = c.take_all.new.self in
-    let made = c.in_ok-whole.ensures (behind state) [] ([], c.in_ok-new_container.ensures, λ more. refl) in
-    let is = c.in_ok-finish_container.ensures (flat_map last made.0) made.1 in
-    let items = map g.Z.Out.Value.content c.in_ok-finish_container.field-0.items in
-    let step = handed-more image first K.takes g.met.K.Sink.takes_both last whole behind from c.loop.action next state later (text_lines block) made.0 items is made.2 c.in_ok-take_all.ensures.taken in
-    let nothing = g.met.Q.Between.of_nothing own.barriers own.between later in
-    decided-lines image first (IsTaken (K.takes from) last whole behind) (λ xs o. K.takes from (flat_map last (whole xs)) o)
-    all left after (c.loop.action, state) (next, later) block next c.loop.invariant.handed c.in_ok-behind.ensures.block step
-    (λ xs more t gives. over-gives (K.takes from) last whole behind next later xs t (K.takes from) next more (c.is_over.ensures c.if-is_over.true) gives)
-    (λ xs t. taken-gives (K.takes from) last whole behind next later xs t (K.takes from) next nothing (λ l took. took))
+    let takes = g.K.Sink.takes c.args.action.now in
+    let next = c.take_all-in-loop.new.self in
+    over-given (way g own) takes takes next (next, c.in_ok-more.more.1) (g.met.Q.Between.of_nothing own.barriers own.between c.in_ok-more.more.1) (λ l took. took)
+    (c.is_over.ensures c.if-is_over.true) _ _ (handed g (goal.at.returns-then-is_over-clause-taken g c).In_ok-take_all-2)
 
-pub returns-in_err-whole-clause-spoilt : goal.returns-in_err-whole-clause-spoilt
-returns-in_err-whole-clause-spoilt g c =
-    let K = g.met.K.Sink in
-    let now = c.loop.action in
+unspoilt : (g : _) (c : In-loop g) → g.K.Sink.spoils c.args.action.now c.loop.action
+unspoilt g c =
     let taken = c.loop.invariant.taken in
-    on-err c.from_residual-in_err-whole.result (g.K.Sink.spoils c.args.action.now now) (K.spoils_later c.args.action.now now now taken.0 taken.1 (K.spoils_nothing now))
+    g.met.K.Sink.spoils_later c.args.action.now c.loop.action c.loop.action taken.0 taken.1 (g.met.K.Sink.spoils_nothing c.loop.action)
+
+ready : (g : _) (c : In-loop g) → g.K.Sink.ready c.loop.action
+ready g c =
+    let taken = c.loop.invariant.taken in
+    g.met.K.Sink.stays_ready c.args.action.now c.loop.action taken.0 taken.1 c.requires.action
+
+pub take_all-requires : goal.take_all-requires
+take_all-requires g c = ready g (goal.at.take_all-requires g c).In-loop
+
+pub take_all-requires-in-loop : goal.take_all-requires-in-loop
+take_all-requires-in-loop g c = ready g (goal.at.take_all-requires-in-loop g c).In-loop
+
+pub returns-in_err-more-clause-spoilt : goal.returns-in_err-more-clause-spoilt
+returns-in_err-more-clause-spoilt g c = on-err _ _ (unspoilt g (goal.at.returns-in_err-more-clause-spoilt g c).In-loop)
 
 pub returns-in_err-finish_container-clause-spoilt : goal.returns-in_err-finish_container-clause-spoilt
-returns-in_err-finish_container-clause-spoilt g c =
-    let K = g.met.K.Sink in
-    let now = c.loop.action in
-    let taken = c.loop.invariant.taken in
-    on-err c.from_residual-in_err-finish_container.result (g.K.Sink.spoils c.args.action.now now) (K.spoils_later c.args.action.now now now taken.0 taken.1 (K.spoils_nothing now))
+returns-in_err-finish_container-clause-spoilt g c = on-err _ _ (unspoilt g (goal.at.returns-in_err-finish_container-clause-spoilt g c).In-loop)
+
+pub returns-in_err-finish_container-2-clause-spoilt : goal.returns-in_err-finish_container-2-clause-spoilt
+returns-in_err-finish_container-2-clause-spoilt g c = on-err _ _ (unspoilt g (goal.at.returns-in_err-finish_container-2-clause-spoilt g c).In-loop)
 
 pub returns-in_err-take_all-clause-spoilt : goal.returns-in_err-take_all-clause-spoilt
 returns-in_err-take_all-clause-spoilt g c =
     let taken = c.loop.invariant.taken in
-    let next = c.take_all.new.self in
-    on-err c.from_residual-in_err-take_all.result (g.K.Sink.spoils c.args.action.now next)
-    (g.met.K.Sink.spoils_later c.args.action.now c.loop.action next taken.0 taken.1 c.in_err-take_all.ensures.spoilt)
+    on-err _ _ (g.met.K.Sink.spoils_later c.args.action.now c.loop.action c.take_all.new.self taken.0 taken.1 c.in_err-take_all.ensures.spoilt)
 
-pub take_all-requires : goal.take_all-requires
-take_all-requires g c =
+pub returns-in_err-take_all-2-clause-spoilt : goal.returns-in_err-take_all-2-clause-spoilt
+returns-in_err-take_all-2-clause-spoilt g c =
     let taken = c.loop.invariant.taken in
-    g.met.K.Sink.stays_ready c.args.action.now c.loop.action taken.0 taken.1 c.requires.action
+    on-err _ _ (g.met.K.Sink.spoils_later c.args.action.now c.loop.action c.take_all-in-loop.new.self taken.0 taken.1 c.in_err-take_all-2.ensures.spoilt)
+
+pub returns-in_err-behind-clause-spoilt : goal.returns-in_err-behind-clause-spoilt
+returns-in_err-behind-clause-spoilt g c =
+    let next = c.take_all-in-loop.new.self in
+    let took = taken g (goal.at.returns-in_err-behind-clause-spoilt g c).In_ok-take_all-2 in
+    on-err _ _ (g.met.K.Sink.spoils_later c.args.action.now next next took.0 took.1 (g.met.K.Sink.spoils_nothing next))
+
+pub returns-in_err-behind-clause-faults : goal.returns-in_err-behind-clause-faults
+returns-in_err-behind-clause-faults g c =
+    let all = g.I.Read.remaining c.args.lines.reader in
+    let told = c.in_ok-more.ensures.faults all c.loop.invariant.stands in
+    let p = err_from_is_err_and c.from_residual-in_err-behind.result c.from_residual-in_err-behind.ensures.1 in
+    rw (p.1 ∙ ap Err p.2) (subst (λ n. IsFault n all c.in_err-behind.field-0.0) c.loop.invariant.longest (rw c.in_err-behind.was at told))

@@ -1,23 +1,32 @@
-use Rattle.std.proofs.Common.{◌≡◌, List}
-use Rattle.std.specs.Io.KnownBytes.{prepend_known}
-use Rattle.line_blocks.specs.Blocks.{IsFolded}
+use Rattle.std.proofs.Common.{◌≡◌, true, string_bytes, List, ℕ, Option}
+use Rattle.std.specs.Io.KnownBytes.{IsAtEnd, prepend_known}
+use Rattle.line_blocks.specs.Blocks.{IsFolded, TakesBlock}
 use Rattle.line_blocks.specs.Faults.{StandsAt}
-use Rattle.line_readers.specs.Values.{IsTaken, values_of}
+use Rattle.line_readers.specs.declared.steps.LineSteps.{LineSteps}
+use Rattle.line_readers.proofs.Behind.{Way, taken_of}
 use Rattle.line_readers.proofs.reading.hand_lines.Given as goal
 
--- what was read has been handed over
+-- what its lines go through
+abbrev pub way : (g : goal.Over) → LineSteps g.row.F.Denot g.row.A.Denot g.row.Q.Denot g.row.Q-Stages.Denot g.row.Z.Denot
+    → Way g.row.F-Out-Content.Denot g.row.A-Out-Content.Denot g.row.Q-Out-Content.Denot g.row.Z-Out-Content.Denot g.row.Q-State.Denot
+way g own = record {
+  image = g.F.LineFunction.image own.function;
+  first = g.A.Stage.expand own.first;
+  whole = g.Q.Between.value own.barriers own.between;
+  behind = g.Q.Between.value_behind own.barriers own.between;
+  last = g.Z.Stage.expand own.last;
+}
+
+-- what was taken in has been handed over, and the block that was read ahead stands before what is left
 abbrev pub invariant-loop : goal.invariant-loop
 invariant-loop g l =
-    let K = g.K.Sink in
-    let own = l.fn.lines.steps in
-    let whole = g.Q.Between.value own.barriers own.between in
-    let taken = IsTaken (K.takes l.initial.action) (g.Z.Stage.expand own.last) whole (g.Q.Between.value_behind own.barriers own.between) in
-    let items = values_of (g.F.LineFunction.image own.function) (g.A.Stage.expand own.first) in
+    let takes = g.K.Sink.takes l.initial.action in
     let all = g.I.Read.remaining l.fn.lines.reader in
     let left = prepend_known l.blocks.rest.items (g.I.Read.remaining l.blocks.reader) in
     record {
-      handed : IsFolded (λ lines. taken (items lines)) all (l.action, l.state) left;
-      taken : (items : List _) × K.takes l.initial.action items l.action;
+      ahead : (before : Option (List ℕ)) × IsFolded (taken_of (way g l.fn.lines.steps) takes) all (l.action, l.state) before × TakesBlock before (string_bytes l.block.text) left;
+      taken : (items : List _) × takes items l.action;
       stands : StandsAt all left l.blocks.place;
       longest : l.blocks.longest ≡ l.fn.lines.longest;
+      last : l.block.is_last ≡ true → IsAtEnd left;
     }

@@ -20,7 +20,7 @@ returns-then-run-len-clause-end g c =
     let U = g.U.Plumbing in
     let p = c.args.progress.now in
     let content = g.U.Item.Value.content in
-    let turn = sym (c.own_turn.ensures ∙ ap (λ b. is_own_turn b p.listed) c.is_gathered.ensures) ∙ c.if-not-own_turn.false in
+    let turn = sym (c.own_turn.ensures ∙ ap (λ b. is_own_turn b p.listed) c.is_through.ensures) ∙ c.if-not-own_turn.false in
     nothing-kept {L = Link g.row.A.Denot g.row.B.Denot} {S = g.row.B-State.Denot} (λ link state. g.B.Barrier.needed_behind link.barrier state) (λ link. g.B.Demand.counted link.barrier) (λ link state. g.B.Barrier.value_behind link.barrier state) (λ link. g.A.Stage.expand link.stage)
     g.U.Item.Value.is_value content (lists_of (λ link. g.A.Stage.expand link.stage) content s.links.items p.run (U.parts s.upstream p.before) p.listed) (U.work s.upstream p.before) (is_own_turn (U.done s.upstream p.before) p.listed)
     (slice_get s.links.items p.run) (slice_get p.states.items p.run) (g.L.Handout.cut c.args.seat.now) c.args.leaf c.nothing_kept.result
@@ -35,7 +35,7 @@ part-items-requires-clause-within g c =
     let links = s.links.items in
     let parts = U.parts s.upstream p.before in
     let lists = lists_of (λ link. g.A.Stage.expand link.stage) content links p.run parts p.listed in
-    let turn = sym (c.own_turn.ensures ∙ ap (λ b. is_own_turn b p.listed) c.is_gathered.ensures) ∙ c.if-not-own_turn.false in
+    let turn = sym (c.own_turn.ensures ∙ ap (λ b. is_own_turn b p.listed) c.is_through.ensures) ∙ c.if-not-own_turn.false in
     let inside =
     leaves-own {L = Link g.row.A.Denot g.row.B.Denot} {S = g.row.B-State.Denot} (λ link state. g.B.Barrier.needed_behind link.barrier state) (λ link. g.B.Demand.counted link.barrier) (λ link state. g.B.Barrier.value_behind link.barrier state) (λ link. g.A.Stage.expand link.stage)
     g.U.Item.Value.is_value content lists (U.work s.upstream p.before) (is_own_turn (U.done s.upstream p.before) p.listed) (slice_get links p.run) (slice_get p.states.items p.run) c.args.leaf turn c.requires.within in
@@ -55,7 +55,7 @@ returns-clause-end g c =
     let images = λ (l : Link g.row.A.Denot g.row.B.Denot). g.A.Stage.expand l.stage in
     let through = flat_map (g.A.Stage.expand link.stage) in
     let lists = lists_of images content links p.run parts p.listed in
-    let turn = sym (c.own_turn.ensures ∙ ap (λ b. is_own_turn b p.listed) c.is_gathered.ensures) ∙ c.if-not-own_turn.false in
+    let turn = sym (c.own_turn.ensures ∙ ap (λ b. is_own_turn b p.listed) c.is_through.ensures) ∙ c.if-not-own_turn.false in
     let in_links : p.run < length links = omega (arith, c.if-run-len.false, c.len.ensures) in
     let in_states : p.run < length states = omega (arith, in_links, c.requires.holds.1.0) in
     let inside =

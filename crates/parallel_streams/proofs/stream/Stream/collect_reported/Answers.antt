@@ -14,7 +14,7 @@ returns-clause-report g c =
     let is = c.in_ok-engine.ensures.run in
     let s = c.args.self.now in
     let X = g.Self.Plumbing in
-    let Q : ℕ → ℕ → Type 0 = λ workers target. IsReportedRun (X.cut_into s workers target) (X.value s) (X.reported s workers target) (g.C.Collector.gives c.args.collector.now) c.in_ok-value.value c.of.result in
+    let Q : ℕ → ℕ → Type 0 = λ workers target. IsReportedRun (X.leaf_lists s workers target) (X.value s) (X.reported s workers target) (g.C.Collector.gives c.args.collector.now) c.in_ok-value.value c.of.result in
     subst (λ workers. Q workers c.args.run.now.target) (ap (λ run. run.workers) is)
     (subst (Q c.in_ok-engine.engine.run.workers) (ap (λ run. run.target) is) (record {
       lists = ran.lists;
