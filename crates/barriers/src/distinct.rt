@@ -117,6 +117,16 @@ fn thin_distinct<T: EqualValue + Hash + Drop, S: BuildHasher + Copy + Drop>(
     Ok(())
 }
 
+// Makes room for three times as many items as a set has, where there is none for `more`. A set that grew with each segment would put all its items into
+// their places anew too often. Where memory is refused, the set stays as it is.
+fn make_room<T: EqualValue + Hash, S: BuildHasher>(came: &mut IndexSet<T, S>, more: usize)
+    ensures { came.new.keys ≡ came.old.keys }
+{
+    if came.capacity().saturating_sub(came.len()) < more {
+        let _refused = came.reserve(came.len().saturating_mul(3));
+    }
+}
+
 // The items go into the set of those that came, and what is new there is cloned: an item that repeats is not.
 fn carry_distinct<T: EqualValue + Hash + Clone + Drop, S: BuildHasher>(
     came: &mut IndexSet<T, S>,
@@ -129,6 +139,7 @@ fn carry_distinct<T: EqualValue + Hash + Clone + Drop, S: BuildHasher>(
 {
     let alloc = *items.allocator();
     let known = came.len();
+    make_room(came, items.len());
     came.extend(items)?;
     Ok(Vec::from_clones(alloc, &came.as_slice()[known..])?)
 }

@@ -12,7 +12,9 @@ within g c =
     let old = c.args.came.now.keys in
     let ran = c.in_ok-extend.ensures.ran in
     let all : c.extend.new.self.keys ≡ fold (insert_key eq) old c.args.items.items =
-    ran.3.0 ∙ ap (fold (insert_key eq) old) (Drains-YieldsInOrder _ _ ran.0 ran.1 ran.2.3 ran.4 ∙ ran.2.0) in
+    ran.3.0
+    ∙ ap (fold (insert_key eq) c.make_room.new.came.keys) (Drains-YieldsInOrder _ _ ran.0 ran.1 ran.2.3 ran.4 ∙ ran.2.0)
+    ∙ ap (λ had. fold (insert_key eq) had c.args.items.items) c.make_room.ensures in
     let longer = known-within g.T.Value.same g.met.T.Value.same_decides g.T.Value.content eq g.met.T.EqualValue.eq_is_same old c.extend.new.self.keys c.args.items.items all in
     omega (arith, longer, c.len-known.ensures.len, ap length c.as_slice.ensures.keys)
 
@@ -35,7 +37,9 @@ returns g c = λ more.
     let slice = c.as_slice.result.now in
     let ran = c.in_ok-extend.ensures.ran in
     let all : now ≡ fold (insert_key eq) old c.args.items.items =
-    ran.3.0 ∙ ap (fold (insert_key eq) old) (Drains-YieldsInOrder _ _ ran.0 ran.1 ran.2.3 ran.4 ∙ ran.2.0) in
+    ran.3.0
+    ∙ ap (fold (insert_key eq) c.make_room.new.came.keys) (Drains-YieldsInOrder _ _ ran.0 ran.1 ran.2.3 ran.4 ∙ ran.2.0)
+    ∙ ap (λ had. fold (insert_key eq) had c.args.items.items) c.make_room.ensures in
     let clones : map content c.in_ok-from_clones.field-0.items ≡ map content (take (length slice - known) (drop known slice)) =
     clones-contents g.T.Clone.is_clone content c.requires _ _ c.in_ok-from_clones.ensures.items in
     distinct-goes_on g.T.Value.same g.met.T.Value.same_decides content eq g.met.T.EqualValue.eq_is_same old now c.args.items.items (map content c.in_ok-from_clones.field-0.items) more all
