@@ -53,14 +53,14 @@ def shape(items, workers, segmented):
     return Shape(items, workers, sizes, segments)
 
 
-def room(number):
-    """The room of what grew by doubling."""
-    return 1 << (number - 1).bit_length()
+def room(number, doublings=1):
+    """The room of what grew by so many doublings at a time."""
+    return 1 << -(-(number - 1).bit_length() // doublings) * doublings
 
 
-def entries(number):
+def entries(number, doublings=1):
     """A map or a set of all items, with so many bytes for each entry that has room."""
-    return lambda at: number * room(at.items)
+    return lambda at: number * room(at.items, doublings)
 
 
 def texts(image):
@@ -168,7 +168,8 @@ TERMINALS = [
     *[Row(name, None, 16, 0, lambda at: of_first(at) * 9 // 10, segmented=True) for name in ("skip", "drop_while")],
     # (a while's lists grow as items come)
     Row("take_while", None, 28, 0, lambda at: of_segment(at) * 9 // 8, 2, 1, segmented=True),
-    Row("distinct", None, 28, 0, lambda at: entries(24)(at) + of_segment(at), 2, 1, segmented=True),
+    # (the set grows by four)
+    Row("distinct", None, 28, 0, lambda at: entries(24, 2)(at) + of_segment(at), 2, 1, segmented=True),
 ]
 
 

@@ -5,7 +5,6 @@ use collectors::{First, ToList};
 use parallel_streams::{Engine, Run, Stream, StreamError, of};
 use sources::{RangeSplit, SliceSplit};
 use spliterator::NoMemory;
-use std::alloc::Global;
 use std::process::Abort;
 use std::thread::Threads;
 use std::time::Clock;
@@ -21,17 +20,51 @@ static ROWS: [(i64, &[i64], &[i64], Option<i64>); 4] = [
     (0, &[], &[], None),
 ];
 
-fn rows<R: Threads + Clock + Abort + Alloc<A = Global> + Sync>(
+fn check_both<
+    R: Threads + Clock + Abort + Sync,
+    X: Stream<Item = i64> + Sync,
+    Y: Stream<Item = i64> + Sync,
+>(
     engine: &Engine<'_, R, NoGate>,
-) -> Result<(), NoMemory> {
+    even: &X,
+    more: &Y,
+    list: &[i64],
+    first: Option<i64>,
+) -> Result<(), NoMemory>
+    requires even { X.ready even.now }
+    requires more { Y.ready more.now }
+{
     let rt = engine.rt;
+    let earliest = even.concat(engine, more, &First::new())?;
+    assert!(rt; earliest == first);
+    let found = even.concat(engine, more, &ToList::new(engine.alloc))?;
+    assert!(rt; found.as_slice() == list);
+    Ok(())
+}
+
+// The even ones of some numbers, and one more than each of others.
+fn check_made<
+    R: Threads + Clock + Abort + Sync,
+    X: Stream<Item = i64> + Drop + Sync,
+    Y: Stream<Item = i64> + Drop + Sync,
+>(
+    engine: &Engine<'_, R, NoGate>,
+    numbers: X,
+    others: Y,
+    list: &[i64],
+    first: Option<i64>,
+) -> Result<(), NoMemory>
+    requires numbers { X.ready numbers }
+    requires others { Y.ready others }
+{
+    let (even, more) = (numbers.filter(Even), others.map(Plus(1)));
+    check_both(engine, &even, &more, list, first)
+}
+
+fn rows<R: Threads + Clock + Abort + Sync>(engine: &Engine<'_, R, NoGate>) -> Result<(), NoMemory> {
     for &(end, numbers, list, first) in &ROWS {
-        let even = of(RangeSplit::range(0, end).expect(rt, "a range")).filter(Even);
-        let more = of(SliceSplit::new(numbers)).map(Plus(1));
-        let earliest = even.concat(engine, &more, &First::new())?;
-        assert!(rt; earliest == first);
-        let found = even.concat(engine, &more, &ToList::new(rt.alloc()))?;
-        assert!(rt; found.as_slice() == list);
+        let below = of(RangeSplit::range(0, end).expect(engine.rt, "a range"));
+        check_made(engine, below, of(SliceSplit::new(numbers)), list, first)?;
     }
     Ok(())
 }

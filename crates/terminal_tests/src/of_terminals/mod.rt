@@ -1,4 +1,6 @@
-//! Each terminal operation with 1 and with 4 workers.
+//! Each terminal operation with 1 and with 4 workers. A stream is handed once to a function over any stream: each call that names its type costs a check
+//! as much as several such functions.
+ghost use Rattle.spliterator.specs.Clones.{ClonesAlike};
 
 mod concat;
 mod sorted;
@@ -6,8 +8,9 @@ mod tried;
 
 use parallel_streams::{Engine, Run, Stream, StreamError, of};
 use sources::{LinesSplit, SliceSplit};
-use spliterator::NoMemory;
-use std::alloc::Global;
+use spliterator::{EqualValue, NoMemory, SortedValue, Text};
+use stages::Mapping;
+use std::hash::Hash;
 use std::process::Abort;
 use std::thread::Threads;
 use std::time::Clock;
@@ -63,80 +66,116 @@ static LINES: [(&str, &[&str], &str); 3] = [
     ),
 ];
 
-fn listed<R: Threads + Clock + Alloc<A = Global> + Sync>(
+fn listed<R: Threads + Clock + Sync, X: Stream<Item = i64> + Sync>(
     engine: &Engine<'_, R, NoGate>,
+    numbers: &X,
     items: &[i64],
-) -> Result<bool, NoMemory> {
-    let list = of(SliceSplit::new(items)).to_list(engine)?;
-    Ok(list.as_slice() == items)
+) -> Result<bool, NoMemory>
+    requires { X.ready numbers.now }
+{
+    Ok(numbers.to_list(engine)?.as_slice() == items)
 }
 
-fn fed_in_order<R: Threads + Clock + Alloc<A = Global> + Sync>(
+fn fed_in_order<R: Threads + Clock + Sync, X: Stream<Item = i64> + Sync>(
     engine: &Engine<'_, R, NoGate>,
+    numbers: &X,
     items: &[i64],
-) -> Result<bool, NoMemory> {
-    let mut seen = Vec::new(engine.rt.alloc());
-    of(SliceSplit::new(items)).for_each_ordered(engine, &mut seen)?;
+) -> Result<bool, NoMemory>
+    requires { X.ready numbers.now }
+{
+    let mut seen = Vec::new(engine.alloc);
+    numbers.for_each_ordered(engine, &mut seen)?;
     Ok(seen.as_slice() == items)
 }
 
-fn numbers<R: Threads + Clock + Abort + Alloc<A = Global> + Sync>(
+fn check_numbers<R: Threads + Clock + Abort + Sync, X: Stream<Item = i64> + Sync>(
+    engine: &Engine<'_, R, NoGate>,
+    numbers: &X,
+    items: &[i64],
+    wanted: &Told,
+) -> Result<(), NoMemory>
+    requires { X.ready numbers.now }
+{
+    let rt = engine.rt;
+    let sum = numbers.sum(engine)?;
+    assert!(rt; sum == wanted.1, "{sum}");
+    let told = numbers.summary(engine)?;
+    assert!(rt;
+        (told.count, told.sum, told.least, told.greatest) == *wanted,
+        "{told:?}"
+    );
+    assert!(rt; listed(engine, numbers, items)? && fed_in_order(engine, numbers, items)?);
+    Ok(())
+}
+
+fn numbers<R: Threads + Clock + Abort + Sync>(
     engine: &Engine<'_, R, NoGate>,
 ) -> Result<(), NoMemory> {
-    let rt = engine.rt;
     for (items, wanted) in &NUMBERS {
-        let stream = of(SliceSplit::new(items));
-        let sum = stream.sum(engine)?;
-        assert!(rt; sum == wanted.1, "{sum}");
-        let told = stream.summary(engine)?;
-        assert!(rt;
-            (told.count, told.sum, told.least, told.greatest) == *wanted,
-            "{told:?}"
-        );
-        assert!(rt; listed(engine, items)? && fed_in_order(engine, items)?);
+        check_numbers(engine, &of(SliceSplit::new(items)), items, wanted)?;
     }
     Ok(())
 }
 
-fn best<R: Threads + Clock + Abort + Alloc<A = Global> + Sync>(
-    engine: &Engine<'_, R, NoGate>,
-) -> Result<(), NoMemory> {
+// The least item, the greatest, and by a key the first least and the first greatest.
+fn best_of<
+    R: Threads + Clock + Sync,
+    T: SortedValue + Copy + Send + Sync,
+    K: Mapping<T> + Sync,
+    X: Stream<Item = T> + Sync,
+>(engine: &Engine<'_, R, NoGate>, items: &X, key: &K) -> Result<[Option<T>; 4], NoMemory>
+where
+    K::Out: SortedValue + Drop + Send,
+    requires stream { X.ready items.now }
+    requires key { K.ready key.now }
+    requires clones { ClonesAlike T.is_clone T.content }
+{
+    let (least, greatest) = (items.min(engine)?, items.max(engine)?);
+    let (first, last) = (
+        items.min_by_key(engine, key)?,
+        items.max_by_key(engine, key)?,
+    );
+    Ok([least, greatest, first, last])
+}
+
+fn best<R: Threads + Clock + Abort + Sync>(engine: &Engine<'_, R, NoGate>) -> Result<(), NoMemory> {
     let rt = engine.rt;
     for &(lines, least, greatest, shortest, longest) in &BEST {
-        let stream = of(LinesSplit::new(lines));
-        assert!(rt; stream.min(engine)? == least);
-        assert!(rt; stream.max(engine)? == greatest);
-        assert!(rt; stream.min_by_key(engine, &Length)? == shortest);
-        assert!(rt; stream.max_by_key(engine, &Length)? == longest);
+        let found = best_of(engine, &of(LinesSplit::new(lines)), &Length)?;
+        assert!(rt; found == [least, greatest, shortest, longest], "{found:?}");
     }
     Ok(())
 }
 
-fn apart<R: Threads + Clock + Alloc<A = Global> + Sync>(
-    engine: &Engine<'_, R, NoGate>,
-    lines: &str,
-    wanted: &[&str],
-) -> Result<bool, NoMemory> {
-    let set = of(LinesSplit::new(lines)).to_set(engine)?;
-    Ok(set.as_slice() == wanted)
+fn apart<
+    R: Threads + Clock + Sync,
+    T: EqualValue + Hash + Copy + Send + Sync,
+    X: Stream<Item = T> + Sync,
+>(engine: &Engine<'_, R, NoGate>, items: &X, wanted: &[T]) -> Result<bool, NoMemory>
+    requires stream { X.ready items.now }
+    requires clones { ClonesAlike T.is_clone T.content }
+{
+    Ok(items.to_set(engine)?.as_slice() == wanted)
 }
 
-fn joined<R: Threads + Clock + Alloc<A = Global> + Sync>(
+fn joined<R: Threads + Clock + Sync, T: Text + Copy + Send + Sync, X: Stream<Item = T> + Sync>(
     engine: &Engine<'_, R, NoGate>,
-    lines: &str,
+    items: &X,
     wanted: &str,
-) -> Result<bool, NoMemory> {
-    let text = of(LinesSplit::new(lines)).joining(engine, ", ")?;
-    Ok(text.as_str() == wanted)
+) -> Result<bool, NoMemory>
+    requires { X.ready items.now }
+{
+    Ok(items.joining(engine, ", ")?.as_str() == wanted)
 }
 
-fn texts<R: Threads + Clock + Abort + Alloc<A = Global> + Sync>(
+fn texts<R: Threads + Clock + Abort + Sync>(
     engine: &Engine<'_, R, NoGate>,
 ) -> Result<(), NoMemory> {
     let rt = engine.rt;
     for &(lines, set, text) in &LINES {
+        let stream = of(LinesSplit::new(lines));
         assert!(rt;
-            apart(engine, lines, set)? && joined(engine, lines, text)?,
+            apart(engine, &stream, set)? && joined(engine, &stream, text)?,
             "{lines}"
         );
     }

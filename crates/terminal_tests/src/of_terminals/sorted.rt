@@ -4,7 +4,6 @@ use crate::settings::SETTINGS;
 use parallel_streams::{Engine, Run, Stream, StreamError, of};
 use sources::SliceSplit;
 use spliterator::NoMemory;
-use std::alloc::Global;
 use std::process::Abort;
 use std::thread::Threads;
 use std::time::Clock;
@@ -35,122 +34,134 @@ static PAIRS: [(&[(i64, i64)], &[(i64, i64)], &[(i64, i64)]); 3] = [
     ),
 ];
 
-fn sorted<R: Threads + Clock + Alloc<A = Global> + Sync>(
+fn sorted<R: Threads + Clock + Sync, X: Stream<Item = i64> + Sync>(
     engine: &Engine<'_, R, NoGate>,
-    numbers: &[i64],
+    numbers: &X,
     wanted: &[i64],
-) -> Result<bool, NoMemory> {
-    let found = of(SliceSplit::new(numbers)).sorted(engine)?;
+) -> Result<bool, NoMemory>
+    requires { X.ready numbers.now }
+{
+    let found = numbers.sorted(engine)?;
     Ok(found.as_slice() == wanted)
 }
 
-fn by_first<R: Threads + Clock + Alloc<A = Global> + Sync>(
+fn by_first<R: Threads + Clock + Sync, X: Stream<Item = (i64, i64)> + Sync>(
     engine: &Engine<'_, R, NoGate>,
-    pairs: &[(i64, i64)],
+    pairs: &X,
     wanted: &[(i64, i64)],
-) -> Result<bool, NoMemory> {
-    let found = of(SliceSplit::new(pairs)).sorted_by_key(engine, &OnFirst(Itself))?;
+) -> Result<bool, NoMemory>
+    requires { X.ready pairs.now }
+{
+    let found = pairs.sorted_by_key(engine, &OnFirst(Itself))?;
     Ok(found.as_slice() == wanted)
 }
 
-fn by_first_descending<R: Threads + Clock + Alloc<A = Global> + Sync>(
+fn by_first_descending<R: Threads + Clock + Sync, X: Stream<Item = (i64, i64)> + Sync>(
     engine: &Engine<'_, R, NoGate>,
-    pairs: &[(i64, i64)],
+    pairs: &X,
     wanted: &[(i64, i64)],
-) -> Result<bool, NoMemory> {
-    let found = of(SliceSplit::new(pairs)).sorted_by_key(engine, &Descending(OnFirst(Itself)))?;
+) -> Result<bool, NoMemory>
+    requires { X.ready pairs.now }
+{
+    let found = pairs.sorted_by_key(engine, &Descending(OnFirst(Itself)))?;
     Ok(found.as_slice() == wanted)
 }
 
-fn rows<R: Threads + Clock + Abort + Alloc<A = Global> + Sync>(
+fn collected<R: Threads + Clock + Sync, X: Stream<Item = i64> + Sync>(
     engine: &Engine<'_, R, NoGate>,
-) -> Result<(), NoMemory> {
-    let rt = engine.rt;
-    for &(numbers, wanted) in &NUMBERS {
-        assert!(rt; sorted(engine, numbers, wanted)?, "{wanted:?}");
-    }
-    for &(pairs, ascending, descending) in &PAIRS {
-        assert!(rt; by_first(engine, pairs, ascending)?, "{ascending:?}");
-        assert!(rt;
-            by_first_descending(engine, pairs, descending)?,
-            "{descending:?}"
-        );
-    }
-    Ok(())
-}
-
-fn collected<R: Threads + Clock + Alloc<A = Global> + Sync>(
-    engine: &Engine<'_, R, NoGate>,
-    numbers: &[i64],
+    numbers: &X,
     wanted: &[i64],
-) -> Result<bool, NoMemory> {
+) -> Result<bool, NoMemory>
+    requires { X.ready numbers.now }
+{
     let to_list = to_sorted_list::<i64>(engine.alloc);
-    let found = of(SliceSplit::new(numbers)).collect_on(engine, &to_list)?;
+    let found = numbers.collect_on(engine, &to_list)?;
     Ok(found.as_slice() == wanted)
 }
 
-fn greatest_two<R: Threads + Clock + Alloc<A = Global> + Sync>(
+fn greatest_two<R: Threads + Clock + Sync, X: Stream<Item = i64> + Sync>(
     engine: &Engine<'_, R, NoGate>,
-    numbers: &[i64],
+    numbers: &X,
     wanted: &[i64],
-) -> Result<bool, NoMemory> {
-    let found = of(SliceSplit::new(numbers)).top(engine, 2)?;
+) -> Result<bool, NoMemory>
+    requires { X.ready numbers.now }
+{
+    let found = numbers.top(engine, 2)?;
     Ok(found.iter().eq(wanted.iter().rev().take(2)))
 }
 
-fn collected_by_first<R: Threads + Clock + Alloc<A = Global> + Sync>(
+fn collected_by_first<R: Threads + Clock + Sync, X: Stream<Item = (i64, i64)> + Sync>(
     engine: &Engine<'_, R, NoGate>,
-    pairs: &[(i64, i64)],
+    pairs: &X,
     wanted: &[(i64, i64)],
-) -> Result<bool, NoMemory> {
+) -> Result<bool, NoMemory>
+    requires { X.ready pairs.now }
+{
     let to_list = to_sorted_list_by_key::<(i64, i64), _>(engine.alloc, OnFirst(Itself));
-    let found = of(SliceSplit::new(pairs)).collect_on(engine, &to_list)?;
+    let found = pairs.collect_on(engine, &to_list)?;
     Ok(found.as_slice() == wanted)
 }
 
-fn first_by_first<R: Threads + Clock + Alloc<A = Global> + Sync>(
+fn first_by_first<R: Threads + Clock + Sync, X: Stream<Item = (i64, i64)> + Sync>(
     engine: &Engine<'_, R, NoGate>,
-    pairs: &[(i64, i64)],
+    pairs: &X,
     wanted: &[(i64, i64)],
     number: usize,
-) -> Result<bool, NoMemory> {
+) -> Result<bool, NoMemory>
+    requires { X.ready pairs.now }
+{
     let first = FirstSorted::<(i64, i64), _>::new(engine.alloc, OnFirst(Itself), number);
-    let found = of(SliceSplit::new(pairs)).collect_on(engine, &first)?;
+    let found = pairs.collect_on(engine, &first)?;
     Ok(found.iter().eq(wanted.iter().take(number)))
 }
 
-fn collected_rows<R: Threads + Clock + Abort + Alloc<A = Global> + Sync>(
+fn check_numbers<R: Threads + Clock + Abort + Sync, X: Stream<Item = i64> + Sync>(
     engine: &Engine<'_, R, NoGate>,
-) -> Result<(), NoMemory> {
+    numbers: &X,
+    wanted: &[i64],
+) -> Result<(), NoMemory>
+    requires { X.ready numbers.now }
+{
     let rt = engine.rt;
-    for &(numbers, wanted) in &NUMBERS {
-        assert!(rt; collected(engine, numbers, wanted)?, "{wanted:?}");
-        assert!(rt; greatest_two(engine, numbers, wanted)?, "{wanted:?}");
-    }
-    for &(pairs, ascending, _) in &PAIRS {
+    assert!(rt; sorted(engine, numbers, wanted)?, "{wanted:?}");
+    assert!(rt; collected(engine, numbers, wanted)?, "{wanted:?}");
+    assert!(rt; greatest_two(engine, numbers, wanted)?, "{wanted:?}");
+    Ok(())
+}
+
+fn check_pairs<R: Threads + Clock + Abort + Sync, X: Stream<Item = (i64, i64)> + Sync>(
+    engine: &Engine<'_, R, NoGate>,
+    pairs: &X,
+    ascending: &[(i64, i64)],
+    descending: &[(i64, i64)],
+) -> Result<(), NoMemory>
+    requires { X.ready pairs.now }
+{
+    let rt = engine.rt;
+    assert!(rt; by_first(engine, pairs, ascending)?, "{ascending:?}");
+    assert!(rt;
+        by_first_descending(engine, pairs, descending)?,
+        "{descending:?}"
+    );
+    assert!(rt;
+        collected_by_first(engine, pairs, ascending)?,
+        "{ascending:?}"
+    );
+    for number in [0usize, 2, 4, 9] {
         assert!(rt;
-            collected_by_first(engine, pairs, ascending)?,
+            first_by_first(engine, pairs, ascending, number)?,
             "{ascending:?}"
         );
-        for number in [0usize, 2, 4, 9] {
-            assert!(rt;
-                first_by_first(engine, pairs, ascending, number)?,
-                "{ascending:?}"
-            );
-        }
     }
     Ok(())
 }
 
-#[test]
-fn collected_rows_at_each_setting(rt: HostRuntime) -> Result<(), StreamError> {
-    for &(workers, target) in &SETTINGS {
-        let run = Run {
-            workers,
-            target,
-            gate: &NoGate,
-        };
-        collected_rows(&Engine::new(&rt, rt.alloc(), &run)?)?;
+fn rows<R: Threads + Clock + Abort + Sync>(engine: &Engine<'_, R, NoGate>) -> Result<(), NoMemory> {
+    for &(numbers, wanted) in &NUMBERS {
+        check_numbers(engine, &of(SliceSplit::new(numbers)), wanted)?;
+    }
+    for &(pairs, ascending, descending) in &PAIRS {
+        check_pairs(engine, &of(SliceSplit::new(pairs)), ascending, descending)?;
     }
     Ok(())
 }
