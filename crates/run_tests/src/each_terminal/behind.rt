@@ -5,7 +5,6 @@ use super::{numbers, numbers_below, sum_of};
 use collectors::SummingLong;
 use parallel_streams::{Engine, Stream};
 use spliterator::NoMemory;
-use std::alloc::Global;
 use std::process::Abort;
 use std::thread::Threads;
 use std::time::Clock;
@@ -34,7 +33,7 @@ impl Behind {
 }
 
 // The sum of what a barrier leaves of some numbers: the front that is as long as a cut or below it, what follows, all, or all and others.
-fn sum_left<R: Threads + Clock + Alloc<A = Global> + Sync, X: Stream<Item = i64> + Drop + Sync>(
+fn sum_left<R: Threads + Clock + Sync, X: Stream<Item = i64> + Drop + Sync>(
     engine: &Engine<'_, R, Workers>,
     all: X,
     others: X,
@@ -56,8 +55,19 @@ fn sum_left<R: Threads + Clock + Alloc<A = Global> + Sync, X: Stream<Item = i64>
     }
 }
 
+/// The first of some numbers behind so many.
+pub fn first_behind<R: Threads + Clock + Sync, X: Stream<Item = i64> + Drop + Sync>(
+    engine: &Engine<'_, R, Workers>,
+    all: X,
+    cut: u32,
+) -> Result<Option<i64>, NoMemory>
+    requires { X.ready all }
+{
+    all.skip(u64::from(cut)).find_first_on(engine)
+}
+
 /// The sum of what a barrier leaves of the numbers from 0 up to an end: those below a cut, those from it on, or all.
-pub fn sum_behind<R: Threads + Clock + Abort + Alloc<A = Global> + Sync>(
+pub fn sum_behind<R: Threads + Clock + Abort + Sync>(
     engine: &Engine<'_, R, Workers>,
     behind: Behind,
     end: i64,
@@ -80,7 +90,7 @@ pub fn wanted(behind: Behind, items: u32, cut: u32) -> i64 {
 }
 
 /// Whether the sum of so many numbers is right, of which a barrier leaves all.
-pub fn is_right<R: Threads + Clock + Abort + Alloc<A = Global> + Sync>(
+pub fn is_right<R: Threads + Clock + Abort + Sync>(
     engine: &Engine<'_, R, Workers>,
     behind: Behind,
     items: u32,

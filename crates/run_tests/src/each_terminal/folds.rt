@@ -1,12 +1,10 @@
 //! Terminal operations that need no list.
 
+use super::sum_of;
 use super::workers::Workers;
-use super::{numbers, sum_of};
 use parallel_streams::{Engine, Stream};
 use spliterator::NoMemory;
 use stages::{Max, WrapAdd};
-use std::alloc::Global;
-use std::process::Abort;
 use std::thread::Threads;
 use std::time::Clock;
 use stream_functions::{Above, Below, Equal, Itself, Negated};
@@ -29,14 +27,15 @@ pub enum Fold {
     NoneMatch,
 }
 
-/// Whether the answer over so many numbers, at least one, is right. A search meets the last of them.
-pub fn is_right<R: Threads + Clock + Abort + Alloc<A = Global> + Sync>(
+/// Whether the answer over the numbers from 0 on, so many and at least one, is right. A search meets the last of them.
+pub fn is_right<R: Threads + Clock + Sync, X: Stream<Item = i64> + Drop + Sync>(
     engine: &Engine<'_, R, Workers>,
+    all: X,
     fold: Fold,
     items: u32,
-) -> Result<bool, NoMemory> {
-    let rt = engine.rt;
-    let (alloc, all) = (rt.alloc(), numbers(rt, items));
+) -> Result<bool, NoMemory>
+    requires { X.ready all }
+{
     let (sum, last) = (sum_of(items), i64::from(items).wrapping_sub(1));
     Ok(match fold {
         Fold::Sum => all.sum(engine)? == sum,

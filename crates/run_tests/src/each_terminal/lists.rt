@@ -1,12 +1,9 @@
 //! Terminal operations that make a list, a text or a map.
 
-use super::numbers;
 use super::workers::Workers;
 use parallel_streams::{Engine, MapError, Stream, of};
 use sources::SliceSplit;
 use spliterator::NoMemory;
-use std::alloc::Global;
-use std::process::Abort;
 use std::thread::Threads;
 use std::time::Clock;
 use stream_functions::{Divisor, Itself, Modulo, Times};
@@ -59,13 +56,13 @@ fn are_by_digits(list: &[i64], end: i64) -> bool {
 }
 
 /// How many entries the map of the numbers to themselves has.
-fn entries<R: Threads + Clock + Abort + Alloc<A = Global> + Sync>(
+fn entries<R: Threads + Clock + Sync, X: Stream<Item = i64> + Sync>(
     engine: &Engine<'_, R, Workers>,
-    items: u32,
-) -> Result<usize, NoMemory> {
-    let rt = engine.rt;
-    let made = numbers(rt, items).to_map_strict(rt, rt.alloc(), &engine.run, &Itself, &Itself);
-    match made {
+    all: &X,
+) -> Result<usize, NoMemory>
+    requires { X.ready all.now }
+{
+    match all.to_map_strict(engine.rt, engine.alloc, &engine.run, &Itself, &Itself) {
         Ok(map) => Ok(map.len()),
         Err(MapError::DuplicateKey(_)) => Ok(0),
         Err(_) => Err(NoMemory),
@@ -73,12 +70,11 @@ fn entries<R: Threads + Clock + Abort + Alloc<A = Global> + Sync>(
 }
 
 /// The length of so many texts of one byte, joined by one.
-fn joined_length<R: Threads + Clock + Abort + Alloc<A = Global> + Sync>(
+fn joined_length<R: Threads + Clock + Sync>(
     engine: &Engine<'_, R, Workers>,
     items: u32,
 ) -> Result<usize, NoMemory> {
-    let rt = engine.rt;
-    let mut texts = Vec::with_capacity(rt.alloc(), items as usize)?;
+    let mut texts = Vec::with_capacity(engine.alloc, items as usize)?;
     for _ in 0..items {
         texts.push("a")?;
     }
@@ -86,14 +82,31 @@ fn joined_length<R: Threads + Clock + Abort + Alloc<A = Global> + Sync>(
     Ok(joined.len())
 }
 
-/// Whether the answer over so many numbers, at least one and no multiple of the prime number, is right. What is sorted whole came in another order.
-pub fn is_right<R: Threads + Clock + Abort + Alloc<A = Global> + Sync>(
+/// Numbers sorted, by the operation for it or by the collector.
+fn sorted_by<R: Threads + Clock + Sync, X: Stream<Item = i64> + Sync>(
     engine: &Engine<'_, R, Workers>,
+    numbers: &X,
+    list: List,
+) -> Result<Vec<i64>, NoMemory>
+    requires { X.ready numbers.now }
+{
+    match list {
+        List::Sorted => numbers.sorted(engine),
+        _ => numbers.collect_on(engine, &to_sorted_list::<i64>(engine.alloc)),
+    }
+}
+
+/// Whether the answer over the numbers from 0 on, so many, at least one and no multiple of the prime number, is right. What is sorted whole came in
+/// another order.
+pub fn is_right<R: Threads + Clock + Sync, X: Stream<Item = i64> + Drop + Sync>(
+    engine: &Engine<'_, R, Workers>,
+    all: X,
     list: List,
     items: u32,
-) -> Result<bool, NoMemory> {
-    let rt = engine.rt;
-    let (alloc, all) = (rt.alloc(), numbers(rt, items));
+) -> Result<bool, NoMemory>
+    requires { X.ready all }
+{
+    let alloc = engine.alloc;
     Ok(match list {
         List::ToList => are_all(all.to_list(engine)?.as_slice(), items),
         List::ToSet => all.to_set(engine)?.len() == items as usize,
@@ -104,10 +117,10 @@ pub fn is_right<R: Threads + Clock + Abort + Alloc<A = Global> + Sync>(
         }
         List::Joining => joined_length(engine, items)?
             == (items as usize).wrapping_mul(2).wrapping_sub(1),
-        List::StrictMap => entries(engine, items)? == items as usize,
-        List::Sorted => {
+        List::StrictMap => entries(engine, &all)? == items as usize,
+        List::Sorted | List::SortedList => {
             let shuffled = all.map(Times(PRIME)).map(below(items));
-            are_all(shuffled.sorted(engine)?.as_slice(), items)
+            are_all(sorted_by(engine, &shuffled, list)?.as_slice(), items)
         }
         List::SortedByKey => {
             let found = all.sorted_by_key(engine, &Modulo::by(10))?;
@@ -117,11 +130,6 @@ pub fn is_right<R: Threads + Clock + Abort + Alloc<A = Global> + Sync>(
             let first = FirstSorted::<i64, _>::new(alloc, Itself, 100);
             let found = all.collect_on(engine, &first)?;
             are_all(found.as_slice(), items.min(100))
-        }
-        List::SortedList => {
-            let shuffled = all.map(Times(PRIME)).map(below(items));
-            let found = shuffled.collect_on(engine, &to_sorted_list::<i64>(alloc))?;
-            are_all(found.as_slice(), items)
         }
     })
 }

@@ -43,14 +43,14 @@ fn sum_of(items: u32) -> i64 {
 }
 
 /// Whether the answer over so many numbers is right.
-fn is_right<R: Threads + Clock + Abort + Alloc<A = Global> + Sync>(
+fn is_right<R: Threads + Clock + Abort + Sync>(
     engine: &Engine<'_, R, Workers>,
     terminal: Terminal,
     items: u32,
 ) -> Result<bool, NoMemory> {
     match terminal {
-        Terminal::Fold(fold) => folds::is_right(engine, fold, items),
-        Terminal::List(list) => lists::is_right(engine, list, items),
+        Terminal::Fold(fold) => folds::is_right(engine, numbers(engine.rt, items), fold, items),
+        Terminal::List(list) => lists::is_right(engine, numbers(engine.rt, items), list, items),
         Terminal::Behind(behind) => behind::is_right(engine, behind, items),
     }
 }
@@ -156,7 +156,7 @@ fn the_named_are_right(rt: HostRuntime) -> Result<(), Fail> {
 }
 
 /// Each barrier over so many numbers, cut at a place or number.
-fn check_cut<R: Threads + Clock + Abort + Alloc<A = Global> + Sync>(
+fn check_cut<R: Threads + Clock + Abort + Sync>(
     engine: &Engine<'_, R, Workers>,
     items: u32,
     cut: u32,
@@ -242,8 +242,7 @@ fn fronts_of_a_great_source_end(rt: HostRuntime) -> Result<(), StreamError> {
             assert!(rt; found == sum_of(cut), "{cut}: {found}");
         }
         assert!(rt; apart::are_right(&engine, end, cut)?, "{cut}");
-        let behind = numbers_below(&rt, end).skip(u64::from(cut));
-        let found = behind.find_first_on(&engine)?;
+        let found = behind::first_behind(&engine, numbers_below(&rt, end), cut)?;
         assert!(rt; found == Some(i64::from(cut)), "{cut}: {found:?}");
     }
     Ok(())
