@@ -35,6 +35,16 @@ pub fn listed<
     stream.collect(rt, rt.alloc(), run, &ToList::new(rt.alloc()))
 }
 
+/// The numbers from one up to another, as a list.
+pub fn list_of<R: Threads + Clock + Abort + Alloc<A = Global> + Sync, H: Gate + Sync>(
+    rt: &R,
+    run: &Run<'_, H>,
+    start: i64,
+    end: i64,
+) -> Result<Vec<i64>, StreamError> {
+    listed(rt, run, &numbers(rt, start, end))
+}
+
 /// The items of a stream, and what each run tells of its leaves.
 pub fn reported<
     R: Threads + Clock + Alloc<A = Global> + Sync,

@@ -67,6 +67,46 @@ fn times(asked: &Asked) -> [u64; 3] {
     ]
 }
 
+// The images of numbers.
+fn images<R: Threads + Clock + Alloc<A = Global> + Sync, X: Stream<Item = i64> + Drop + Sync>(
+    rt: &R,
+    run: &Run<'_, NoGate>,
+    numbers: X,
+    asked: &AtomicU64,
+) -> Result<Vec<i64>, StreamError>
+    requires { X.ready numbers }
+{
+    listed(rt, run, &numbers.map(Itself { asked }))
+}
+
+// .. of those behind the first two.
+fn behind_two<R: Threads + Clock + Alloc<A = Global> + Sync, X: Stream<Item = i64> + Drop + Sync>(
+    rt: &R,
+    run: &Run<'_, NoGate>,
+    numbers: X,
+    asked: &AtomicU64,
+) -> Result<Vec<i64>, StreamError>
+    requires { X.ready numbers }
+{
+    images(rt, run, numbers.skip(2), asked)
+}
+
+// .. of those of them that are below five.
+fn below_five<R: Threads + Clock + Alloc<A = Global> + Sync, X: Stream<Item = i64> + Drop + Sync>(
+    rt: &R,
+    run: &Run<'_, NoGate>,
+    numbers: X,
+    asked: &Asked,
+) -> Result<Vec<i64>, StreamError>
+    requires { X.ready numbers }
+{
+    let tested = numbers.filter(Under {
+        bound: 5,
+        asked: &asked.tested,
+    });
+    behind_two(rt, run, tested, &asked.behind)
+}
+
 // The numbers 2, 3 and 4 of five, behind two functions, a barrier and another function.
 fn three_of_five<
     R: Threads + Clock + Alloc<A = Global> + Sync,
@@ -77,26 +117,21 @@ fn three_of_five<
     let mapped = numbers.map(Itself {
         asked: &asked.mapped,
     });
-    let tested = mapped.filter(Under {
-        bound: 5,
-        asked: &asked.tested,
-    });
-    behind_two(rt, run, tested, &asked.behind)
+    below_five(rt, run, mapped, asked)
 }
 
-// The numbers behind the first two.
-fn behind_two<R: Threads + Clock + Alloc<A = Global> + Sync, X: Stream<Item = i64> + Drop + Sync>(
+// The first 5,000 numbers.
+fn front<R: Threads + Clock + Alloc<A = Global> + Sync, X: Stream<Item = i64> + Drop + Sync>(
     rt: &R,
     run: &Run<'_, NoGate>,
     numbers: X,
-    asked: &AtomicU64,
 ) -> Result<Vec<i64>, StreamError>
     requires { X.ready numbers }
 {
-    listed(rt, run, &numbers.skip(2).map(Itself { asked }))
+    listed(rt, run, &numbers.limit(5_000))
 }
 
-// The images of the first 5,000 numbers.
+// The first 5,000 images of numbers.
 fn front_of<R: Threads + Clock + Alloc<A = Global> + Sync, X: Stream<Item = i64> + Drop + Sync>(
     rt: &R,
     run: &Run<'_, NoGate>,
@@ -105,7 +140,7 @@ fn front_of<R: Threads + Clock + Alloc<A = Global> + Sync, X: Stream<Item = i64>
 ) -> Result<Vec<i64>, StreamError>
     requires { X.ready numbers }
 {
-    listed(rt, run, &numbers.map(Itself { asked }).limit(5_000))
+    front(rt, run, numbers.map(Itself { asked }))
 }
 
 // Of five items, and of the three behind a barrier. A million numbers are halved eight times, until a part has at most 2^12 of them: a limit of
@@ -131,16 +166,37 @@ fn functions_are_asked_once_an_item(rt: HostRuntime) -> Result<(), StreamError> 
     Ok(())
 }
 
-// The first number behind 1,300,000 of those that stand as often as they say.
+// The first number behind 1,300,000.
+fn first_behind<R: Threads + Clock + Alloc<A = Global> + Sync, X: Stream<Item = i64> + Drop + Sync>(
+    rt: &R,
+    run: &Run<'_, NoGate>,
+    numbers: X,
+) -> Result<Option<i64>, StreamError>
+    requires { X.ready numbers }
+{
+    numbers.skip(1_300_000).find_first(rt, rt.alloc(), run)
+}
+
+// .. where each stands as often as it says.
+fn first_copy<R: Threads + Clock + Alloc<A = Global> + Sync, X: Stream<Item = i64> + Drop + Sync>(
+    rt: &R,
+    run: &Run<'_, NoGate>,
+    numbers: X,
+) -> Result<Option<i64>, StreamError>
+    requires { X.ready numbers }
+{
+    let alloc = rt.alloc();
+    first_behind(rt, run, numbers.flat_map(Copies { alloc }))
+}
+
+// .. of the images of numbers.
 fn behind_copies<
     R: Threads + Clock + Alloc<A = Global> + Sync,
     X: Stream<Item = i64> + Drop + Sync,
 >(rt: &R, run: &Run<'_, NoGate>, numbers: X, asked: &AtomicU64) -> Result<Option<i64>, StreamError>
     requires { X.ready numbers }
 {
-    let alloc = rt.alloc();
-    let copies = numbers.map(Itself { asked }).flat_map(Copies { alloc });
-    copies.skip(1_300_000).find_first(rt, alloc, run)
+    first_copy(rt, run, numbers.map(Itself { asked }))
 }
 
 // Of a million numbers, each as often as it says. The first segment has 244, 16 times less than where no stage makes several of one; of these more
@@ -157,7 +213,18 @@ fn segments_are_as_much_shorter_as_items_are_more(rt: HostRuntime) -> Result<(),
     Ok(())
 }
 
-// How many numbers follow those below 9,000, and the first 80,000 of them but one.
+// How many numbers there are, and the first 80,000 of them but one.
+fn counted_with_front<
+    R: Threads + Clock + Alloc<A = Global> + Sync,
+    X: Stream<Item = i64> + Drop + Sync,
+>(rt: &R, run: &Run<'_, NoGate>, numbers: X) -> Result<(i64, Vec<i64>), StreamError>
+    requires { X.ready numbers }
+{
+    let number = counted(rt, run, &numbers)?;
+    Ok((number, front_but_one(rt, run, numbers)?))
+}
+
+// .. of those that follow the ones below 9,000.
 fn what_passes<R: Threads + Clock + Alloc<A = Global> + Sync, X: Stream<Item = i64> + Drop + Sync>(
     rt: &R,
     run: &Run<'_, NoGate>,
@@ -167,12 +234,10 @@ fn what_passes<R: Threads + Clock + Alloc<A = Global> + Sync, X: Stream<Item = i
     requires { X.ready numbers }
 {
     let bound = 9_000;
-    let rest = numbers.drop_while(Under { bound, asked });
-    let number = counted(rt, run, &rest)?;
-    Ok((number, all_but_one(rt, run, rest)?))
+    counted_with_front(rt, run, numbers.drop_while(Under { bound, asked }))
 }
 
-// The first 80,000 numbers but one.
+// The numbers but one.
 fn all_but_one<R: Threads + Clock + Alloc<A = Global> + Sync, X: Stream<Item = i64> + Drop + Sync>(
     rt: &R,
     run: &Run<'_, NoGate>,
@@ -180,7 +245,32 @@ fn all_but_one<R: Threads + Clock + Alloc<A = Global> + Sync, X: Stream<Item = i
 ) -> Result<Vec<i64>, StreamError>
     requires { X.ready numbers }
 {
-    listed(rt, run, &numbers.limit(80_000).skip(1))
+    listed(rt, run, &numbers.skip(1))
+}
+
+// The first 80,000 numbers but one.
+fn front_but_one<
+    R: Threads + Clock + Alloc<A = Global> + Sync,
+    X: Stream<Item = i64> + Drop + Sync,
+>(rt: &R, run: &Run<'_, NoGate>, numbers: X) -> Result<Vec<i64>, StreamError>
+    requires { X.ready numbers }
+{
+    all_but_one(rt, run, numbers.limit(80_000))
+}
+
+// .. of those behind 5,000.
+fn what_passes_behind<
+    R: Threads + Clock + Alloc<A = Global> + Sync,
+    X: Stream<Item = i64> + Drop + Sync,
+>(
+    rt: &R,
+    run: &Run<'_, NoGate>,
+    numbers: X,
+    asked: &AtomicU64,
+) -> Result<(i64, Vec<i64>), StreamError>
+    requires { X.ready numbers }
+{
+    what_passes(rt, run, numbers.skip(5_000), asked)
 }
 
 // Of the segments behind the one in which items were dropped no list is made: what follows the barrier is fed from the source.
@@ -189,8 +279,8 @@ fn what_passes_a_barrier_is_all_there(rt: HostRuntime) -> Result<(), StreamError
     let asked = AtomicU64::new(0);
     for setting in [(1, 0), (7, 0), (64, 0)] {
         let run = at(setting);
-        let all = numbers(&rt, 0, 100_000).skip(5_000);
-        let (number, found) = what_passes(&rt, &run, all, &asked)?;
+        let all = numbers(&rt, 0, 100_000);
+        let (number, found) = what_passes_behind(&rt, &run, all, &asked)?;
         same(
             &rt,
             (number, found.len(), found.first(), found.last()),
@@ -241,6 +331,27 @@ fn counted_rest<R: Threads + Clock + Alloc<A = Global> + Sync, X: Stream<Item = 
     counted(rt, run, &numbers.drop_while(test))
 }
 
+// Whether any and all of 200 numbers are below a bound.
+fn check_matches<
+    R: Threads + Clock + Abort + Alloc<A = Global> + Sync,
+    X: Stream<Item = i64> + Sync,
+>(
+    rt: &R,
+    setting: (u32, u64),
+    numbers: &X,
+    test: &Under<'_>,
+    any: (bool, u64),
+    every: (bool, u64),
+) -> Result<(), StreamError>
+    requires { X.ready numbers.now }
+{
+    let (run, alloc) = (&at(setting), rt.alloc());
+    let met = numbers.any_match(rt, alloc, run, test);
+    check_asked(rt, test.asked, setting, met, any)?;
+    let met = numbers.all_match(rt, alloc, run, test);
+    check_asked(rt, test.asked, setting, met, every)
+}
+
 // Of 200 numbers, those below a bound that none, some or all of them meet: matches, and whiles.
 #[test]
 fn tests_are_asked_once_an_item(rt: HostRuntime) -> Result<(), StreamError> {
@@ -248,18 +359,13 @@ fn tests_are_asked_once_an_item(rt: HostRuntime) -> Result<(), StreamError> {
     let asked = &number;
     for &setting in &[(1, 200), (1, 1), (7, 1), (2, 7), (7, 0)] {
         let run = &at(setting);
-        let alloc = rt.alloc();
         let all = numbers(&rt, 0, 200);
         for &(bound, any, every) in &[
             (-1, (false, 200), (false, 1)),
             (1, (true, 1), (false, 2)),
             (200, (true, 1), (true, 200)),
         ] {
-            let test = Under { bound, asked };
-            let met = all.any_match(&rt, alloc, run, &test);
-            check_asked(&rt, asked, setting, met, any)?;
-            let met = all.all_match(&rt, alloc, run, &test);
-            check_asked(&rt, asked, setting, met, every)?;
+            check_matches(&rt, setting, &all, &Under { bound, asked }, any, every)?;
         }
         for &(bound, taken, times) in &[(-1, 0, 1), (50, 50, 51), (200, 200, 200)] {
             let test = Under { bound, asked };

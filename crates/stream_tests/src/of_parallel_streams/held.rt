@@ -2,7 +2,7 @@
 ghost use Rattle.std.specs.Prelude.{pos, int_lt};
 
 use super::answers::{
-    check, check_items, check_list, limited, listed, numbers, reported, same, sum_of,
+    Reported, check, check_items, check_list, limited, list_of, numbers, reported, same, sum_of,
 };
 use super::at;
 use super::gates::Watch;
@@ -11,9 +11,12 @@ use super::rows::first_above_hundred;
 use parallel_streams::{Run, Stream, StreamError, of};
 use sources::SliceSplit;
 use stages::Test;
+use std::alloc::Global;
 use std::fmt::Debug;
 use std::process::Abort;
 use std::sync::atomic::Ordering;
+use std::thread::Threads;
+use std::time::Clock;
 use stream_functions::Not;
 
 /// A run by two workers.
@@ -28,7 +31,7 @@ fn by_two(target: u64, gate: &Watch) -> Run<'_, Watch> {
 #[test]
 fn a_held_leaf_keeps_its_place(rt: HostRuntime) -> Result<(), StreamError> {
     let gate = Watch::until(0, 99);
-    let items = listed(&rt, &by_two(1, &gate), &numbers(&rt, 0, 100));
+    let items = list_of(&rt, &by_two(1, &gate), 0, 100);
     let items = gate.all_came().and(items)?;
     same(&rt, items.iter().copied().eq(0..100), true);
     Ok(())
@@ -68,14 +71,34 @@ impl Test<i64> for Watched<'_> {
     }
 }
 
+// The first of the numbers that are watched.
+fn first_watched<
+    R: Threads + Clock + Alloc<A = Global> + Sync,
+    X: Stream<Item = i64> + Drop + Sync,
+>(rt: &R, numbers: X, gate: &Watch) -> Reported
+    requires { X.ready numbers }
+{
+    limited(rt, &by_two(4096, gate), numbers.filter(Watched { gate }), 1)
+}
+
+// The front of the numbers that aren't.
+fn front_watched<
+    R: Threads + Clock + Alloc<A = Global> + Sync,
+    X: Stream<Item = i64> + Drop + Sync,
+>(rt: &R, numbers: X, gate: &Watch) -> Reported
+    requires { X.ready numbers }
+{
+    let above = numbers.take_while(Not(Watched { gate }));
+    reported(rt, &by_two(4096, gate), &above)
+}
+
 static OF_A_CUT_LEAF: [Entry<'_>; 2] = [(2, Some(0), &[(0, 1)]), (1, None, &[(0, 0)])];
 
 // Leaf 0 is held until the other leaf was entered.
 #[test]
 fn a_leaf_asks_each_1024_items_whether_it_was_cut(rt: HostRuntime) -> Result<(), StreamError> {
     let gate = Watch::until(2, 0);
-    let below = numbers(&rt, 0, 8192).filter(Watched { gate: &gate });
-    let found = limited(&rt, &by_two(4096, &gate), below, 1);
+    let found = first_watched(&rt, numbers(&rt, 0, 8192), &gate);
     let told = check_report(&rt, gate.all_came().and(found), &[0], &OF_A_CUT_LEAF);
     let asked = gate.asked.load(Ordering::SeqCst);
     check(&rt, told.and(Ok(asked)), 1024)
@@ -96,7 +119,7 @@ fn check_cut<T: Copy + PartialEq + Debug>(
 #[test]
 fn a_lent_leaf_asks_each_1024_items_whether_it_was_cut(rt: HostRuntime) -> Result<(), StreamError> {
     let gate = Watch::until(2, 0);
-    let list = listed(&rt, &at((1, 0)), &numbers(&rt, 0, 8192))?;
+    let list = list_of(&rt, &at((1, 0)), 0, 8192)?;
     let lent = of(SliceSplit::new(&list));
     let met = lent.any_match(
         &rt,
@@ -113,15 +136,14 @@ fn a_leaf_in_blocks_asks_each_1024_items_whether_it_was_cut(
     rt: HostRuntime,
 ) -> Result<(), StreamError> {
     let gate = Watch::until(2, 0);
-    let above = numbers(&rt, 0, 8192).take_while(Not(Watched { gate: &gate }));
-    let found = reported(&rt, &by_two(4096, &gate), &above);
+    let found = front_watched(&rt, numbers(&rt, 0, 8192), &gate);
     let told = check_items(&rt, gate.all_came().and(found), &[]);
     told.and(check(&rt, Ok(gate.asked.load(Ordering::SeqCst)), 1024))
 }
 
 #[test]
 fn sixty_four_workers_share_one_item(rt: HostRuntime) -> Result<(), StreamError> {
-    let one = listed(&rt, &at((64, 1)), &numbers(&rt, 0, 1));
+    let one = list_of(&rt, &at((64, 1)), 0, 1);
     check_list(&rt, one, &[0])
 }
 

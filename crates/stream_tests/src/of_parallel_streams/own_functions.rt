@@ -51,8 +51,17 @@ fn ten_more<R: Threads + Clock + Alloc<A = Global> + Sync, X: Stream<Item = i64>
     let ten_more: FromFn<i64, _, TenMore> = FromFn::new(|x: &i64| -> Result<i64, NoMemory> {
         WrapAdd::new().join(x, &10)
     });
+    below_thirteen(rt, run, numbers.map(ten_more))
+}
+
+fn below_thirteen<
+    R: Threads + Clock + Alloc<A = Global> + Sync,
+    X: Stream<Item = i64> + Drop + Sync,
+>(rt: &R, run: &Run<'_, NoGate>, numbers: X) -> Result<Vec<i64>, StreamError>
+    requires { X.ready numbers }
+{
     let below_thirteen: TestFn<_, BelowThirteen> = TestFn::new(|x: &i64| *x < 13);
-    listed(rt, run, &numbers.map(ten_more).filter(below_thirteen))
+    listed(rt, run, &numbers.filter(below_thirteen))
 }
 
 fn total<R: Threads + Clock + Alloc<A = Global> + Sync, X: Stream<Item = i64> + Drop + Sync>(

@@ -5,7 +5,10 @@ use super::at;
 use super::gates::{Watch, once};
 use super::rows::{front, second_and_one};
 use parallel_streams::{Run, Stream, StreamError};
+use std::alloc::Global;
 use std::process::Abort;
+use std::thread::Threads;
+use std::time::Clock;
 use stealing_pool::{RunEntry, RunReport};
 
 /// How many leaves a run had, where it was cut, and the counts of leaves; all others were skipped.
@@ -97,6 +100,21 @@ fn by_number(found: Reported) -> Result<u64, StreamError> {
 /// Workers, targets, and how many leaves the gate is told of.
 static SEEN: [(u32, u64, u64); 3] = [(1, 1, 13), (7, 1, 13), (1, 4, 3)];
 
+// What follows seven numbers, or the first three.
+fn cut<R: Threads + Clock + Alloc<A = Global> + Sync, X: Stream<Item = i64> + Drop + Sync>(
+    rt: &R,
+    run: &Run<'_, Watch>,
+    numbers: X,
+    skips: bool,
+) -> Reported
+    requires { X.ready numbers }
+{
+    if skips {
+        return reported(rt, run, &numbers.skip(7));
+    }
+    limited(rt, run, numbers, 3)
+}
+
 // Run by run, the leaves with a count are those that the gate was told of: 10 leaves and then 3 where nothing is cut, 2 of 4 and then 1 where
 // one worker is cut.
 #[test]
@@ -108,12 +126,7 @@ fn a_report_is_that_of_the_runs_that_the_gate_saw(rt: HostRuntime) -> Result<(),
             target,
             gate,
         };
-        let ten = numbers(&rt, 0, 10);
-        let found = if target == 1 {
-            reported(&rt, &run, &ten.skip(7))
-        } else {
-            limited(&rt, &run, ten, 3)
-        };
+        let found = cut(&rt, &run, numbers(&rt, 0, 10), target == 1);
         check(&rt, by_number(found), gate.by_number())?;
         same(&rt, gate.entered(), wanted);
     }

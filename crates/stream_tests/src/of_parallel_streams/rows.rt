@@ -23,7 +23,17 @@ pub fn second_and_one<
 >(rt: &R, run: &Run<'_, NoGate>, numbers: X) -> Reported
     requires { X.ready numbers }
 {
-    plus_one(rt, run, numbers.skip(1).limit(1))
+    first_and_one(rt, run, numbers.skip(1))
+}
+
+// The first of some numbers, and one.
+fn first_and_one<
+    R: Threads + Clock + Alloc<A = Global> + Sync,
+    X: Stream<Item = i64> + Drop + Sync,
+>(rt: &R, run: &Run<'_, NoGate>, numbers: X) -> Reported
+    requires { X.ready numbers }
+{
+    plus_one(rt, run, numbers.limit(1))
 }
 
 // Each number and one.
@@ -77,7 +87,18 @@ pub fn first_above_hundred<
 >(rt: &R, run: &Run<'_, H>, numbers: X) -> Reported
     requires { X.ready numbers }
 {
-    limited(rt, run, numbers.map(Times(3)).filter(Above(100)), 1)
+    first_above(rt, run, numbers.map(Times(3)))
+}
+
+// The first of the numbers that are above 100.
+fn first_above<
+    R: Threads + Clock + Alloc<A = Global> + Sync,
+    H: Gate + Sync,
+    X: Stream<Item = i64> + Drop + Sync,
+>(rt: &R, run: &Run<'_, H>, numbers: X) -> Reported
+    requires { X.ready numbers }
+{
+    limited(rt, run, numbers.filter(Above(100)), 1)
 }
 
 // The same by the terminal alone.
@@ -87,7 +108,18 @@ fn found_above_hundred<
 >(rt: &R, run: &Run<'_, NoGate>, numbers: X) -> Result<Option<i64>, StreamError>
     requires { X.ready numbers }
 {
-    first_of(rt, run, &numbers.map(Times(3)).filter(Above(100)))
+    found_above(rt, run, numbers.map(Times(3)))
+}
+
+// .. of the numbers themselves.
+fn found_above<R: Threads + Clock + Alloc<A = Global> + Sync, X: Stream<Item = i64> + Drop + Sync>(
+    rt: &R,
+    run: &Run<'_, NoGate>,
+    numbers: X,
+) -> Result<Option<i64>, StreamError>
+    requires { X.ready numbers }
+{
+    first_of(rt, run, &numbers.filter(Above(100)))
 }
 
 // What stands before a number above 2, what follows, the second and one, and the first none.

@@ -2,8 +2,11 @@
 
 use super::answers::{check, counted, first_of, numbers, same};
 use super::gates::Watch;
-use parallel_streams::{MapError, Run, StreamError};
+use parallel_streams::{MapError, Run, Stream, StreamError};
+use std::alloc::Global;
 use std::test::Fail;
+use std::thread::Threads;
+use std::time::Clock;
 
 /// Workers, targets, and what refuses them.
 static UNLAWFUL: [(u32, u64, StreamError); 4] = [
@@ -12,6 +15,17 @@ static UNLAWFUL: [(u32, u64, StreamError); 4] = [
     (1, 4_611_686_018_427_387_905, StreamError::BadTarget),
     (0, 4_611_686_018_427_387_905, StreamError::BadWorkers),
 ];
+
+// The number of numbers, and the first.
+fn both<R: Threads + Clock + Alloc<A = Global> + Sync, X: Stream<Item = i64> + Sync>(
+    rt: &R,
+    run: &Run<'_, Watch>,
+    numbers: &X,
+) -> (Result<i64, StreamError>, Result<Option<i64>, StreamError>)
+    requires { X.ready numbers.now }
+{
+    (counted(rt, run, numbers), first_of(rt, run, numbers))
+}
 
 #[test]
 fn unlawful_settings_are_refused(rt: HostRuntime) -> Result<(), StreamError> {
@@ -23,8 +37,7 @@ fn unlawful_settings_are_refused(rt: HostRuntime) -> Result<(), StreamError> {
             target,
             gate: &gate,
         };
-        same(&rt, counted(&rt, &run, &ten), Err(error));
-        same(&rt, first_of(&rt, &run, &ten), Err(error));
+        same(&rt, both(&rt, &run, &ten), (Err(error), Err(error)));
     }
     same(&rt, gate.entered(), 0);
     let run = Run {
@@ -32,7 +45,7 @@ fn unlawful_settings_are_refused(rt: HostRuntime) -> Result<(), StreamError> {
         target: 4_611_686_018_427_387_904,
         gate: &gate,
     };
-    check(&rt, first_of(&rt, &run, &ten), Some(0))
+    check(&rt, both(&rt, &run, &ten).1, Some(0))
 }
 
 #[test]
