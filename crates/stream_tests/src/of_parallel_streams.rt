@@ -2,7 +2,6 @@
 
 mod answers;
 mod asked_once;
-mod borrowed;
 mod functions;
 mod gates;
 mod groups;
@@ -53,7 +52,6 @@ fn at((workers, target): (u32, u64)) -> Run<'static, NoGate> {
 /// The rows that are run at each setting: those of a module.
 #[derive(Clone, Copy)]
 enum Suite {
-    Borrowed,
     Groups,
     Matches,
     Numbers,
@@ -72,7 +70,6 @@ fn at_each_setting<R: Threads + Clock + Abort + Alloc<A = Global> + Sync>(
     for &setting in &SETTINGS {
         let run = &at(setting);
         let told = match suite {
-            Suite::Borrowed => borrowed::rows(rt, run),
             Suite::Groups => groups::rows(rt, run),
             Suite::Matches => matches::rows(rt, run),
             Suite::Numbers => rows::rows(rt, run),

@@ -213,85 +213,6 @@ fn segments_are_as_much_shorter_as_items_are_more(rt: HostRuntime) -> Result<(),
     Ok(())
 }
 
-// How many numbers there are, and the first 80,000 of them but one.
-fn counted_with_front<
-    R: Threads + Clock + Alloc<A = Global> + Sync,
-    X: Stream<Item = i64> + Drop + Sync,
->(rt: &R, run: &Run<'_, NoGate>, numbers: X) -> Result<(i64, Vec<i64>), StreamError>
-    requires { X.ready numbers }
-{
-    let number = counted(rt, run, &numbers)?;
-    Ok((number, front_but_one(rt, run, numbers)?))
-}
-
-// .. of those that follow the ones below 9,000.
-fn what_passes<R: Threads + Clock + Alloc<A = Global> + Sync, X: Stream<Item = i64> + Drop + Sync>(
-    rt: &R,
-    run: &Run<'_, NoGate>,
-    numbers: X,
-    asked: &AtomicU64,
-) -> Result<(i64, Vec<i64>), StreamError>
-    requires { X.ready numbers }
-{
-    let bound = 9_000;
-    counted_with_front(rt, run, numbers.drop_while(Under { bound, asked }))
-}
-
-// The numbers but one.
-fn all_but_one<R: Threads + Clock + Alloc<A = Global> + Sync, X: Stream<Item = i64> + Drop + Sync>(
-    rt: &R,
-    run: &Run<'_, NoGate>,
-    numbers: X,
-) -> Result<Vec<i64>, StreamError>
-    requires { X.ready numbers }
-{
-    listed(rt, run, &numbers.skip(1))
-}
-
-// The first 80,000 numbers but one.
-fn front_but_one<
-    R: Threads + Clock + Alloc<A = Global> + Sync,
-    X: Stream<Item = i64> + Drop + Sync,
->(rt: &R, run: &Run<'_, NoGate>, numbers: X) -> Result<Vec<i64>, StreamError>
-    requires { X.ready numbers }
-{
-    all_but_one(rt, run, numbers.limit(80_000))
-}
-
-// .. of those behind 5,000.
-fn what_passes_behind<
-    R: Threads + Clock + Alloc<A = Global> + Sync,
-    X: Stream<Item = i64> + Drop + Sync,
->(
-    rt: &R,
-    run: &Run<'_, NoGate>,
-    numbers: X,
-    asked: &AtomicU64,
-) -> Result<(i64, Vec<i64>), StreamError>
-    requires { X.ready numbers }
-{
-    what_passes(rt, run, numbers.skip(5_000), asked)
-}
-
-// Of the segments behind the one in which items were dropped no list is made: what follows the barrier is fed from the source.
-#[test]
-fn what_passes_a_barrier_is_all_there(rt: HostRuntime) -> Result<(), StreamError> {
-    let asked = AtomicU64::new(0);
-    for setting in [(1, 0), (7, 0), (64, 0)] {
-        let run = at(setting);
-        let all = numbers(&rt, 0, 100_000);
-        let (number, found) = what_passes_behind(&rt, &run, all, &asked)?;
-        same(
-            &rt,
-            (number, found.len(), found.first(), found.last()),
-            (91_000, 79_999, Some(&9_001), Some(&88_999)),
-        );
-        // Each test is asked of the items that are dropped and of the first that isn't, in both runs.
-        same(&rt, asked.swap(0, Ordering::SeqCst), 2 * 4_001);
-    }
-    Ok(())
-}
-
 /// Checks an answer about 200 numbers, and how often its test was asked: as often as is told, and where that is less than 200, more often by others
 /// than one worker over one leaf, but once a number at most.
 fn check_asked<T: Copy + PartialEq + Debug>(
@@ -350,6 +271,22 @@ fn check_matches<
     check_asked(rt, test.asked, setting, met, any)?;
     let met = numbers.all_match(rt, alloc, run, test);
     check_asked(rt, test.asked, setting, met, every)
+}
+
+// Of 100,000 numbers, in many segments: behind the first that is left no number is asked about.
+#[test]
+fn nothing_is_asked_behind_what_is_dropped(rt: HostRuntime) -> Result<(), StreamError> {
+    let asked = &AtomicU64::new(0);
+    let test = Under {
+        bound: 9_000,
+        asked,
+    };
+    for setting in [(1, 0), (7, 0), (64, 0)] {
+        let rest = counted_rest(&rt, &at(setting), numbers(&rt, 0, 100_000), test);
+        check(&rt, rest, 91_000)?;
+        same(&rt, asked.swap(0, Ordering::SeqCst), 9_001);
+    }
+    Ok(())
 }
 
 // Of 200 numbers, those below a bound that none, some or all of them meet: matches, and whiles.
