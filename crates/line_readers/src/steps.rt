@@ -37,6 +37,42 @@ pub struct LineParts<I, F, A, Q, S, Z> {
     ghost sized: { 0 < size },
 }
 
+/// Takes what two stages make of a stream's items into a container, behind what is in it.
+fn take_staged<
+    R: Threads + Clock + Sync,
+    H: Gate + Sync,
+    X: Stream + Drop,
+    S: Stage<In = X::Item> + Sync,
+    Z: Stage<In = S::Out> + Sync,
+    C: Collector<Item = Z::Out> + Sync,
+>(
+    engine: &Engine<'_, R, H>,
+    items: X,
+    between: &S,
+    last: &Z,
+    collector: &C,
+    acc: C::Acc,
+) -> Result<C::Acc, NoMemory>
+where
+    S::Out: OrderedValue + Clone + Drop + Send + Sync,
+    Z::Out: Clone + Send + Sync,
+    C::Acc: Send,
+    C::Out: Send,
+    requires items { X.ready items }
+    requires between { S.ready between.now }
+    requires last { Z.ready last.now }
+    requires collector { C.ready collector.now }
+    ensures { let it = collector.now in
+        let made = IsContainerOf Z.Out.is_value (C.content it) (C.empty it) (C.add it) in
+        let passed = flat_map (S.expand between.now) (X.value items) in
+        (l : List Z.Out.Content) → made l acc
+        → IfOk result (made (l ++ flat_map (Z.expand last.now) passed)) }
+{
+    let mut acc = acc;
+    fold_into(engine, &items.then(between).then(last), collector, &mut acc)?;
+    Ok(acc)
+}
+
 /// Takes what becomes of the lines of a text into a container, behind what is in it, where no operation looks at more than one item.
 fn take_through<
     R: Threads + Clock + Sync,
@@ -70,13 +106,10 @@ where
         (l : List Z.Out.Content) → made l acc
         → IfOk result (made (l ++ flat_map (Z.expand steps.now.last) passed)) }
 {
-    let mut acc = acc;
     let lines = of(LinesSplit::new(text.as_str()));
     let function = &steps.function;
     let items = lines.map(OfLine { function }).then(&steps.first);
-    let stream = items.then(&steps.between).then(&steps.last);
-    fold_into(engine, &stream, collector, &mut acc)?;
-    Ok(acc)
+    take_staged(engine, items, &steps.between, &steps.last, collector, acc)
 }
 
 /// Takes what the last stage makes of items into a container, behind what is in it.

@@ -1,4 +1,4 @@
-use Rattle.std.proofs.Common.{◌++◌, ◌∷◌, [], ◌∙◌, List, ap, ap₂, flat_map, string_bytes, subst}
+use Rattle.std.proofs.Common.{◌++◌, ◌∷◌, [], ◌∙◌, IfOk, List, ap, ap₂, flat_map, string_bytes, subst}
 use Rattle.collectors.specs.Laws.{IsContainerOf}
 use Rattle.sources.specs.Lines.{text_lines}
 use Rattle.line_readers.proofs.Behind.{lines-values}
@@ -15,17 +15,12 @@ returns g c = λ l made.
     let steps = c.args.steps.now in
     let first = flat_map (A.expand steps.first) in
     let behind = λ (items : List g.row.A-Out-Content.Denot). flat_map (Z.expand steps.last) (flat_map (S.expand steps.between) items) in
-    let told = c.then-stream.ensures in
     let text = ap (λ s. s.text.now) c.of-lines.ensures ∙ c.new.ensures.text ∙ c.as_str.ensures.value in
     let value =
-    ap₂ (λ u s. flat_map (Z.expand s.now) (flat_map (S.expand u.stage.now) (flat_map (A.expand u.upstream.stage.now)
-    (flat_map (λ x. F.image u.upstream.upstream.stage.mapping.function.now x ∷ []) (text_lines u.upstream.upstream.upstream.split.text.now))))) told.upstream told.stage
-    ∙ ap (flat_map (Z.expand steps.last)) (ap₂ (λ u s. flat_map (S.expand s.now) (flat_map (A.expand u.stage.now)
-    (flat_map (λ x. F.image u.upstream.stage.mapping.function.now x ∷ []) (text_lines u.upstream.upstream.split.text.now)))) c.then.ensures.upstream c.then.ensures.stage)
-    ∙ ap behind (ap₂ (λ u s. flat_map (A.expand s.now) (flat_map (λ x. F.image u.stage.mapping.function.now x ∷ []) (text_lines u.upstream.split.text.now)))
+    ap behind (ap₂ (λ u s. flat_map (A.expand s.now) (flat_map (λ x. F.image u.stage.mapping.function.now x ∷ []) (text_lines u.upstream.split.text.now)))
     c.then-items.ensures.upstream c.then-items.ensures.stage)
     ∙ ap (λ items. behind (first items)) (ap₂ (λ u m. flat_map (λ x. F.image m.function.now x ∷ []) (text_lines u.split.text.now)) c.map.ensures.upstream c.map.ensures.stage)
     ∙ ap (λ t. behind (first (flat_map (λ x. F.image steps.function x ∷ []) (text_lines t)))) text
     ∙ ap behind (lines-values (F.image steps.function) (A.expand steps.first) (text_lines (string_bytes c.args.text))) in
-    subst (λ ms. IsContainerOf g.Z.Out.Value.is_value (C.content it) (C.empty it) (C.add it) ms c.fold_into.new.whole) (ap (λ v. l ++ v) value)
-    (c.in_ok-fold_into.ensures.folded l made)
+    subst (λ ms. IfOk c.take_staged.result (IsContainerOf g.Z.Out.Value.is_value (C.content it) (C.empty it) (C.add it) ms)) (ap (λ v. l ++ v) value)
+    (c.take_staged.ensures l made)
