@@ -1,5 +1,6 @@
 //! Lines of readers that give few bytes at a time, are interrupted, or fail.
 ghost use Rattle.std.specs.Prelude.{◌<◌};
+ghost use Rattle.spliterator.specs.Clones.{ClonesAlike};
 ghost use Rattle.reader_tests.specs.Checked.{checked, checked-value};
 
 use crate::slow::{ThreeBytes, fails_behind, slow};
@@ -250,6 +251,40 @@ fn leave<R: Threads + Clock + Abort + Alloc<A = Global> + Sync, L: LineStream<It
     Ok(())
 }
 
+// The front that is so long, what follows so many, and the front of the lines that differ, over any lines: each call that names a stream's type costs a
+// check as much as several such functions.
+fn leave_front<R: Threads + Clock + Abort + Alloc<A = Global> + Sync, L: LineStream<Item = String>>(
+    engine: &Engine<'_, R, NoGate>,
+    lines: L,
+    most: u32,
+    wanted: &[&str],
+) -> Result<(), LinesError>
+    requires lines { L.ready lines }
+    requires lead { ClonesAlike L.Lead.is_clone L.Lead.content }
+{
+    leave(engine, lines.limit(u64::from(most)), wanted)
+}
+
+fn leave_behind<
+    R: Threads + Clock + Abort + Alloc<A = Global> + Sync,
+    L: LineStream<Item = String>,
+>(engine: &Engine<'_, R, NoGate>, lines: L, number: u32, wanted: &[&str]) -> Result<(), LinesError>
+    requires lines { L.ready lines }
+    requires lead { ClonesAlike L.Lead.is_clone L.Lead.content }
+{
+    leave(engine, lines.skip(u64::from(number)), wanted)
+}
+
+fn leave_front_apart<
+    R: Threads + Clock + Abort + Alloc<A = Global> + Sync,
+    L: LineStream<Item = String>,
+>(engine: &Engine<'_, R, NoGate>, lines: L, most: u32, wanted: &[&str]) -> Result<(), LinesError>
+    requires lines { L.ready lines }
+    requires lead { ClonesAlike L.Lead.is_clone L.Lead.content }
+{
+    leave_front(engine, lines.distinct(), most, wanted)
+}
+
 /// The seven lines, in blocks of so many bytes.
 fn seven(alloc: Global, size: usize) -> ReadLines<ThreeBytes<'static>, OwnLine, Nothing<String>>
     requires { 0 < size }
@@ -264,12 +299,12 @@ fn one_skips<R: Threads + Clock + Abort + Alloc<A = Global> + Sync>(
 ) -> Result<(), LinesError>
     requires { 0 < size }
 {
-    leave(
-        engine,
-        seven(engine.alloc, size).skip(1),
-        &["bb", "a", "ccc", "", "bb", "d"],
-    )
+    let wanted = &["bb", "a", "ccc", "", "bb", "d"];
+    leave_behind(engine, seven(engine.alloc, size), 1, wanted)
 }
+
+/// The longest fronts that are wanted, and these.
+static FRONTS: [(u32, &[&str]); 2] = [(3, &["a", "bb", "a"]), (0, &[])];
 
 fn one_limits<R: Threads + Clock + Abort + Alloc<A = Global> + Sync>(
     engine: &Engine<'_, R, NoGate>,
@@ -277,12 +312,10 @@ fn one_limits<R: Threads + Clock + Abort + Alloc<A = Global> + Sync>(
 ) -> Result<(), LinesError>
     requires { 0 < size }
 {
-    leave(
-        engine,
-        seven(engine.alloc, size).limit(3),
-        &["a", "bb", "a"],
-    )?;
-    leave(engine, seven(engine.alloc, size).limit(0), &[])
+    for &(most, wanted) in &FRONTS {
+        leave_front(engine, seven(engine.alloc, size), most, wanted)?;
+    }
+    Ok(())
 }
 
 fn differing_stay<R: Threads + Clock + Abort + Alloc<A = Global> + Sync>(
@@ -330,11 +363,8 @@ fn two_leave_the_third<R: Threads + Clock + Abort + Alloc<A = Global> + Sync>(
 ) -> Result<(), LinesError>
     requires { 0 < size }
 {
-    leave(
-        engine,
-        seven(engine.alloc, size).filter(SOME).skip(2).limit(1),
-        &["a"],
-    )
+    let behind_two = seven(engine.alloc, size).filter(SOME).skip(2);
+    leave_front(engine, behind_two, 1, &["a"])
 }
 
 fn three_leave_the_first_that_differ<R: Threads + Clock + Abort + Alloc<A = Global> + Sync>(
@@ -343,15 +373,8 @@ fn three_leave_the_first_that_differ<R: Threads + Clock + Abort + Alloc<A = Glob
 ) -> Result<(), LinesError>
     requires { 0 < size }
 {
-    leave(
-        engine,
-        seven(engine.alloc, size)
-            .skip(1)
-            .filter(SOME)
-            .distinct()
-            .limit(3),
-        &["bb", "a", "ccc"],
-    )
+    let behind_one = seven(engine.alloc, size).skip(1).filter(SOME);
+    leave_front_apart(engine, behind_one, 3, &["bb", "a", "ccc"])
 }
 
 fn two_leave_the_last<R: Threads + Clock + Abort + Alloc<A = Global> + Sync>(
@@ -360,14 +383,8 @@ fn two_leave_the_last<R: Threads + Clock + Abort + Alloc<A = Global> + Sync>(
 ) -> Result<(), LinesError>
     requires { 0 < size }
 {
-    leave(
-        engine,
-        seven(engine.alloc, size)
-            .drop_while(SOME)
-            .filter(SOME)
-            .skip(1),
-        &["d"],
-    )
+    let rest = seven(engine.alloc, size).drop_while(SOME).filter(SOME);
+    leave_behind(engine, rest, 1, &["d"])
 }
 
 #[test]
@@ -394,17 +411,30 @@ fn spoilt(alloc: Global) -> ReadLines<ThreeBytes<'static>, OwnLine, Nothing<Stri
     lines.map_lines(OwnLine { alloc })
 }
 
+// How many lines the front has that is so long at most.
+fn count_front<R: Threads + Clock + Sync, L: LineStream>(
+    engine: &Engine<'_, R, NoGate>,
+    lines: L,
+    most: u32,
+) -> Result<i64, LinesError>
+    requires lines { L.ready lines }
+    requires lead { ClonesAlike L.Lead.is_clone L.Lead.content }
+    requires items { ClonesAlike L.Item.is_clone L.Item.content }
+{
+    lines.limit(u64::from(most)).count_on(engine)
+}
+
 #[test]
 fn nothing_is_told_of_what_stands_behind_a_limit(rt: HostRuntime) -> Result<(), LinesError> {
     let alloc = rt.alloc();
     let engine = engine_of(&rt, 4);
-    let number = spoilt(alloc).limit(3).count_on(&engine)?;
+    let number = count_front(&engine, spoilt(alloc), 3)?;
     assert!(&rt; number == 3);
     let mut texts = Vec::new(alloc);
     let few = spoilt(alloc).take_while(Composed(Length, Above(1)));
     few.for_each_ordered(&engine, &mut texts)?;
     assert!(&rt; are(&texts, &["ab"]));
-    let all = spoilt(alloc).limit(5).count_on(&engine);
+    let all = count_front(&engine, spoilt(alloc), 5);
     assert!(&rt; matches!(all, Err(LinesError::NotUtf8(9) | LinesError::NoMemory)));
     Ok(())
 }
