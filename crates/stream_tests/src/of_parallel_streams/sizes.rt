@@ -51,6 +51,7 @@ fn behind_both<R: Threads + Clock + Alloc<A = Global> + Sync, X: Stream<Item = i
     most: u64,
 ) -> (StreamFlags, Option<u64>, Result<i64, StreamError>)
     requires ready { X.ready numbers }
+    requires skipped { skipped < 2 ^ 63 }
     requires within { most < 2 ^ 63 }
 {
     behind_limit(rt, run, numbers.skip(skipped), most)
