@@ -531,7 +531,7 @@ class Trial:
 
 def try_crate(crate, passed):
     """A line for each edit of a crate, with whether it passed."""
-    edits = [Edit(it, crate) for it in sorted(pathlib.Path(crate.folder, FOLDER).glob("*.edit"))]
+    edits = edits_of(crate)
     known = passed.find(crate, edits)
     lacking = [it.name for it in crate.below() if not os.path.isdir(it.rlib)]
     if lacking and len(known) < len(edits):
@@ -540,6 +540,16 @@ def try_crate(crate, passed):
     passed.keep(crate, {it: text for it, (well, text) in told.items() if well})
     told |= {it: (True, f"{text} (by an earlier run of the same)") for it, text in known.items()}
     return [(told[it][0], f"{crate.name}/{it.name}: {told[it][1]}") for it in edits]
+
+
+def edits_of(crate):
+    """The edits of a crate, by their names."""
+    return [Edit(it, crate) for it in sorted(pathlib.Path(crate.folder, FOLDER).glob("*.edit"))]
+
+
+def edited_lines(crate):
+    """How many lines the functions have that a crate's edits change, each as often as one changes it: a guess at how dear they are to try."""
+    return sum(function.last - function.first for edit in edits_of(crate) for function in edit.functions)
 
 
 def jobs():
@@ -559,7 +569,7 @@ def main():
         sys.exit(f"no crate with a folder {FOLDER}: {' '.join(sorted(unknown))}")
     crates = [it for it in crates if it.name in names or not names]
     # the dearest first, so that none is left over at the end
-    crates.sort(key=lambda it: -it.count(rb"\n"))
+    crates.sort(key=lambda it: -edited_lines(it))
     passed = failed = 0
     with concurrent.futures.ThreadPoolExecutor(jobs()) as lanes:
         for ended in concurrent.futures.as_completed([lanes.submit(try_crate, it, passed_before) for it in crates]):
