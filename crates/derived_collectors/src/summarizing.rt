@@ -1,13 +1,19 @@
 //! Count, sum, least and greatest in one pass.
-ghost use Rattle.std.specs.Prelude.{◌≡◌, ◌++◌, IfOk, Some, fold, length, map};
+ghost use Rattle.std.specs.Prelude.{◌≡◌, ◌++◌, IfOk, IfSome, Some, fold, length, map};
+ghost use Rattle.std.specs.Cmp.Lexicographic.{options_total};
 ghost use Rattle.std.specs.Int.{int_min, int_max};
+ghost use Rattle.std.specs.Option.{option_eq, option_cmp};
+ghost use Rattle.std.specs.Ordering.{int_eq, int_cmp};
+ghost use Rattle.spliterator.specs.Options.{option_eq-decides, option_cmp-ties};
+ghost use Rattle.spliterator.specs.Pairs.{both, by_first, both-decides, by_first-total, by_first-ties};
+ghost use Rattle.spliterator.specs.Values.{IsI64, int_eq-decides, int_cmp-total, int_cmp-ties};
 ghost use Rattle.stages.specs.Wrapping.{wrapped_sum};
 ghost use Rattle.collectors.specs.Reductions.{reduce_add, reduce_merge};
 ghost use Rattle.derived_collectors.specs.Facts.{Facts, no_facts, add_facts, merge_facts, facts_laws};
 ghost use Rattle.derived_collectors.specs.Summaries.{told, told_of, average_of, IsSummary};
 
 use collectors::Collector;
-use spliterator::{NoMemory, Value};
+use spliterator::{NoMemory, OrderedValue, Value};
 use stages::Mapping;
 use std::marker::PhantomData;
 
@@ -83,6 +89,36 @@ impl Summary {
             None
         }
     }
+}
+
+impl Value for Summary {
+    type Content = ((i64, i64), (Option<i64>, Option<i64>));
+
+    ghost content = { λ s. ((s.count, s.sum), (s.least, s.greatest)) };
+
+    ghost same = { both (both int_eq int_eq) (both (option_eq int_eq) (option_eq int_eq)) };
+
+    ghost is_value = { λ c. IsI64 c.0.0 × IsI64 c.0.1 × IfSome c.1.0 IsI64 × IfSome c.1.1 IsI64 };
+
+    ghost same_decides = { both-decides (both int_eq int_eq) (both (option_eq int_eq) (option_eq int_eq))
+        (both-decides int_eq int_eq int_eq-decides int_eq-decides)
+        (both-decides (option_eq int_eq) (option_eq int_eq) (option_eq-decides int_eq int_eq-decides) (option_eq-decides int_eq int_eq-decides)) };
+
+    fn is_value(&self) -> bool {
+        let numbers = self.count.is_value() && self.sum.is_value();
+        numbers && self.least.is_value() && self.greatest.is_value()
+    }
+}
+
+impl OrderedValue for Summary {
+    ghost order = { by_first (by_first int_cmp int_cmp) (by_first (option_cmp int_cmp) (option_cmp int_cmp)) };
+
+    ghost order_total = { by_first-total (by_first-total int_cmp-total int_cmp-total) (by_first-total (options_total int_cmp-total) (options_total int_cmp-total)) };
+
+    ghost order_ties = { by_first-ties (both int_eq int_eq) (both (option_eq int_eq) (option_eq int_eq))
+        (by_first int_cmp int_cmp) (by_first (option_cmp int_cmp) (option_cmp int_cmp))
+        (by_first-ties int_eq int_eq int_cmp int_cmp int_cmp-ties int_cmp-ties)
+        (by_first-ties (option_eq int_eq) (option_eq int_eq) (option_cmp int_cmp) (option_cmp int_cmp) (option_cmp-ties int_eq int_cmp int_cmp-ties) (option_cmp-ties int_eq int_cmp int_cmp-ties)) };
 }
 
 /// What is told of one number or more.

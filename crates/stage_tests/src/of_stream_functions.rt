@@ -7,9 +7,10 @@ use spliterator::{NoMemory, Row, Value};
 use stages::{Mapping, Operator, Test};
 use std::test::Fail;
 use stream_functions::{
-    Above, And, AsLong, Below, Cloned, Composed, Contains, Divisible, Divisor, EndsWith, Equal,
-    Even, Gives, Itself, Joins, Length, LowerCase, Modulo, Negated, Not, Number, NumberOr, OnFirst,
-    OnSecond, Or, Piece, Plus, StartsWith, Tells, Times, Trimmed, joined_by, made_by, such,
+    Above, And, AsLong, Below, Cloned, Composed, Contains, Copied, Divided, Divisible, Divisor,
+    EndsWith, Equal, Even, Gives, Itself, Joins, Length, LowerCase, Modulo, Negated, Not, Number,
+    NumberOr, OnFirst, OnSecond, Or, Piece, Pieces, Plus, StartsWith, Tells, Times, Trimmed,
+    joined_by, made_by, such,
 };
 
 fn image<T: Value, M: Mapping<T>>(mapping: &M, x: &T) -> Result<M::Out, NoMemory>
@@ -150,6 +151,9 @@ fn tests_behind_mappings(rt: HostRuntime) {
         holds(&Composed(Times(2), Equal(10)), &5),
         holds(&Composed(Negated, Equal(-5)), &5),
         holds(&Composed(Modulo::by(3), Equal(2)), &5),
+        holds(&Composed(Divided::by(100), Equal(-2)), &-299),
+        holds(&Composed(Divided::by(1), Equal(i64::MIN)), &i64::MIN),
+        holds(&Composed(Copied, Above(4)), &&5),
         holds(
             &Composed(
                 made_by(Squared, |x: &i64| -> i64 { x.wrapping_mul(*x) }),
@@ -158,7 +162,7 @@ fn tests_behind_mappings(rt: HostRuntime) {
             &5,
         ),
     ];
-    assert!(rt; found == [true; 13]);
+    assert!(rt; found == [true; 16]);
     assert!(rt; !holds(&Composed(Length, Above(3)), &"abc"));
 }
 
@@ -176,6 +180,18 @@ fn pieces_and_numbers_of_texts(rt: HostRuntime) -> Result<(), Fail> {
         assert!(rt; image(&piece, &text)? == wanted, "{text} at {at}");
     }
     assert!(rt; image(&Piece::word(1), &"a bc d")? == "bc");
+    for (text, wanted) in [
+        ("to,,be", ["to", "", "be"]),
+        (",,", ["", "", ""]),
+        ("é,ü,", ["é", "ü", ""]),
+    ] {
+        let pieces = image(&Pieces::new(rt.alloc(), ','), &text)?;
+        assert!(rt; pieces.as_slice() == wanted.as_slice(), "{text}");
+    }
+    for text in ["", "to be"] {
+        let pieces = image(&Pieces::new(rt.alloc(), ','), &text)?;
+        assert!(rt; pieces.as_slice() == [text].as_slice(), "{text}");
+    }
     for (text, wanted) in [
         ("7", Some(7)),
         ("-7", Some(-7)),

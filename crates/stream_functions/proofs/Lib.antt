@@ -5,3 +5,4 @@ pub mod Inverses
 pub mod NearNumbers
 pub mod Numerals
 pub mod Quotients
+pub mod Separated

@@ -1,5 +1,5 @@
 -- The pieces of a text, and the number that a text writes.
-use Rattle.std.specs.Prelude.{ℕ, zero, suc, Bool, ◌&&◌, List, length, ℤ, Option, Some, None, if◌then◌else◌, nat_lt, unwrap_or, IfSome}
+use Rattle.std.specs.Prelude.{ℕ, zero, suc, Bool, ◌&&◌, List, [], ◌∷◌, length, ℤ, Option, Some, None, if◌then◌else◌, nat_lt, unwrap_or, IfSome}
 use Rattle.std.specs.Char.{is_digit}
 use Rattle.std.specs.List.{before_first, after_first, list_all}
 use Rattle.std.specs.Ordering.{int_eq}
@@ -15,6 +15,17 @@ use Rattle.stages.specs.Tests.{either}
 unfoldable pub piece : (ℕ → Bool) → ℕ → List ℕ → List ℕ
 piece ends zero text = before_first ends text
 piece ends (suc at) text = piece ends at (after_first ends text)
+
+-- a byte before the first of some pieces
+abbrev pub begin_piece : ℕ → List (List ℕ) → List (List ℕ)
+begin_piece b [] = (b ∷ []) ∷ []
+begin_piece b (first ∷ others) = (b ∷ first) ∷ others
+
+-- all pieces between the bytes that meet a test, empty ones too; there is one more than there are such bytes
+-- java.lang.String, split (with a negative limit)
+unfoldable pub pieces : (ℕ → Bool) → List ℕ → List (List ℕ)
+pieces ends [] = [] ∷ []
+pieces ends (b ∷ bs) = if ends b then [] ∷ pieces ends bs else begin_piece b (pieces ends bs)
 
 -- one decimal digit or more, and nothing else
 abbrev pub are_digits : List ℕ → Bool

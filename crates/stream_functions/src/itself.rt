@@ -28,6 +28,32 @@ impl<T: Value + Copy> PlainMapping<T> for Itself {
     }
 }
 
+/// What a reference lends, as a value of its own: a number that a map or a `Vec` keeps.
+///
+/// ```text
+/// of(SliceSplit::new(&lent)).map(Copied).filter(Above(1))    // of &i64, i64
+/// ```
+#[derive(Clone, Copy)]
+pub struct Copied;
+
+impl<'a, T: Value + Copy> Mapping<&'a T> for Copied {
+    type Out = T;
+
+    ghost image = { λ _ x. x };
+
+    ghost images_are_values = { λ _ x value. value };
+
+    fn image(&self, x: &&'a T) -> Result<T, NoMemory> {
+        Ok(self.image_of(x))
+    }
+}
+
+impl<'a, T: Value + Copy> PlainMapping<&'a T> for Copied {
+    fn image_of(&self, x: &&'a T) -> T {
+        **x
+    }
+}
+
 /// The item, as a clone: a text that is owned, or a record.
 #[derive(Drop)]
 pub struct Cloned<T: Value + Clone> {

@@ -25,9 +25,9 @@ pub use closures::{Gives, JoinedBy, Joins, MadeBy, SuchThat, Tells, joined_by, m
 pub use comparisons::{Above, Below, Divisible, Equal, Even};
 pub use composed::{Composed, PlainMapping};
 pub use divisor::Divisor;
-pub use itself::{Cloned, Itself};
+pub use itself::{Cloned, Copied, Itself};
 pub use logic::{And, Not, Or};
-pub use numbers::{Modulo, Negated, Plus, Times};
+pub use numbers::{Divided, Modulo, Negated, Plus, Times};
 pub use pairs::{OnFirst, OnSecond};
-pub use pieces::{Number, NumberOr, Piece, piece_of};
+pub use pieces::{Number, NumberOr, Piece, Pieces, piece_of};
 pub use texts::{Contains, EndsWith, Length, LowerCase, StartsWith, Trimmed};

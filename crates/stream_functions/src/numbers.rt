@@ -1,5 +1,5 @@
 //! Functions of numbers. Sums, products and negations wrap, as those of Java's `long`.
-ghost use Rattle.std.specs.Prelude.{◌≡◌, ◌≤ℤ◌, ◌+ℤ◌, ◌*ℤ◌, neg_ℤ, pos};
+ghost use Rattle.std.specs.Prelude.{◌≡◌, ◌≤ℤ◌, ◌+ℤ◌, ◌*ℤ◌, int_div, neg_ℤ, pos};
 ghost use Rattle.std.specs.Int.{int_rem_euclid};
 ghost use Rattle.stages.specs.Products.{wrapped_product};
 ghost use Rattle.stages.specs.Wrapping.{wrapped, wrapped-value, wrapped_sum};
@@ -108,5 +108,40 @@ impl Mapping<i64> for Modulo {
 impl PlainMapping<i64> for Modulo {
     fn image_of(&self, x: &i64) -> i64 {
         self.divisor.remainder(*x)
+    }
+}
+
+/// The quotient, rounded towards zero as Java's `/` does: `Divided::by(100)` makes 2 of 299, and -2 of -299.
+#[derive(Clone, Copy)]
+pub struct Divided {
+    pub number: i64,
+    ghost least: { pos 1 ≤ℤ number },
+}
+
+impl Divided {
+    /// The quotient by a number of at least 1.
+    pub fn by(number: i64) -> Divided
+        requires { pos 1 ≤ℤ number }
+        ensures { result.number ≡ number }
+    {
+        Divided { number }
+    }
+}
+
+impl Mapping<i64> for Divided {
+    type Out = i64;
+
+    ghost image = { λ m x. wrapped (int_div x m.number) };
+
+    ghost images_are_values = { λ m x _. wrapped-value (int_div x m.number) };
+
+    fn image(&self, x: &i64) -> Result<i64, NoMemory> {
+        Ok(self.image_of(x))
+    }
+}
+
+impl PlainMapping<i64> for Divided {
+    fn image_of(&self, x: &i64) -> i64 {
+        x.wrapping_div(self.number)
     }
 }

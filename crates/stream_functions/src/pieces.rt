@@ -1,11 +1,12 @@
 //! Pieces of texts, and the numbers that texts write.
-ghost use Rattle.std.specs.Prelude.{◌≡◌, ◌<◌, ◌==◌};
+ghost use Rattle.std.specs.Prelude.{◌≡◌, ◌<◌, ◌==◌, IfOk, map};
 ghost use Rattle.spliterator.specs.Bounded.{wrapped-value};
-ghost use Rattle.stream_functions.specs.Pieces.{piece, number_in, number_or, number-value};
+ghost use Rattle.stream_functions.specs.Pieces.{piece, pieces, number_in, number_or, number-value};
 
 use crate::PlainMapping;
 use spliterator::{NoMemory, Text};
 use stages::Mapping;
+use std::alloc::{AllocError, Global};
 
 /// The piece of a text at a place, from 0 on, between separators of one byte; an empty one where there are fewer.
 pub fn piece_of(text: &str, separator: char, at: usize) -> &str
@@ -67,6 +68,56 @@ impl<'a> Mapping<&'a str> for Piece {
 impl<'a> PlainMapping<&'a str> for Piece {
     fn image_of(&self, x: &&'a str) -> &'a str {
         piece_of(*x, self.separator, self.at)
+    }
+}
+
+/// The list of the pieces of a text between separators.
+fn list_pieces(alloc: Global, text: &str, separator: char) -> Result<Vec<&str>, AllocError>
+    requires { separator < 128 }
+    ensures { IfOk result (λ list. map (λ piece. piece.now) list.items ≡ pieces (λ b. b == separator) text.now) }
+{
+    let mut list = Vec::new(alloc);
+    let mut rest = text;
+    while let Some((piece, behind)) = rest.split_once(separator) {
+        list.push(piece)?;
+        rest = behind;
+    }
+    list.push(rest)?;
+    Ok(list)
+}
+
+/// All pieces of a text between separators, for a `flat_map`: of `to,,be` they are `to`, an empty one and `be`, and of an empty text an empty one.
+#[derive(Clone, Copy)]
+pub struct Pieces {
+    pub alloc: Global,
+    pub separator: char,
+    ghost ascii: { separator < 128 },
+}
+
+impl Pieces {
+    /// Between separators of one byte: an ASCII character.
+    ///
+    /// ```text
+    /// let words = lines.flat_map(Pieces::new(rt.alloc(), ' ')).filter(Not(Equal("")));
+    /// ```
+    // java.lang.String, split (with a negative limit)
+    pub fn new(alloc: Global, separator: char) -> Pieces
+        requires { separator < 128 }
+        ensures { result.separator ≡ separator }
+    {
+        Pieces { alloc, separator }
+    }
+}
+
+impl<'a> Mapping<&'a str> for Pieces {
+    type Out = Vec<&'a str>;
+
+    ghost image = { λ p text. pieces (λ b. b == p.separator) text };
+
+    ghost images_are_values = { λ _ _ _ _ _ _. tt };
+
+    fn image(&self, x: &&'a str) -> Result<Vec<&'a str>, NoMemory> {
+        Ok(list_pieces(self.alloc, *x, self.separator)?)
     }
 }
 
