@@ -14,8 +14,8 @@ pub trait Gate {
     /// A worker read 1,024 items more of a leaf.
     fn after_stretch(&self) {}
 
-    /// Whether the run is to end with no value, as if memory were refused. It is asked before each leaf, after each 1,024 items within one, and before
-    /// whatever else may take long.
+    /// Whether the run is to end with no value, as if memory were refused. It is asked before each run, leaf, combination,
+    /// barrier's pass, sort, making of keys and finish of a container, and after each 1,024 items of a leaf.
     fn is_halted(&self) -> bool {
         false
     }

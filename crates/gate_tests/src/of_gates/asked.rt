@@ -35,7 +35,8 @@ enum Task {
 }
 
 /// A task, the numbers from 1 up to so many, the estimate of a leaf, what the task makes of them, and what is asked in turn: before a (r)un, a (l)eaf, a
-/// (c)ombination, a barrier's (p)ass, the (f)inish of a container, (k)eys, a (s)ort, and (w)ithin a leaf, after 1,024 items.
+/// (c)ombination, a barrier's (p)ass, the (f)inish of a container, (k)eys, a (s)ort, and (w)ithin a leaf, after each stretch of 1,024 items: also a last one that
+/// is shorter, where it is read as a block.
 static ASKED: [(Task, i64, u64, i64, &str); 16] = [
     (Task::Sum, 2, 1, 3, "rllcf"),
     (Task::Sum, 4, 1, 10, "rllllcccf"),
@@ -48,16 +49,16 @@ static ASKED: [(Task, i64, u64, i64, &str); 16] = [
     (Task::Sort, 2, 1, 1, "rllfs"),
     (Task::SortByKey, 2, 1, 2, "rllfks"),
     (Task::Concat, 2, 1, 6, "rllcrllccf"),
-    (Task::SumBehind, 2, 1, 3, "rllcprllcf"),
+    (Task::SumBehind, 2, 1, 3, "rllcprlwlwcf"),
     (
         Task::SumBehind,
         5_000,
         5_000,
         12_502_500,
-        "rlwwprlwwrlwwprlwwcf",
+        "rlwwprlwwwrlwwprlwwwcf",
     ),
-    (Task::AnyBehind, 2, 1, 0, "rllcprllc"),
-    (Task::AnyBehind, 5_000, 5_000, 0, "rlwwprlwwrlwwprlwwc"),
+    (Task::AnyBehind, 2, 1, 0, "rllcprlwlwc"),
+    (Task::AnyBehind, 5_000, 5_000, 0, "rlwwprlwwwrlwwprlwwwc"),
     (Task::DistinctList, 2, 1, 2, "rllcprllcf"),
 ];
 
@@ -102,7 +103,7 @@ fn made_of<R: Threads + Clock + Sync, H: Gate + Sync, X: Stream<Item = i64> + Dr
 /// Lines of a reader: whether a barrier stands behind them, whether they are handed on one by one, and what is asked.
 static ASKED_OF_LINES: [(bool, bool, &str); 4] = [
     (false, false, "rllccf"),
-    (true, false, "rllfprllccf"),
+    (true, false, "rllfprlwlwccf"),
     (false, true, "rllcf"),
     (true, true, "rllfprllcf"),
 ];
@@ -172,7 +173,8 @@ fn a_halt_is_noticed_wherever_it_is_asked(rt: HostRuntime) -> Result<(), Fail> {
             let answer = made_of(&engine, numbers, task).ok();
             assert!(&rt;
                 is_told(&until, answer, wanted, asked, place),
-                "{asked} {place}"
+                "{asked} {place} {}",
+                gate.begun()
             );
         }
     }
@@ -203,7 +205,8 @@ fn a_halt_of_lines_is_noticed_wherever_it_is_asked(rt: HostRuntime) -> Result<()
             };
             assert!(&rt;
                 is_told(&until, answer.ok(), 2, asked, place),
-                "{asked} {place}"
+                "{asked} {place} {}",
+                gate.begun()
             );
         }
     }
