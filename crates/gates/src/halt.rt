@@ -4,7 +4,7 @@ ghost use Rattle.either.specs.Either.{MatchEither};
 
 use either::{Either, Left, Right};
 
-/// May end a run before its end, with no value. It is asked before each leaf, and after each 1,024 items within one. Once there is a reason there
+/// May end a run before its end, with no value. It is asked where [`Gate::is_halted`](stealing_pool::Gate::is_halted) is. Once there is a reason there
 /// stays one.
 pub trait Halt {
     /// What shows that the run may end.

@@ -11,7 +11,7 @@ use std::sync::atomic::{AtomicU64, Ordering};
 use std::time::Clock;
 use stealing_pool::Gate;
 
-/// The items between two questions of a leaf.
+/// The items of a stretch.
 const STRETCH: u64 = 1024;
 
 /// The nanoseconds between two drawings.
@@ -197,18 +197,14 @@ fn is_doubled(before: u64, after: u64) -> bool {
 }
 
 impl<R: Clock + Eprint> Gate for Meter<'_, R> {
-    // A question comes before each run and before each leaf, too.
     fn before_run(&self, leaves: usize) {
-        self.stretches.fetch_sub(1, Ordering::SeqCst);
         self.runs.fetch_add(1, Ordering::SeqCst);
         self.began.store(self.watch.nanos(), Ordering::SeqCst);
         self.leaves.store(leaves as u64, Ordering::SeqCst);
         self.ended.store(0, Ordering::SeqCst);
     }
 
-    fn before_leaf(&self, _worker: u32, _leaf: usize) {
-        self.stretches.fetch_sub(1, Ordering::SeqCst);
-    }
+    fn before_leaf(&self, _worker: u32, _leaf: usize) {}
 
     fn after_leaf(&self, _worker: u32, _leaf: usize) {
         let ended = self.ended.fetch_add(1, Ordering::SeqCst);
@@ -217,11 +213,9 @@ impl<R: Clock + Eprint> Gate for Meter<'_, R> {
         self.draw_if(!is_read && is_tenth(ended, ended.saturating_add(1), leaves));
     }
 
-    // It is asked after each stretch of items, and never ends the run.
-    fn is_halted(&self) -> bool {
+    fn after_stretch(&self) {
         self.stretches.fetch_add(1, Ordering::SeqCst);
         self.draw_if(false);
-        false
     }
 
     fn may_hold(&self) -> bool {

@@ -42,11 +42,18 @@ impl<A: Gate, B: Gate> Gate for GatePair<A, B> {
         }
     }
 
-    // Both are asked, since a meter counts by it.
+    fn after_stretch(&self) {
+        if let Some(gate) = &self.first {
+            gate.after_stretch();
+        }
+        if let Some(gate) = &self.second {
+            gate.after_stretch();
+        }
+    }
+
     fn is_halted(&self) -> bool {
         let first = self.first.as_ref().is_some_and(|gate| gate.is_halted());
-        let second = self.second.as_ref().is_some_and(|gate| gate.is_halted());
-        first || second
+        first || self.second.as_ref().is_some_and(|gate| gate.is_halted())
     }
 
     fn may_hold(&self) -> bool {

@@ -68,6 +68,10 @@ impl<E: Halt + Sync, H: Gate + Sync> Gate for Until<'_, E, H> {
         self.gate.after_leaf(worker, leaf);
     }
 
+    fn after_stretch(&self) {
+        self.gate.after_stretch();
+    }
+
     #[inline(always)]
     fn is_halted(&self) -> bool {
         self.gate.is_halted() || self.halt.reason().is_some()

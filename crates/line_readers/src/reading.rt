@@ -12,9 +12,9 @@ ghost use Rattle.line_readers.specs.Values.{values_of, line_values, IsTaken};
 use crate::ending::Ending;
 use crate::steps::work;
 use crate::{Between, LineFunction, LineParts, LineSteps};
-use collectors::{Collector, ToList, finish_container, new_container};
+use collectors::{Collector, ToList, new_container};
 use line_blocks::{Block, LineBlocks, LinesError};
-use parallel_streams::Engine;
+use parallel_streams::{Engine, finish_on};
 use spliterator::NoMemory;
 use stages::{Sink, Stage};
 use std::io::Read;
@@ -178,14 +178,14 @@ where
     for _ in 0..u64::MAX {
         if block.is_last {
             let (whole, _state) = work(engine, steps, collector, taken, block.text)?;
-            return Ok(finish_container(collector, whole)?);
+            return Ok(finish_on(engine, collector, whole)?);
         }
         let (more, ahead) = work_and_read(engine, blocks, steps, collector, taken, block.text)?;
         if steps.barriers.is_over(&steps.between, &more.1) {
-            return Ok(finish_container(collector, more.0)?);
+            return Ok(finish_on(engine, collector, more.0)?);
         }
         if ending.is_over(collector, &more.0) {
-            return Ok(finish_container(collector, more.0)?);
+            return Ok(finish_on(engine, collector, more.0)?);
         }
         let (behind, next) = ahead?;
         blocks = behind;
@@ -237,12 +237,12 @@ where
         let taken = (new_container(&list)?, state);
         if block.is_last {
             let (whole, _state) = work(engine, steps, &list, taken, block.text)?;
-            action.take_all(&mut finish_container(&list, whole)?)?;
+            action.take_all(&mut finish_on(engine, &list, whole)?)?;
             return Ok(());
         }
         let (more, ahead) = work_and_read(engine, blocks, steps, &list, taken, block.text)?;
         let (kept, later) = more;
-        action.take_all(&mut finish_container(&list, kept)?)?;
+        action.take_all(&mut finish_on(engine, &list, kept)?)?;
         if steps.barriers.is_over(&steps.between, &later) {
             return Ok(());
         }

@@ -6,7 +6,7 @@ ghost use Rattle.sources.specs.Lines.{text_lines};
 ghost use Rattle.line_readers.specs.Values.{values_of, IsTaken};
 
 use crate::{Between, LineFunction, OfLine};
-use collectors::{Collector, ToList, finish_container, new_container};
+use collectors::{Collector, ToList};
 use parallel_streams::{Engine, Run, Stream, fold_into, of};
 use sources::{LinesSplit, SliceSplit};
 use split_tree::MAX_TARGET;
@@ -234,6 +234,7 @@ where
         return Ok((acc, state));
     }
     let items = list_of(&by_bytes, &steps.function, &steps.first, text)?;
+    engine.run.gate.goes_on()?;
     let kept = steps.barriers.carry(&steps.between, &mut state, items)?;
     let acc = take_list(engine, &steps.last, collector, acc, kept.as_slice())?;
     Ok((acc, state))

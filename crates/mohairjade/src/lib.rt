@@ -85,6 +85,7 @@ pub use parallel_streams::Stream;
 pub use parallel_streams::StreamError;
 pub use parallel_streams::container_of;
 pub use parallel_streams::container_until;
+pub use parallel_streams::finish_on;
 pub use parallel_streams::fold_into;
 pub use parallel_streams::of;
 pub use parallel_streams::rows;

@@ -177,6 +177,7 @@ fn run_barrier<R: Threads + Clock + Sync, X: Plumbing, H: Gate + Sync>(
         engine.run.workers,
         engine.run.gate,
     )?;
+    engine.run.gate.goes_on()?;
     let after = stream.make_list(
         engine.alloc,
         progress,

@@ -126,14 +126,10 @@ fn list_leaves<R, X: Plumbing, H: Gate>(
     let nothing = Nothing::new();
     let gate = engine.run.gate;
     let mut list = list_for::<X::Item>(engine.alloc, stream.known_size());
-    if gate.is_halted() {
-        return Err(NoMemory);
-    }
+    gate.goes_on()?;
     gate.before_run(stream.leaves(progress));
     for leaf in 0..stream.leaves(progress) {
-        if gate.is_halted() {
-            return Err(NoMemory);
-        }
+        gate.goes_on()?;
         gate.before_leaf(0, leaf);
         let fed = stream.feed_last_leaf(engine.alloc, progress, &nothing, leaf, &mut list);
         gate.after_leaf(0, leaf);

@@ -21,7 +21,7 @@ pub use kept::{BarredProgress, Kept, Listed, end_before, end_own};
 pub use places::Places;
 pub use plumbing::Plumbing;
 pub use run::{MapError, Run, StreamError};
-pub use segments::{container_of, container_until, fold_into};
+pub use segments::{container_of, container_until, finish_on, fold_into};
 pub use source::{Source, SourceProgress, of, rows};
 pub use staged::Staged;
 pub use stream::Stream;

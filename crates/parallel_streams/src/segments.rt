@@ -161,6 +161,7 @@ where
         )?;
         let (after, acc) = collect_segment(&own, stream, next, collector)?;
         progress = after;
+        engine.run.gate.goes_on()?;
         combine_containers(collector, &mut whole, acc)?;
     }
     Ok((progress, whole))
@@ -210,7 +211,27 @@ where
         → OnOk result (made (before ++ X.value stream.now) whole.new) }
 {
     let behind = container_of(engine, stream, collector)?;
+    engine.run.gate.goes_on()?;
     combine_containers(collector, whole, behind)
+}
+
+/// The result of a collector whose container has all items.
+///
+/// ```text
+/// let list = finish_on(&engine, &ToList::new(alloc), all)?;
+/// ```
+pub fn finish_on<R, C: Collector, H: Gate>(
+    engine: &Engine<'_, R, H>,
+    collector: &C,
+    acc: C::Acc,
+) -> Result<C::Out, NoMemory>
+    requires { C.ready collector.now }
+    ensures { let it = collector.now in
+        let made = IsContainerOf C.Item.is_value (C.content it) (C.empty it) (C.add it) in
+        (l : List C.Item.Content) → made l acc → IfOk result (C.gives it l) }
+{
+    engine.run.gate.goes_on()?;
+    finish_container(collector, acc)
 }
 
 // The container of the present segment's items, and whether it has a hit: an item that counts, where one is enough for the demand. It has all items then,
@@ -305,6 +326,7 @@ where
         let (after, acc, met) = search_segment(&own, stream, next, demand, collector)?;
         progress = after;
         is_hit = met;
+        engine.run.gate.goes_on()?;
         combine_containers(collector, &mut whole, acc)?;
     }
     Ok((progress, whole, true))
@@ -350,7 +372,7 @@ pub fn first_item<R: Threads + Clock + Sync, X: Plumbing, H: Gate + Sync>(
 {
     let first = First::<X::Item>::new();
     let (_, acc, _) = search(engine, stream, &Total::new(1), &first)?;
-    finish_container(&first, acc)
+    finish_on(engine, &first, acc)
 }
 
 /// Whether some item counts, where one is enough for the demand: whether the run of a segment was cut. Each item is asked once at most, and the

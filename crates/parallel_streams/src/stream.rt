@@ -15,11 +15,11 @@ ghost use Rattle.parallel_streams.specs.Terminals.{any_meets, all_meet, IsLeftId
 use crate::barred::Barred;
 use crate::contrary::Contrary;
 use crate::evaluate::evaluate;
-use crate::segments::{container_of, first_item, some_counts};
+use crate::segments::{container_of, finish_on, first_item, some_counts};
 use crate::staged::Staged;
 use crate::{Engine, MapError, Plumbing, Run, StreamError};
 use barriers::{Distinct, DropWhile, FirstHit, Limit, Skip, TakeWhile};
-use collectors::{Collector, Counting, Reducing, ToMapStrict, finish_container};
+use collectors::{Collector, Counting, Reducing, ToMapStrict};
 use indexmap::IndexMap;
 use spliterator::{EqualValue, NoMemory, OrderedValue};
 use stages::{Filter, FlatMap, ListValue, Map, Mapping, Operator, Stage, Test};
@@ -167,7 +167,7 @@ pub trait Stream: Plumbing + Sized {
         ensures value { IfOk result (C.gives collector.now (Self.value self.now)) }
     {
         let acc = container_of(engine, self, collector)?;
-        finish_container(collector, acc)
+        finish_on(engine, collector, acc)
     }
 
     /// The number of items, as an `i64` that wraps. Where it is known no leaf runs, and no memory is taken.
@@ -276,7 +276,7 @@ pub trait Stream: Plumbing + Sized {
     {
         let reducing = Reducing::new(operator);
         let acc = container_of(engine, self, &reducing)?;
-        match finish_container(&reducing, acc)? {
+        match finish_on(engine, &reducing, acc)? {
             Some(joined) => Ok(joined),
             None => Ok(identity),
         }
@@ -328,6 +328,7 @@ pub trait Stream: Plumbing + Sized {
     {
         let engine = Engine::new(rt, alloc, run)?;
         let ended = evaluate(&engine, self, collector)?;
+        engine.run.gate.goes_on()?;
         let value = collector.finish(ended.acc)?;
         Ok((value, RunReport::of(ended.entries)))
     }

@@ -4,7 +4,7 @@ use crate::{Answer, Failure, Host};
 use clap::ArgMatches;
 use mohairjade::{GatePair, Looks, Meter, Timeline};
 use std::fs;
-use std::io::Write;
+use std::io::{self, BufWriter, Write};
 use std::rt::Files;
 use std::time::Clock;
 
@@ -62,10 +62,10 @@ impl<'a, R: Host + Files + Clock> Watch<'a, R> {
         if let Some(meter) = &gate.first {
             meter.finish();
         }
-        let (Some((mut file, name)), Some(timeline)) = (picture, &gate.second) else {
+        let (Some((file, name)), Some(timeline)) = (picture, &gate.second) else {
             return answer;
         };
-        match (write!(file, "{timeline}"), answer) {
+        match (draw(rt, file, timeline), answer) {
             (Err(error), Ok(Answer { text, fault: None })) => Ok(Answer {
                 text,
                 fault: Some(failed(rt.alloc(), &name, error)),
@@ -77,4 +77,15 @@ impl<'a, R: Host + Files + Clock> Watch<'a, R> {
             (Ok(()), answer) => answer,
         }
     }
+}
+
+/// Writes a timeline's picture to a file, in blocks.
+fn draw<R: Host + Files + Clock>(
+    rt: &R,
+    file: R::File,
+    timeline: &Timeline<'_, R>,
+) -> io::Result<()> {
+    let mut writer = BufWriter::new(rt.alloc(), file)?;
+    write!(writer, "{timeline}")?;
+    writer.flush()
 }

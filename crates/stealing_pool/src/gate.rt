@@ -1,5 +1,7 @@
 //! Calls around each leaf that is run.
 
+use spliterator::NoMemory;
+
 /// Is told of each leaf that a worker runs: before it begins, and after it has ended. Tests hold workers by it.
 pub trait Gate {
     /// A run over so many leaves, numbered from 0, begins.
@@ -9,9 +11,22 @@ pub trait Gate {
 
     fn after_leaf(&self, worker: u32, leaf: usize);
 
-    /// Whether the run is to end with no value, as if memory were refused. It is asked before each leaf, and after each 1,024 items within one.
+    /// A worker read 1,024 items more of a leaf.
+    fn after_stretch(&self) {}
+
+    /// Whether the run is to end with no value, as if memory were refused. It is asked before each run, leaf, combination,
+    /// barrier's pass, sort, making of keys and finish of a container, and after each 1,024 items of a leaf.
     fn is_halted(&self) -> bool {
         false
+    }
+
+    /// Refuses to go on where the run is to end.
+    final fn goes_on(&self) -> Result<(), NoMemory> {
+        if self.is_halted() {
+            Err(NoMemory)
+        } else {
+            Ok(())
+        }
     }
 
     /// Whether it may hold a worker until another one comes. Then all workers start at once, and else the first begins alone.

@@ -1,6 +1,10 @@
-//! A board beside a gate that may end the run.
+//! A board, and a job, beside a gate that may end the run.
 use crate::gate::Gate;
+use crate::job::LeafJob;
+use barriers::Need;
 use leaf_board::{Draw, Handout};
+use leaf_reading::LeafEnd;
+use spliterator::NoMemory;
 
 /// A board, and the gate that tells whether the run is to end.
 #[derive(Drop)]
@@ -66,11 +70,54 @@ impl<B: Handout, H: Gate> Handout for Halting<'_, '_, B, H> {
         self.board.skip(seat, pass)
     }
 
+    // A leaf asks after each stretch.
     fn is_halted(&self) -> bool {
+        self.gate.after_stretch();
         self.gate.is_halted()
     }
 
     fn give_up(&self, seat: &mut B::Seat, pass: B::Pass) {
         self.board.give_up(seat, pass);
+    }
+}
+
+/// A job, and the gate that is asked before each combination.
+#[derive(Drop)]
+pub(crate) struct HaltingJob<'a, 'b, J, H> {
+    pub(crate) job: &'a J,
+    pub(crate) gate: &'b H,
+}
+
+impl<J: LeafJob, H: Gate> LeafJob for HaltingJob<'_, '_, J, H> {
+    type Kept = J::Kept;
+
+    ghost ready = { λ h. J.ready h.job.now };
+
+    ghost work = { λ h. J.work h.job.now };
+
+    fn leaves(&self) -> usize {
+        self.job.leaves()
+    }
+
+    fn need(&self) -> Need {
+        self.job.need()
+    }
+
+    fn run_leaf<B: Handout>(
+        &self,
+        board: &B,
+        seat: &mut B::Seat,
+        leaf: usize,
+    ) -> Result<LeafEnd<J::Kept>, NoMemory> {
+        self.job.run_leaf(board, seat, leaf)
+    }
+
+    fn combine(&self, left: &mut J::Kept, right: J::Kept) -> Result<(), NoMemory> {
+        self.gate.goes_on()?;
+        self.job.combine(left, right)
+    }
+
+    fn is_light(&self, kept: &J::Kept) -> bool {
+        self.job.is_light(kept)
     }
 }

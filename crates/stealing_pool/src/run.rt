@@ -9,6 +9,7 @@ use crate::combine::combine_row;
 use crate::crew::run_workers;
 use crate::gate::Gate;
 use crate::gather::{pick_row, sort_shifts};
+use crate::halting::HaltingJob;
 use crate::job::LeafJob;
 use crate::worker::{Crew, Shift};
 use leaf_board::LeafBoard;
@@ -69,9 +70,7 @@ where
     ensures stands { IfOk result (λ g. StandsForRun (J.work job.now) g.kept) }
 {
     let Opened { board, seats } = opened;
-    if gate.is_halted() {
-        return Err(NoMemory);
-    }
+    gate.goes_on()?;
     gate.before_run(job.leaves());
     let crew = Crew {
         alloc,
@@ -89,6 +88,7 @@ where
     let (seats, places) = sort_shifts(alloc, job.leaves(), shifts)?;
     let record = board.close(seats);
     let row = pick_row(alloc, job, places)?;
-    let kept = combine_row(rt, job, tree, workers, row)?;
+    let halting = HaltingJob { job, gate };
+    let kept = combine_row(rt, &halting, tree, workers, row)?;
     Ok(Closed { kept, record })
 }

@@ -14,10 +14,12 @@ use crate::first_sorted::FirstSorted;
 use crate::keys::{with_keys, without_keys};
 use crate::ordering::{promise_contents, sort_list, sort_pairs};
 use barriers::FirstHit;
-use collectors::{Collector, Joining, ToList, finish_container};
+use collectors::{Collector, Joining, ToList};
 use derived_collectors::{BestByKey, Decides, Deciding, ToSet};
 use indexmap::IndexSet;
-use parallel_streams::{Engine, Plumbing, Stream, container_of, container_until, fold_into};
+use parallel_streams::{
+    Engine, Plumbing, Stream, container_of, container_until, finish_on, fold_into,
+};
 use spliterator::{EqualValue, NoMemory, SortedValue, Text};
 use stages::{Mapping, Max, Min, Sink};
 use std::hash::Hash;
@@ -189,7 +191,7 @@ pub trait Terminals: Stream {
     {
         let demand = FirstHit::new(Decides { collector });
         let (acc, _) = container_until(engine, self, &demand, collector)?;
-        finish_container(collector, acc)
+        finish_on(engine, collector, acc)
     }
 
     /// The texts one behind the other, with the delimiter between neighbours.
@@ -262,6 +264,7 @@ pub trait Terminals: Stream {
         if tells_sorted(self) {
             return Ok(list);
         }
+        engine.run.gate.goes_on()?;
         sort_list(engine.rt, engine.alloc, engine.run.workers, &mut list)?;
         promise_contents(&list);
         Ok(list)
@@ -291,7 +294,9 @@ pub trait Terminals: Stream {
             IfOk result (λ list. sorted (map Self.Item.content list.items)) }
     {
         let items = self.to_list(engine)?;
+        engine.run.gate.goes_on()?;
         let mut pairs = with_keys(engine.alloc, key, items)?;
+        engine.run.gate.goes_on()?;
         sort_pairs(engine.rt, engine.alloc, engine.run.workers, &mut pairs)?;
         Ok(without_keys(engine.alloc, key, pairs)?)
     }
@@ -344,7 +349,7 @@ pub trait Terminals: Stream {
     {
         let mut whole = container_of(engine, self, collector)?;
         fold_into(engine, second, collector, &mut whole)?;
-        finish_container(collector, whole)
+        finish_on(engine, collector, whole)
     }
 }
 

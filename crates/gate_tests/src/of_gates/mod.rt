@@ -1,5 +1,6 @@
 //! Runs that are stopped, and how soon.
 
+mod asked;
 mod doubles;
 mod progress;
 mod shown;

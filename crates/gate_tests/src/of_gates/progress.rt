@@ -10,7 +10,7 @@ use stream_functions::Itself;
 
 /// Looks, the milliseconds of the clock a reading, leaves of one item, how often a meter tells of one worker's run over them, and its first and third
 /// text. A line comes for each tenth, and reads the clock once, as the beginning of the meter and of the run do. A bar comes each 100 ms of the clock,
-/// which is read for each leaf twice and for each drawing, and at the end, with a line feed.
+/// which is read for each leaf and for each drawing, and at the end, with a line feed.
 static TOLD: [(Looks, u64, i64, u64, &str, &str); 5] = [
     (
         Looks::Lines,
@@ -47,10 +47,10 @@ static TOLD: [(Looks, u64, i64, u64, &str, &str); 5] = [
     (
         Looks::Bar,
         1,
-        128,
+        256,
         4,
-        "\rrun 1: 49 of 128 leaves, 0 items, 0 a second, 1 s left\x1b[K",
-        "\rrun 1: 128 of 128 leaves, 0 items, 0 a second\x1b[K",
+        "\rrun 1: 99 of 256 leaves, 0 items, 0 a second, 1 s left\x1b[K",
+        "\rrun 1: 256 of 256 leaves, 0 items, 0 a second\x1b[K",
     ),
 ];
 

@@ -58,19 +58,19 @@ returns-then-block-clause-value g c =
     let all = g.I.Read.remaining c.args.lines.reader in
     let left = prepend_known c.loop.blocks.rest.items (g.I.Read.remaining c.loop.blocks.reader) in
     let taken : g.row.C-Acc.Denot × g.row.Q-State.Denot = (c.in_ok-whole.whole, c.in_ok-whole._state) in
-    last-given way made (g.C.Collector.gives c.args.collector.now) c.in_ok-finish_container.field-0 taken (g.met.Q.Between.of_nothing own.barriers own.between taken.1) c.in_ok-finish_container.ensures
+    last-given way made (g.C.Collector.gives c.args.collector.now) c.in_ok-finish_on.field-0 taken (g.met.Q.Between.of_nothing own.barriers own.between taken.1) c.in_ok-finish_on.ensures
     all left (folded-more (taken_of way made) all ahead.0 left c.loop.taken taken (string_bytes c.loop.block.text) ahead.1 ahead.2 (c.in_ok-whole.ensures way.whole))
     (c.loop.invariant.last c.if-block.true)
 
 pub returns-then-is_over-clause-value : goal.returns-then-is_over-clause-value
 returns-then-is_over-clause-value g c =
     let own = c.args.lines.steps in
-    over-given (way g own) (made g c.args.collector.now) (g.C.Collector.gives c.args.collector.now) c.in_ok-finish_container-2.field-0 c.in_ok-more.more
-    (g.met.Q.Between.of_nothing own.barriers own.between c.in_ok-more.more.1) c.in_ok-finish_container-2.ensures (c.is_over.ensures c.if-is_over.true) _ _ (taken-in g (goal.at.returns-then-is_over-clause-value g c).In_ok-more)
+    over-given (way g own) (made g c.args.collector.now) (g.C.Collector.gives c.args.collector.now) c.in_ok-finish_on-2.field-0 c.in_ok-more.more
+    (g.met.Q.Between.of_nothing own.barriers own.between c.in_ok-more.more.1) c.in_ok-finish_on-2.ensures (c.is_over.ensures c.if-is_over.true) _ _ (taken-in g (goal.at.returns-then-is_over-clause-value g c).In_ok-more)
 
 pub returns-then-is_over-2-clause-value : goal.returns-then-is_over-2-clause-value
 returns-then-is_over-2-clause-value g c =
     let own = c.args.lines.steps in
-    decided-given (way g own) (made g c.args.collector.now) (g.C.Collector.gives c.args.collector.now) c.in_ok-finish_container-3.field-0 c.in_ok-more.more
-    (g.met.Q.Between.of_nothing own.barriers own.between c.in_ok-more.more.1) c.in_ok-finish_container-3.ensures (λ l r is told. c.is_over-in-loop.ensures c.if-is_over-2.true l r is.0 is.1 c.in_ok-finish_container-3.field-0 told)
+    decided-given (way g own) (made g c.args.collector.now) (g.C.Collector.gives c.args.collector.now) c.in_ok-finish_on-3.field-0 c.in_ok-more.more
+    (g.met.Q.Between.of_nothing own.barriers own.between c.in_ok-more.more.1) c.in_ok-finish_on-3.ensures (λ l r is told. c.is_over-in-loop.ensures c.if-is_over-2.true l r is.0 is.1 c.in_ok-finish_on-3.field-0 told)
     _ _ (taken-in g (goal.at.returns-then-is_over-2-clause-value g c).In_ok-more)

@@ -38,13 +38,13 @@ handed : (g : _) (c : In_ok-take_all-2 g) → IsFolded (taken_of (way g c.args.l
 handed g c =
     let ahead = c.loop.invariant.ahead in
     handed-more (way g c.args.lines.steps) g.K.Sink.takes g.met.K.Sink.takes_both c.args.action.now c.loop.action c.take_all-in-loop.new.self c.loop.state c.in_ok-more.more.1
-    c.in_ok-new_container.field-0 c.in_ok-more.more.0 _ ahead.0 _ (string_bytes c.loop.block.text) (map g.Z.Out.Value.content c.in_ok-finish_container-2.field-0.items) ahead.1 ahead.2
-    c.in_ok-more.ensures.worked c.in_ok-new_container.ensures c.in_ok-finish_container-2.ensures c.in_ok-take_all-2.ensures.taken
+    c.in_ok-new_container.field-0 c.in_ok-more.more.0 _ ahead.0 _ (string_bytes c.loop.block.text) (map g.Z.Out.Value.content c.in_ok-finish_on-2.field-0.items) ahead.1 ahead.2
+    c.in_ok-more.ensures.worked c.in_ok-new_container.ensures c.in_ok-finish_on-2.ensures c.in_ok-take_all-2.ensures.taken
 
 taken : (g : _) (c : In_ok-take_all-2 g) → (items : List g.row.Z-Out-Content.Denot) × g.K.Sink.takes c.args.action.now items c.take_all-in-loop.new.self
 taken g c =
     let so_far = c.loop.invariant.taken in
-    let items = map g.Z.Out.Value.content c.in_ok-finish_container-2.field-0.items in
+    let items = map g.Z.Out.Value.content c.in_ok-finish_on-2.field-0.items in
     (so_far.0 ++ items, g.met.K.Sink.takes_both c.args.action.now c.loop.action c.take_all-in-loop.new.self so_far.0 items so_far.1 c.in_ok-take_all-2.ensures.taken)
 
 pub loop-preserved : goal.loop-preserved
@@ -75,7 +75,7 @@ returns-then-block-clause-taken g c =
     let state = c.in_ok-whole._state in
     last-given way (g.K.Sink.takes from) (g.K.Sink.takes from) next (next, state) (g.met.Q.Between.of_nothing own.barriers own.between state) (λ l took. took) all left
     (handed-more way g.K.Sink.takes g.met.K.Sink.takes_both from c.loop.action next c.loop.state state c.in_ok-new_container.field-0 c.in_ok-whole.whole all ahead.0 left (string_bytes c.loop.block.text)
-    (map g.Z.Out.Value.content c.in_ok-finish_container.field-0.items) ahead.1 ahead.2 c.in_ok-whole.ensures c.in_ok-new_container.ensures c.in_ok-finish_container.ensures c.in_ok-take_all.ensures.taken)
+    (map g.Z.Out.Value.content c.in_ok-finish_on.field-0.items) ahead.1 ahead.2 c.in_ok-whole.ensures c.in_ok-new_container.ensures c.in_ok-finish_on.ensures c.in_ok-take_all.ensures.taken)
     (c.loop.invariant.last c.if-block.true)
 
 pub returns-then-is_over-clause-taken : goal.returns-then-is_over-clause-taken
@@ -105,11 +105,11 @@ take_all-requires-in-loop g c = ready g (goal.at.take_all-requires-in-loop g c).
 pub returns-in_err-more-clause-spoilt : goal.returns-in_err-more-clause-spoilt
 returns-in_err-more-clause-spoilt g c = on-err _ _ (unspoilt g (goal.at.returns-in_err-more-clause-spoilt g c).In-loop)
 
-pub returns-in_err-finish_container-clause-spoilt : goal.returns-in_err-finish_container-clause-spoilt
-returns-in_err-finish_container-clause-spoilt g c = on-err _ _ (unspoilt g (goal.at.returns-in_err-finish_container-clause-spoilt g c).In-loop)
+pub returns-in_err-finish_on-clause-spoilt : goal.returns-in_err-finish_on-clause-spoilt
+returns-in_err-finish_on-clause-spoilt g c = on-err _ _ (unspoilt g (goal.at.returns-in_err-finish_on-clause-spoilt g c).In-loop)
 
-pub returns-in_err-finish_container-2-clause-spoilt : goal.returns-in_err-finish_container-2-clause-spoilt
-returns-in_err-finish_container-2-clause-spoilt g c = on-err _ _ (unspoilt g (goal.at.returns-in_err-finish_container-2-clause-spoilt g c).In-loop)
+pub returns-in_err-finish_on-2-clause-spoilt : goal.returns-in_err-finish_on-2-clause-spoilt
+returns-in_err-finish_on-2-clause-spoilt g c = on-err _ _ (unspoilt g (goal.at.returns-in_err-finish_on-2-clause-spoilt g c).In-loop)
 
 pub returns-in_err-take_all-clause-spoilt : goal.returns-in_err-take_all-clause-spoilt
 returns-in_err-take_all-clause-spoilt g c =

@@ -14,5 +14,5 @@ returns g c =
           found-decided (g.C.Deciding.decisive it) made (C.gives it) (here.decided it)
           (g.C.Deciding.decisive c.new-demand.result.test.collector.now) (ap (λ t. g.C.Deciding.decisive t.collector.now) c.new-demand.ensures)
           (g.Self.Plumbing.value c.args.self.now) c.in_ok-acc.acc c.in_ok-acc.field-0-1 c.in_ok-acc.ensures.found
-          c.finish_container.result c.finish_container.ensures;
+          c.finish_on.result c.finish_on.ensures;
     }
