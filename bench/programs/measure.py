@@ -27,6 +27,8 @@ def commands(folder, name):
         yield "ours", workers, [ROOT / "crates" / name / "out" / name, "--workers", workers], {}
         yield "rayon", workers, [folder / "by_rayon/target/release" / name], {"RAYON_NUM_THREADS": workers}
         yield "Java", workers, ["java", "-cp", folder, name.capitalize(), "--workers", workers], {}
+        if name == "weblog":
+            yield "blocks by hand", workers, [folder / "by_rayon/target/release/weblog_blocks"], {"RAYON_NUM_THREADS": workers}
 
 
 def measured(words, variables, data, is_piped):
