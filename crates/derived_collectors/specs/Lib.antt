@@ -8,6 +8,7 @@ pub mod Scans
 pub mod ScanLaws
 pub mod Tried
 pub mod TriedLaws
+pub mod TakenLaws
 pub mod Decided
 pub mod FirstPlaces
 pub mod PlaceLaws

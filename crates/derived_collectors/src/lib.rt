@@ -19,6 +19,7 @@ mod summarizing;
 mod summing_exact;
 mod to_set;
 mod trying;
+mod up_to_error;
 mod whole;
 
 pub use best::Best;
@@ -36,4 +37,5 @@ pub use summarizing::{Summarizing, Summary};
 pub use summing_exact::SummingExact;
 pub use to_set::ToSet;
 pub use trying::Trying;
+pub use up_to_error::UpToError;
 pub use whole::Whole;

@@ -1,5 +1,5 @@
 -- What the lines of some bytes become, of a front and of what is left.
-use Rattle.std.specs.Prelude.{◌≡◌, ℕ, List, [], ◌∷◌, ◌++◌, map, flat_map, Option, Some, None, IfSome, refl}
+use Rattle.std.specs.Prelude.{◌≡◌, ℕ, List, [], ◌∷◌, ◌++◌, map, flat_map, Option, Some, None, Result, Ok, Err, IfOk, IfSome, refl}
 use Rattle.std.proofs.Common.{ap, sym, subst, ◌∙◌, append-nil, append_assoc}
 use Rattle.std.proofs.lemmas.List.{map-append}
 use Rattle.std.proofs.lemmas.List.Concat.{flat_map-append}
@@ -14,7 +14,7 @@ one-image f [] = refl
 one-image f (x ∷ l) = ap (λ m. f x ∷ m) (one-image f l)
 
 -- nothing was read yet
-known-first : (known : Option (List ℕ)) (rest : List ℕ) → rest ≡ [] → prepend_known rest known ≡ known
+pub known-first : (known : Option (List ℕ)) (rest : List ℕ) → rest ≡ [] → prepend_known rest known ≡ known
 known-first None rest none = refl
 known-first (Some xs) rest none = ap (λ l. Some (l ++ xs)) none
 
@@ -62,10 +62,8 @@ module _ {Y X W Z S C : Type 0} (way : Way Y X W Z S) (made : List Z → C → T
   taken_of lines = IsTaken made way.last way.whole way.behind (values_of way.image way.first lines)
 
   -- nothing was read yet
-  pub none-taken : (all left : Option (List ℕ)) (rest : List ℕ) (taken : C × S) → left ≡ all → rest ≡ [] → made [] taken.0
-      → ((more : List X) → way.behind taken.1 more ≡ way.whole more) → IsFolded taken_of all taken (prepend_known rest left)
-  none-taken all left rest taken same none begun fresh =
-      folded-none taken_of all (prepend_known rest left) taken (known-first left rest none ∙ same) (record { kept = []; in_acc = begun; on = λ more. sym (fresh more) })
+  pub none-taken : (all : Option (List ℕ)) (taken : C × S) → made [] taken.0 → ((more : List X) → way.behind taken.1 more ≡ way.whole more) → IsFolded taken_of all taken all
+  none-taken all taken begun fresh = folded-none taken_of all all taken refl (record { kept = []; in_acc = begun; on = λ more. sym (fresh more) })
 
   module _ {O : Type 0} (Gives : List Z → O → Type 0) (out : O) (taken : C × S) (nothing : way.behind taken.1 [] ≡ []) (finished : (l : List Z) → made l taken.0 → Gives l out) where
     abbrev given_of : List X → Type 0
@@ -108,16 +106,25 @@ module _ {Y X W Z S C : Type 0} (way : Way Y X W Z S) (made : List Z → C → T
         subst (λ l. Gives l out) (sym (ap (flat_map way.last) (is.on more) ∙ flat_map-append way.last is.kept rest))
         (decided now (flat_map way.last rest) is.in_acc (finished now is.in_acc)))
 
--- a sink that took what came, and then what a container has of one more block
-pub handed-more : {Y X W Z S A K : Type 0} (way : Way Y X W Z S) (Takes : K → List Z → K → Type 0) → ((a b c : K) (xs ys : List Z) → Takes a xs b → Takes b ys c → Takes a (xs ++ ys) c)
-    → {made : List Z → A → Type 0} (from now next : K) (state later : S) (begun acc : A) (known left after : Option (List ℕ)) (block : List ℕ) (handed : List Z)
-    → IsFolded (taken_of way (Takes from)) known (now, state) left → TakesBlock left block after
+-- what a container that was empty has of one more block
+pub one-block : {Y X W Z S A : Type 0} (way : Way Y X W Z S) {made : List Z → A → Type 0} (state later : S) (begun acc : A) (block : List ℕ) → made [] begun
     → ((whole : List X → List W) (l : List (List ℕ)) → IsTaken made way.last whole way.behind (values_of way.image way.first l) (begun, state)
     → IsTaken made way.last whole way.behind (values_of way.image way.first (l ++ text_lines block)) (acc, later))
-    → made [] begun → ((l : List Z) → made l acc → handed ≡ l) → Takes now handed next → IsFolded (taken_of way (Takes from)) known (next, later) after
-handed-more way Takes both from now next state later begun acc known left after block handed folded block_is worked empty finished takes =
-    let is = worked (way.behind state) [] (record { kept = []; in_acc = empty; on = λ more. refl }) in
-    let here = flat_map way.last is.kept in
-    let takes_here = subst (λ ys. Takes now ys next) (finished here is.in_acc) takes in
+    → IsTaken made way.last (way.behind state) way.behind (values_of way.image way.first (text_lines block)) (acc, later)
+one-block way state later begun acc block empty worked = worked (way.behind state) [] (record { kept = []; in_acc = empty; on = λ more. refl })
+
+-- a sink that took what came, and then that
+pub handed-more : {Y X W Z S A K : Type 0} (way : Way Y X W Z S) (Takes : K → List Z → K → Type 0) → ((a b c : K) (xs ys : List Z) → Takes a xs b → Takes b ys c → Takes a (xs ++ ys) c)
+    → {made : List Z → A → Type 0} (from now next : K) (state later : S) (acc : A) (known left after : Option (List ℕ)) (block : List ℕ)
+    → IsFolded (taken_of way (Takes from)) known (now, state) left → TakesBlock left block after
+    → IsTaken made way.last (way.behind state) way.behind (values_of way.image way.first (text_lines block)) (acc, later)
+    → ((l : List Z) → made l acc → Takes now l next) → IsFolded (taken_of way (Takes from)) known (next, later) after
+handed-more way Takes both from now next state later acc known left after block folded block_is came takes =
     folded-more (taken_of way (Takes from)) known left after (now, state) (next, later) block folded block_is
-    (λ l taken. taken-more way.image way.first l taken (text_lines block) is.kept next later is.on (λ zs came. both from now next zs here came takes_here))
+    (λ l taken. taken-more way.image way.first l taken (text_lines block) came.kept next later came.on (λ zs took. both from now next zs (flat_map way.last came.kept) took (takes (flat_map way.last came.kept) came.in_acc)))
+
+-- .. of a result that may be an error
+pub if-given : {O E Z : Type 0} {Gives : List Z → O → Type 0} {P : O → Type 0} (made : List Z → Type 0) (result : Result O E) → ((l : List Z) → made l → IfOk result (Gives l))
+    → ((out : O) → ((l : List Z) → made l → Gives l out) → P out) → IfOk result P
+if-given made (Ok out) finished from = from out finished
+if-given made (Err e) finished from = tt

@@ -21,3 +21,7 @@ same-value Gives (Err e) bytes same told = tt
 pub on-err : {V E : Type 0} (result : Result V E) (P : Type 0) → P → OnErr result P
 on-err (Ok x) P holds = tt
 on-err (Err e) P holds = holds
+
+pub if-some : {X : Type 0} {P Q : X → Type 0} (o : Option X) → ((x : X) → P x → Q x) → IfSome o P → IfSome o Q
+if-some None from told = tt
+if-some (Some x) from told = from x told

@@ -1,9 +1,11 @@
 //! Where the reading ends.
 ghost use Rattle.std.specs.Prelude.{◌≡◌, ◌++◌, List, All, true, fold};
 
+use crate::meeting::Meeting;
 use collectors::{Collector, First};
 use derived_collectors::Deciding;
 use spliterator::Value;
+use stages::Test;
 
 /// Whether a container's result is known, whatever follows.
 pub(crate) trait Ending<C: Collector> {
@@ -36,12 +38,18 @@ impl<C: Deciding> Ending<C> for OnceDecided {
     }
 }
 
-/// No line is read behind that of the first item.
+/// No line is read behind that of the first item, or the first that meets the test.
 #[derive(Drop)]
 pub(crate) struct OnceFound;
 
 impl<T: Value + Clone> Ending<First<T>> for OnceFound {
     fn is_over(&self, _collector: &First<T>, acc: &Option<T>) -> bool {
         acc.is_some()
+    }
+}
+
+impl<T: Value, P: Test<T>> Ending<Meeting<T, P>> for OnceFound {
+    fn is_over(&self, _collector: &Meeting<T, P>, acc: &bool) -> bool {
+        *acc
     }
 }

@@ -13,6 +13,7 @@ mod ending;
 mod line_function;
 mod lines;
 mod linked;
+mod meeting;
 mod reading;
 mod steps;
 mod stream;

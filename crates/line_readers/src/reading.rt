@@ -1,9 +1,10 @@
 //! One block is worked on while the next one is read.
-ghost use Rattle.std.specs.Prelude.{◌≡◌, ◌<◌, ◌++◌, ℕ, List, Option, true, IfOk, IfErr, IfSome, OnOk, OnErr, flat_map, string_bytes};
+ghost use Rattle.std.specs.Prelude.{◌≡◌, ◌<◌, ◌++◌, ℕ, List, [], All, Option, true, IfOk, IfErr, IfSome, OnOk, OnErr, flat_map, fold, map, string_bytes};
 ghost use Rattle.std.specs.Io.KnownBytes.{IsAtEnd, prepend_known};
 ghost use denote.Param.Send.{IsSend};
 ghost use Rattle.spliterator.specs.Clones.{ClonesAlike};
 ghost use Rattle.collectors.specs.Laws.{IsContainerOf};
+ghost use Rattle.collectors.specs.NestedLaws.{push};
 ghost use Rattle.sources.specs.Lines.{text_lines};
 ghost use Rattle.line_blocks.specs.Blocks.{TakesBlock};
 ghost use Rattle.line_blocks.specs.Faults.{StandsAt, IsFault};
@@ -11,12 +12,13 @@ ghost use Rattle.line_readers.specs.Values.{values_of, line_values, IsTaken};
 
 use crate::ending::Ending;
 use crate::steps::work;
-use crate::{Between, LineFunction, LineParts, LineSteps};
-use collectors::{Collector, ToList, new_container};
+use crate::{Between, LineFunction, LineSteps};
+use collectors::{Collector, Pieces, ToList, new_container};
 use line_blocks::{Block, LineBlocks, LinesError};
 use parallel_streams::{Engine, finish_on};
-use spliterator::NoMemory;
+use spliterator::{NoMemory, Value};
 use stages::{Sink, Stage};
+use std::alloc::Global;
 use std::io::Read;
 use std::thread::{Threads, join};
 use std::time::Clock;
@@ -132,21 +134,61 @@ where
     Ok((taken?, ahead))
 }
 
+/// The first block, and the reader behind it.
+fn read_first<I: Read + Drop>(
+    alloc: Global,
+    reader: I,
+    size: usize,
+    longest: usize,
+) -> Result<(LineBlocks<I>, Block), LinesError>
+    requires { 0 < size }
+    ensures block { IfOk result (λ r. TakesBlock (I.remaining reader) (string_bytes r.1.text)
+        (prepend_known r.0.rest.items (I.remaining r.0.reader))) }
+    ensures last { IfOk result (λ r. r.1.is_last ≡ true
+        → IsAtEnd (prepend_known r.0.rest.items (I.remaining r.0.reader))) }
+    ensures longest { IfOk result (λ r. r.0.longest ≡ longest) }
+    ensures stands { IfOk result (λ r.
+        StandsAt (I.remaining reader) (prepend_known r.0.rest.items (I.remaining r.0.reader)) r.0.place) }
+    ensures faults { IfErr result (IsFault longest (I.remaining reader)) }
+{
+    let blocks = LineBlocks::new(alloc, reader, size, longest);
+    let room = blocks.room(alloc)?;
+    read_ahead(blocks, room)
+}
+
+/// The result on the lines whose container this is.
+fn finish_lines<R, H: Gate, C: Collector>(
+    engine: &Engine<'_, R, H>,
+    collector: &C,
+    acc: C::Acc,
+) -> Result<C::Out, LinesError>
+    requires { C.ready collector.now }
+    ensures faults { (longest : ℕ) (all : Option (List ℕ)) → IfErr result (IsFault longest all) }
+    ensures value { let it = collector.now in
+        let made = IsContainerOf C.Item.is_value (C.content it) (C.empty it) (C.add it) in
+        (l : List C.Item.Content) → made l acc → IfOk result (C.gives it l) }
+{
+    Ok(finish_on(engine, collector, acc)?)
+}
+
 /// The result of a collector on what becomes of the lines that a reader has left. While one block is worked on, another thread reads the next one. What
 /// goes wrong in a block is told before what goes wrong behind it, and nothing of that where the reading is over.
 pub(crate) fn collect_lines<
     R: Threads + Clock + Sync,
     H: Gate + Sync,
     I: Read + Send + Drop,
-    F: LineFunction + Sync + Drop,
-    A: Stage<In = F::Out> + Sync + Drop,
-    Q: Between<In = A::Out> + Drop,
-    Z: Stage<In = Q::Out> + Sync + Drop,
+    F: LineFunction + Sync,
+    A: Stage<In = F::Out> + Sync,
+    Q: Between<In = A::Out>,
+    Z: Stage<In = Q::Out> + Sync,
     C: Collector<Item = Z::Out> + Sync,
     E: Ending<C>,
 >(
     engine: &Engine<'_, R, H>,
-    lines: LineParts<I, F, A, Q, Q::Stages, Z>,
+    reader: I,
+    size: usize,
+    longest: usize,
+    steps: &LineSteps<F, A, Q, Q::Stages, Z>,
     collector: &C,
     ending: &E,
 ) -> Result<C::Out, LinesError>
@@ -155,22 +197,20 @@ where
     Z::Out: Clone + Send + Sync,
     C::Acc: Send,
     C::Out: Send,
-    requires function { F.ready lines.steps.function }
-    requires first { A.ready lines.steps.first }
-    requires between { Q.ready lines.steps.barriers lines.steps.between }
-    requires last { Z.ready lines.steps.last }
+    requires size { 0 < size }
+    requires function { F.ready steps.now.function }
+    requires first { A.ready steps.now.first }
+    requires between { Q.ready steps.now.barriers steps.now.between }
+    requires last { Z.ready steps.now.last }
     requires collector { C.ready collector.now }
-    ensures faults { IfErr result (IsFault lines.longest (I.remaining lines.reader)) }
-    ensures value { let own = lines.steps in
+    ensures faults { IfErr result (IsFault longest (I.remaining reader)) }
+    ensures value { let own = steps.now in
         let items = line_values (F.image own.function) (A.expand own.first) in
         let value = λ (bytes : List ℕ). Q.value own.barriers own.between (items bytes) in
-        IfOk result (λ out. IfSome (I.remaining lines.reader)
+        IfOk result (λ out. IfSome (I.remaining reader)
         (λ bytes. C.gives collector.now (flat_map (Z.expand own.last) (value bytes)) out)) }
 {
-    let fresh = LineBlocks::new(engine.alloc, lines.reader, lines.size, lines.longest);
-    let steps = &lines.steps;
-    let room = fresh.room(engine.alloc)?;
-    let (mut blocks, mut block) = read_ahead(fresh, room)?;
+    let (mut blocks, mut block) = read_first(engine.alloc, reader, size, longest)?;
     let mut taken = (
         new_container(collector)?,
         steps.barriers.fresh(engine.alloc),
@@ -178,14 +218,14 @@ where
     for _ in 0..u64::MAX {
         if block.is_last {
             let (whole, _state) = work(engine, steps, collector, taken, block.text)?;
-            return Ok(finish_on(engine, collector, whole)?);
+            return finish_lines(engine, collector, whole);
         }
         let (more, ahead) = work_and_read(engine, blocks, steps, collector, taken, block.text)?;
         if steps.barriers.is_over(&steps.between, &more.1) {
-            return Ok(finish_on(engine, collector, more.0)?);
+            return finish_lines(engine, collector, more.0);
         }
         if ending.is_over(collector, &more.0) {
-            return Ok(finish_on(engine, collector, more.0)?);
+            return finish_lines(engine, collector, more.0);
         }
         let (behind, next) = ahead?;
         blocks = behind;
@@ -195,55 +235,76 @@ where
     Err(LinesError::TooLong)
 }
 
-/// Hands what becomes of the lines that a reader has left to a sink, block after block, while another thread reads the next one.
+/// Hands the items of a container to a sink.
+fn hand_list<R, H: Gate, T: Value + Clone + Drop, K: Sink<T>>(
+    engine: &Engine<'_, R, H>,
+    list: &ToList<T>,
+    acc: Pieces<T>,
+    action: &mut K,
+) -> Result<(), NoMemory>
+    requires { K.ready action.old }
+    ensures taken { (l : List T.Content) → All T.is_value l → map T.content acc ≡ fold push [] l
+        → OnOk result (K.takes action.old l action.new) }
+    ensures spoilt { OnErr result (K.spoils action.old action.new) }
+{
+    let mut items = finish_on(engine, list, acc)?;
+    action.take_all(&mut items)
+}
+
+/// Hands what becomes of the lines that a reader has left to a sink, block after block, while another thread reads the next one. The reading is over where
+/// the sink is full.
 pub(crate) fn hand_lines<
     R: Threads + Clock + Sync,
     H: Gate + Sync,
     I: Read + Send + Drop,
-    F: LineFunction + Sync + Drop,
-    A: Stage<In = F::Out> + Sync + Drop,
-    Q: Between<In = A::Out> + Drop,
-    Z: Stage<In = Q::Out> + Sync + Drop,
+    F: LineFunction + Sync,
+    A: Stage<In = F::Out> + Sync,
+    Q: Between<In = A::Out>,
+    Z: Stage<In = Q::Out> + Sync,
     K: Sink<Z::Out>,
 >(
     engine: &Engine<'_, R, H>,
-    lines: LineParts<I, F, A, Q, Q::Stages, Z>,
+    reader: I,
+    size: usize,
+    longest: usize,
+    steps: &LineSteps<F, A, Q, Q::Stages, Z>,
     action: &mut K,
 ) -> Result<(), LinesError>
 where
     A::Out: Clone + Send + Sync,
     Z::Out: Clone + Send + Sync,
-    requires function { F.ready lines.steps.function }
-    requires first { A.ready lines.steps.first }
-    requires between { Q.ready lines.steps.barriers lines.steps.between }
-    requires last { Z.ready lines.steps.last }
+    requires size { 0 < size }
+    requires function { F.ready steps.now.function }
+    requires first { A.ready steps.now.first }
+    requires between { Q.ready steps.now.barriers steps.now.between }
+    requires last { Z.ready steps.now.last }
     requires action { K.ready action.old }
     requires clones { ClonesAlike Z.Out.is_clone Z.Out.content }
-    ensures faults { IfErr result (IsFault lines.longest (I.remaining lines.reader)) }
-    ensures taken { let own = lines.steps in
+    ensures faults { IfErr result (IsFault longest (I.remaining reader)) }
+    ensures taken { let own = steps.now in
         let items = line_values (F.image own.function) (A.expand own.first) in
         let value = λ (bytes : List ℕ). Q.value own.barriers own.between (items bytes) in
-        OnOk result (IfSome (I.remaining lines.reader)
+        OnOk result (IfSome (I.remaining reader)
         (λ bytes. K.takes action.old (flat_map (Z.expand own.last) (value bytes)) action.new)) }
     ensures spoilt { OnErr result (K.spoils action.old action.new) }
 {
     let list = ToList::new(engine.alloc);
-    let fresh = LineBlocks::new(engine.alloc, lines.reader, lines.size, lines.longest);
-    let steps = &lines.steps;
-    let room = fresh.room(engine.alloc)?;
-    let (mut blocks, mut block) = read_ahead(fresh, room)?;
+    let (mut blocks, mut block) = read_first(engine.alloc, reader, size, longest)?;
     let mut state = steps.barriers.fresh(engine.alloc);
     for _ in 0..u64::MAX {
         let taken = (new_container(&list)?, state);
         if block.is_last {
             let (whole, _state) = work(engine, steps, &list, taken, block.text)?;
-            action.take_all(&mut finish_on(engine, &list, whole)?)?;
+            hand_list(engine, &list, whole, action)?;
             return Ok(());
         }
         let (more, ahead) = work_and_read(engine, blocks, steps, &list, taken, block.text)?;
         let (kept, later) = more;
-        action.take_all(&mut finish_on(engine, &list, kept)?)?;
+        hand_list(engine, &list, kept, action)?;
         if steps.barriers.is_over(&steps.between, &later) {
+            return Ok(());
+        }
+        if action.is_full() {
             return Ok(());
         }
         let (behind, next) = ahead?;

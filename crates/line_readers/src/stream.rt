@@ -1,12 +1,14 @@
 //! What is made of the lines of a reader.
-ghost use Rattle.std.specs.Prelude.{◌≡◌, ◌<◌, ◌^◌, ℕ, List, Option, flat_map, length, pos, option_map, IfOk, IfErr, IfSome, OnOk, OnErr, ⊤};
+ghost use Rattle.std.specs.Prelude.{◌≡◌, ◌<◌, ◌^◌, ℕ, List, Option, flat_map, length, pos, not, option_map, IfOk, IfErr, IfSome, OnOk, OnErr, ⊤};
 ghost use Rattle.spliterator.specs.Clones.{ClonesAlike};
 ghost use Rattle.stages.specs.Wrapping.{wrapped};
 ghost use Rattle.collectors.specs.Reductions.{first};
+ghost use Rattle.parallel_streams.specs.Terminals.{any_meets, all_meet};
 ghost use Rattle.line_blocks.specs.Faults.{IsFault};
 ghost use Rattle.line_readers.specs.Values.{line_values};
 
 use crate::ending::{AtTheEnd, OnceDecided, OnceFound};
+use crate::meeting::Meeting;
 use crate::reading::{collect_lines, hand_lines};
 use crate::{BarredLines, Between, LineFunction, LineParts};
 use barriers::{Distinct, DropWhile, Limit, Skip, TakeWhile};
@@ -20,6 +22,7 @@ use std::io::Read;
 use std::thread::Threads;
 use std::time::Clock;
 use stealing_pool::Gate;
+use stream_functions::Not;
 
 /// What becomes of the lines of a reader, which nobody has read yet.
 // java.util.stream.Stream; java.nio.file.Files, lines
@@ -154,7 +157,15 @@ pub trait LineStream: Sized {
             (λ bytes. C.gives collector.now (value bytes) out)) }
     {
         let lines = self.into_lines();
-        collect_lines(engine, lines, collector, &AtTheEnd)
+        collect_lines(
+            engine,
+            lines.reader,
+            lines.size,
+            lines.longest,
+            &lines.steps,
+            collector,
+            &AtTheEnd,
+        )
     }
 
     /// The same, where no more is read than the block behind one that decides the result. Nothing is told of what goes wrong there.
@@ -180,7 +191,15 @@ pub trait LineStream: Sized {
             (λ bytes. C.gives collector.now (value bytes) out)) }
     {
         let lines = self.into_lines();
-        collect_lines(engine, lines, collector, &OnceDecided)
+        collect_lines(
+            engine,
+            lines.reader,
+            lines.size,
+            lines.longest,
+            &lines.steps,
+            collector,
+            &OnceDecided,
+        )
     }
 
     /// The number of items, as an `i64` that wraps.
@@ -212,11 +231,80 @@ pub trait LineStream: Sized {
             (λ bytes. option_map Self.Item.content found ≡ first (value bytes))) }
     {
         let lines = self.into_lines();
-        collect_lines(engine, lines, &First::new(), &OnceFound)
+        collect_lines(
+            engine,
+            lines.reader,
+            lines.size,
+            lines.longest,
+            &lines.steps,
+            &First::new(),
+            &OnceFound,
+        )
+    }
+
+    /// Whether some item meets the test. No more is read than the block behind that of the first one.
+    // java.util.stream.Stream, anyMatch
+    final fn any_match_on<P: Test<Self::Item> + Sync>(
+        self,
+        engine: &Engine<'_, impl Threads + Clock + Sync, impl Gate + Sync>,
+        test: &P,
+    ) -> Result<bool, LinesError>
+        requires lines { Self.ready self }
+        requires test { P.ready test.now }
+        ensures faults { IfErr result (IsFault (Self.longest self) (Self.known self)) }
+        ensures value { let value = Self.value self in
+            IfOk result (λ met. IfSome (Self.known self)
+            (λ bytes. met ≡ any_meets (P.holds test.now) (value bytes))) }
+    {
+        let lines = self.into_lines();
+        collect_lines(
+            engine,
+            lines.reader,
+            lines.size,
+            lines.longest,
+            &lines.steps,
+            &Meeting::new(test),
+            &OnceFound,
+        )
+    }
+
+    /// Whether every item meets the test, as where there is no item. No more is read than the block behind that of the first one that doesn't.
+    // java.util.stream.Stream, allMatch
+    final fn all_match_on<P: Test<Self::Item> + Sync>(
+        self,
+        engine: &Engine<'_, impl Threads + Clock + Sync, impl Gate + Sync>,
+        test: &P,
+    ) -> Result<bool, LinesError>
+        requires lines { Self.ready self }
+        requires test { P.ready test.now }
+        ensures faults { IfErr result (IsFault (Self.longest self) (Self.known self)) }
+        ensures value { let value = Self.value self in
+            IfOk result (λ met. IfSome (Self.known self)
+            (λ bytes. met ≡ all_meet (P.holds test.now) (value bytes))) }
+    {
+        Ok(!self.any_match_on(engine, &Not(test))?)
+    }
+
+    /// Whether no item meets the test. No more is read than the block behind that of the first one that does.
+    // java.util.stream.Stream, noneMatch
+    final fn none_match_on<P: Test<Self::Item> + Sync>(
+        self,
+        engine: &Engine<'_, impl Threads + Clock + Sync, impl Gate + Sync>,
+        test: &P,
+    ) -> Result<bool, LinesError>
+        requires lines { Self.ready self }
+        requires test { P.ready test.now }
+        ensures faults { IfErr result (IsFault (Self.longest self) (Self.known self)) }
+        ensures value { let value = Self.value self in
+            IfOk result (λ met. IfSome (Self.known self)
+            (λ bytes. met ≡ not (any_meets (P.holds test.now) (value bytes)))) }
+    {
+        Ok(!self.any_match_on(engine, test)?)
     }
 
     /// Hands the items to a sink, in encounter order and in the caller's thread, those of a block as soon as they are made. Where there is an error,
-    /// the items before its block have been handed over.
+    /// the items before its block have been handed over. No more is read than the block behind one that fills the sink, and nothing is told of what goes
+    /// wrong there; a sink that is full before is handed nothing.
     ///
     /// ```text
     /// lines_of(log).map_lines(OwnLine { alloc }).filter(Failed).for_each_ordered(&engine, &mut list)?
@@ -236,6 +324,16 @@ pub trait LineStream: Sized {
         ensures spoilt { OnErr result (K.spoils action.old action.new) }
     {
         let lines = self.into_lines();
-        hand_lines(engine, lines, action)
+        if action.is_full() {
+            return Ok(());
+        }
+        hand_lines(
+            engine,
+            lines.reader,
+            lines.size,
+            lines.longest,
+            &lines.steps,
+            action,
+        )
     }
 }

@@ -49,6 +49,7 @@ pub use derived_collectors::Summary;
 pub use derived_collectors::SummingExact;
 pub use derived_collectors::ToSet;
 pub use derived_collectors::Trying;
+pub use derived_collectors::UpToError;
 pub use derived_collectors::Whole;
 pub use derived_collectors::averaging;
 pub use derived_collectors::grouping_by;

@@ -5,7 +5,7 @@ ghost use Rattle.reader_tests.specs.Checked.{checked, checked-value};
 
 use crate::slow::{ThreeBytes, fails_behind, slow};
 use collectors::{Counting, ToList};
-use derived_collectors::Trying;
+use derived_collectors::{Trying, UpToError};
 use line_blocks::LinesError;
 use line_readers::{LineFunction, LineStream, OwnLine, ReadLines, lines_of};
 use parallel_streams::{Engine, Run};
@@ -229,6 +229,90 @@ fn lines_are_handed_over_up_to_a_fault(rt: HostRuntime) -> Result<(), LinesError
             Err(LinesError::NoMemory) => return Err(LinesError::NoMemory),
             _ => assert!(&rt; are(&texts, wanted)),
         }
+    }
+    Ok(())
+}
+
+/// Bytes, the lines that are handed over before the first empty one, which has failed, and whether there is one. Nothing is told of what goes wrong behind.
+static TRIED: [(&[u8], &[&str], bool); 5] = [
+    (b"", &[], false),
+    (b"ab\nc", &["ab", "c"], false),
+    (b"\nab", &[], true),
+    (b"ab\nc\n\nd\n\ne", &["ab", "c"], true),
+    (b"ab\n\nc\nd\ne\nf\ng\nh\ni\n\xff", &["ab"], true),
+];
+
+/// Hands lines over, in blocks of four bytes, up to the first that has failed.
+fn hand_tried<R: Threads + Clock + Alloc<A = Global> + Sync>(
+    engine: &Engine<'_, R, NoGate>,
+    bytes: &[u8],
+    tried: &mut UpToError<'_, Vec<String>, String>,
+) -> Result<(), LinesError> {
+    let alloc = engine.alloc;
+    let lines = lines_of(slow(bytes)).in_blocks_of(4);
+    lines
+        .map_lines(Checked { alloc })
+        .for_each_ordered(engine, tried)
+}
+
+#[test]
+fn lines_are_handed_over_up_to_one_that_has_failed(rt: HostRuntime) -> Result<(), LinesError> {
+    let alloc = rt.alloc();
+    let engine = engine_of(&rt, 2);
+    for &(bytes, wanted, has_failed) in &TRIED {
+        let mut texts = Vec::new(alloc);
+        let mut tried = UpToError::new(&mut texts);
+        hand_tried(&engine, bytes, &mut tried)?;
+        if has_failed {
+            hand_tried(&engine, b"\xff", &mut tried)?;
+        }
+        assert!(&rt; tried.ended().is_err() == has_failed && are(&texts, wanted));
+    }
+    Ok(())
+}
+
+/// Bytes, and whether some, each and none of their lines is longer than one byte, in blocks of four bytes. Behind what decides all three no line is read.
+static MATCHED: [(&[u8], [bool; 3]); 5] = [
+    (b"", [false, true, true]),
+    (b"a\nb\n\nc\nd", [false, false, true]),
+    (b"bb\ncc\ndd", [true, true, false]),
+    (b"a\nb\nc\nd\ne\nff", [true, false, false]),
+    (b"a\nbb\nc\nd\ne\nf\ng\n\xff", [true, false, false]),
+];
+
+/// Lines, in blocks of four bytes.
+fn short_blocks(alloc: Global, bytes: &[u8]) -> ReadLines<ThreeBytes<'_>, OwnLine, Nothing<String>> {
+    let lines = lines_of(slow(bytes)).in_blocks_of(4);
+    lines.map_lines(OwnLine { alloc })
+}
+
+fn matched<R: Threads + Clock + Sync, L: LineStream<Item = String> + Drop>(
+    engine: &Engine<'_, R, NoGate>,
+    some: L,
+    each: L,
+    none: L,
+) -> Result<[bool; 3], LinesError>
+    requires some { L.ready some }
+    requires each { L.ready each }
+    requires none { L.ready none }
+{
+    let is_long = Composed(Length, Above(1));
+    Ok([
+        some.any_match_on(engine, &is_long)?,
+        each.all_match_on(engine, &is_long)?,
+        none.none_match_on(engine, &is_long)?,
+    ])
+}
+
+#[test]
+fn matches_read_no_more_than_decides(rt: HostRuntime) -> Result<(), LinesError> {
+    let alloc = rt.alloc();
+    let engine = engine_of(&rt, 4);
+    for &(bytes, wanted) in &MATCHED {
+        let some = short_blocks(alloc, bytes);
+        let each = short_blocks(alloc, bytes);
+        let told = matched(&engine, some, each, short_blocks(alloc, bytes))?;
+        assert!(&rt; told == wanted);
     }
     Ok(())
 }

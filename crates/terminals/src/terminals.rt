@@ -222,7 +222,7 @@ pub trait Terminals: Stream {
     /// ```
     ///
     /// The workers make the list of the items first: what a stage or a collector does in a run is seen by the value that it answers, so
-    /// an effect has its place behind the run. Where memory is refused, it has
+    /// an effect has its place behind the run. A sink that is full before is handed nothing, and nothing runs. Where memory is refused, it has
     /// been handed nothing or a front of the items, as it says itself of a refusal: a `Vec` has grown by that front.
     // java.util.stream.Stream, forEachOrdered
     final fn for_each_ordered<K: Sink<Self::Item>>(
@@ -236,6 +236,9 @@ pub trait Terminals: Stream {
         ensures taken { OnOk result (K.takes action.old (Self.value self.now) action.new) }
         ensures spoilt { OnErr result (K.spoils action.old action.new) }
     {
+        if action.is_full() {
+            return Ok(());
+        }
         let mut items = self.to_list(engine)?;
         action.take_all(&mut items)
     }

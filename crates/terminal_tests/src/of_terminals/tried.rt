@@ -3,7 +3,7 @@ ghost use Rattle.std.specs.Ordering.{int_eq, int_cmp};
 ghost use Rattle.spliterator.specs.Values.{IsI64, int_eq-decides, int_cmp-total, int_cmp-ties};
 
 use collectors::SummingLong;
-use derived_collectors::Trying;
+use derived_collectors::{Trying, UpToError};
 use parallel_streams::{Engine, Run, Stream, StreamError, of};
 use sources::SliceSplit;
 use spliterator::{NoMemory, OrderedValue, Value};
@@ -92,13 +92,30 @@ fn collected<R: Threads + Clock + Alloc<A = Global> + Sync>(
     Ok(found.map_err(|fault| fault.place))
 }
 
-/// Whether both tell this.
+// Whether the numbers in front of that place, or all, are handed over.
+fn are_handed<R: Threads + Clock + Alloc<A = Global> + Sync>(
+    engine: &Engine<'_, R, NoGate>,
+    items: &[Result<i64, Fault>],
+    wanted: Result<i64, i64>,
+) -> Result<bool, NoMemory> {
+    let mut values = Vec::new(engine.alloc);
+    let mut tried = UpToError::<_, Fault>::new(&mut values);
+    of(SliceSplit::new(items)).for_each_ordered(engine, &mut tried)?;
+    Ok(match tried.ended() {
+        Ok(()) => wanted.is_ok() && values.len() == items.len(),
+        Err(fault) => wanted == Err(fault.place) && values.len() as i64 == fault.place,
+    })
+}
+
+/// Whether each tells this.
 fn are_told<R: Threads + Clock + Alloc<A = Global> + Sync>(
     engine: &Engine<'_, R, NoGate>,
     items: &[Result<i64, Fault>],
     wanted: Result<i64, i64>,
 ) -> Result<bool, NoMemory> {
-    Ok(decided(engine, items)? == wanted && collected(engine, items)? == wanted)
+    Ok(decided(engine, items)? == wanted
+        && collected(engine, items)? == wanted
+        && are_handed(engine, items, wanted)?)
 }
 
 fn rows<R: Threads + Clock + Abort + Alloc<A = Global> + Sync>(

@@ -24,12 +24,12 @@ made g it = IsContainerOf g.Z.Out.Value.is_value (g.C.Collector.content it) (g.C
 -- what was taken in is in the container, and the block that was read ahead stands before what is left
 abbrev pub invariant-loop : goal.invariant-loop
 invariant-loop g l =
-    let taken = taken_of (way g l.fn.lines.steps) (made g l.collector) in
-    let all = g.I.Read.remaining l.fn.lines.reader in
+    let taken = taken_of (way g l.fn.steps.now) (made g l.collector) in
+    let all = g.I.Read.remaining l.fn.reader in
     let left = prepend_known l.blocks.rest.items (g.I.Read.remaining l.blocks.reader) in
     record {
       ahead : (before : Option (List ℕ)) × IsFolded taken all l.taken before × TakesBlock before (string_bytes l.block.text) left;
       stands : StandsAt all left l.blocks.place;
-      longest : l.blocks.longest ≡ l.fn.lines.longest;
+      longest : l.blocks.longest ≡ l.fn.longest;
       last : l.block.is_last ≡ true → IsAtEnd left;
     }

@@ -21,12 +21,12 @@ way g own = record {
 abbrev pub invariant-loop : goal.invariant-loop
 invariant-loop g l =
     let takes = g.K.Sink.takes l.initial.action in
-    let all = g.I.Read.remaining l.fn.lines.reader in
+    let all = g.I.Read.remaining l.fn.reader in
     let left = prepend_known l.blocks.rest.items (g.I.Read.remaining l.blocks.reader) in
     record {
-      ahead : (before : Option (List ℕ)) × IsFolded (taken_of (way g l.fn.lines.steps) takes) all (l.action, l.state) before × TakesBlock before (string_bytes l.block.text) left;
+      ahead : (before : Option (List ℕ)) × IsFolded (taken_of (way g l.fn.steps.now) takes) all (l.action, l.state) before × TakesBlock before (string_bytes l.block.text) left;
       taken : (items : List _) × takes items l.action;
       stands : StandsAt all left l.blocks.place;
-      longest : l.blocks.longest ≡ l.fn.lines.longest;
+      longest : l.blocks.longest ≡ l.fn.longest;
       last : l.block.is_last ≡ true → IsAtEnd left;
     }
