@@ -1,6 +1,6 @@
 -- What is told of a reader, in other words for the same.
-use Rattle.std.specs.Prelude.{◌≡◌, ℕ, List, Option, Some, None, Result, Ok, Err, IfOk, IfErr, IfSome, OnErr}
-use Rattle.std.proofs.Common.{subst}
+use Rattle.std.specs.Prelude.{◌≡◌, ℕ, Bool, not, List, Option, Some, None, Result, Ok, Err, IfOk, IfErr, IfSome, OnErr}
+use Rattle.std.proofs.Common.{ap, subst, ◌∙◌}
 use Rattle.line_blocks.specs.declared.error.LinesError.{LinesError}
 use Rattle.line_blocks.specs.Faults.{IsFault}
 
@@ -22,6 +22,6 @@ pub on-err : {V E : Type 0} (result : Result V E) (P : Type 0) → P → OnErr r
 on-err (Ok x) P holds = tt
 on-err (Err e) P holds = holds
 
-pub if-some : {X : Type 0} {P Q : X → Type 0} (o : Option X) → ((x : X) → P x → Q x) → IfSome o P → IfSome o Q
-if-some None from told = tt
-if-some (Some x) from told = from x told
+pub if-not : {X : Type 0} (o : Option X) (met : Bool) (f g : X → Bool) → ((x : X) → not (f x) ≡ g x) → IfSome o (λ x. met ≡ f x) → IfSome o (λ x. not met ≡ g x)
+if-not None met f g same told = tt
+if-not (Some x) met f g same told = ap not told ∙ same x

@@ -281,7 +281,10 @@ static MATCHED: [(&[u8], [bool; 3]); 5] = [
 ];
 
 /// Lines, in blocks of four bytes.
-fn short_blocks(alloc: Global, bytes: &[u8]) -> ReadLines<ThreeBytes<'_>, OwnLine, Nothing<String>> {
+fn short_blocks(
+    alloc: Global,
+    bytes: &[u8],
+) -> ReadLines<ThreeBytes<'_>, OwnLine, Nothing<String>> {
     let lines = lines_of(slow(bytes)).in_blocks_of(4);
     lines.map_lines(OwnLine { alloc })
 }

@@ -63,7 +63,7 @@ fn hand(
 fn the_values_in_front_of_the_first_error_are_handed_over(rt: HostRuntime) -> Result<(), NoMemory> {
     for &(items, number, wanted) in &HANDED {
         let (values, is_full, ended) = hand(rt.alloc(), items)?;
-        let front = items.iter().zip(values.as_slice());
+        let mut front = items.iter().zip(values.as_slice());
         assert!(&rt; values.len() == number && ended == wanted && is_full == wanted.is_err());
         assert!(&rt; front.all(|(item, value)| *item == Ok(*value)));
     }

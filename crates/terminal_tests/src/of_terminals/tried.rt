@@ -113,9 +113,11 @@ fn are_told<R: Threads + Clock + Alloc<A = Global> + Sync>(
     items: &[Result<i64, Fault>],
     wanted: Result<i64, i64>,
 ) -> Result<bool, NoMemory> {
-    Ok(decided(engine, items)? == wanted
-        && collected(engine, items)? == wanted
-        && are_handed(engine, items, wanted)?)
+    Ok(
+        decided(engine, items)? == wanted
+            && collected(engine, items)? == wanted
+            && are_handed(engine, items, wanted)?,
+    )
 }
 
 fn rows<R: Threads + Clock + Abort + Alloc<A = Global> + Sync>(

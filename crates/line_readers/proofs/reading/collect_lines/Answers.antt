@@ -59,7 +59,7 @@ pub returns-then-is_over-clause-value : goal.returns-then-is_over-clause-value
 returns-then-is_over-clause-value g c =
     let own = c.args.steps.now in
     let made = made g c.args.collector.now in
-    if-given (λ l. made l c.in_ok-more.more.0) c.finish_lines-in-loop.result c.finish_lines-in-loop.ensures.value (λ out finished.
+    if-given (λ l. made l c.in_ok-more.more.0) c.finish_lines-then-is_over.result c.finish_lines-then-is_over.ensures.value (λ out finished.
     over-given (way g own) made (g.C.Collector.gives c.args.collector.now) out c.in_ok-more.more
     (g.met.Q.Between.of_nothing own.barriers own.between c.in_ok-more.more.1) finished (c.is_over.ensures c.if-is_over.true) _ _ (taken-in g (goal.at.returns-then-is_over-clause-value g c).In_ok-more))
 
@@ -67,7 +67,7 @@ pub returns-then-is_over-2-clause-value : goal.returns-then-is_over-2-clause-val
 returns-then-is_over-2-clause-value g c =
     let own = c.args.steps.now in
     let made = made g c.args.collector.now in
-    if-given (λ l. made l c.in_ok-more.more.0) c.finish_lines-in-loop-2.result c.finish_lines-in-loop-2.ensures.value (λ out finished.
+    if-given (λ l. made l c.in_ok-more.more.0) c.finish_lines-then-is_over-2.result c.finish_lines-then-is_over-2.ensures.value (λ out finished.
     decided-given (way g own) made (g.C.Collector.gives c.args.collector.now) out c.in_ok-more.more
     (g.met.Q.Between.of_nothing own.barriers own.between c.in_ok-more.more.1) finished (λ l r is told. c.is_over-in-loop.ensures c.if-is_over-2.true l r is.0 is.1 out told)
     _ _ (taken-in g (goal.at.returns-then-is_over-2-clause-value g c).In_ok-more))

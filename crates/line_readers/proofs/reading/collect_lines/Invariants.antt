@@ -24,7 +24,7 @@ made g it = IsContainerOf g.Z.Out.Value.is_value (g.C.Collector.content it) (g.C
 -- what was taken in is in the container, and the block that was read ahead stands before what is left
 abbrev pub invariant-loop : goal.invariant-loop
 invariant-loop g l =
-    let taken = taken_of (way g l.fn.steps.now) (made g l.collector) in
+    let taken = taken_of (way g l.fn.steps) (made g l.collector) in
     let all = g.I.Read.remaining l.fn.reader in
     let left = prepend_known l.blocks.rest.items (g.I.Read.remaining l.blocks.reader) in
     record {

@@ -24,7 +24,7 @@ invariant-loop g l =
     let all = g.I.Read.remaining l.fn.reader in
     let left = prepend_known l.blocks.rest.items (g.I.Read.remaining l.blocks.reader) in
     record {
-      ahead : (before : Option (List ℕ)) × IsFolded (taken_of (way g l.fn.steps.now) takes) all (l.action, l.state) before × TakesBlock before (string_bytes l.block.text) left;
+      ahead : (before : Option (List ℕ)) × IsFolded (taken_of (way g l.fn.steps) takes) all (l.action, l.state) before × TakesBlock before (string_bytes l.block.text) left;
       taken : (items : List _) × takes items l.action;
       stands : StandsAt all left l.blocks.place;
       longest : l.blocks.longest ≡ l.fn.longest;
