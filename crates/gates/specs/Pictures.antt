@@ -19,7 +19,7 @@ abbrev pub bar : Option ℕ → ℕ → ℕ → List ℕ
 bar None begin end = []
 bar (Some cut) begin end = if nat_le begin cut && nat_lt cut end then codes "|" else []
 
--- the marks of the leaves from one on, each of so many leaves or of those that are left: no more than there is room for
+-- at most so many marks of the leaves from one on, each of `size` leaves or of those that are left
 abbrev pub marks : Outcome → ℕ → ℕ → ℕ → List ℕ
 marks run size begin zero = []
 marks run size begin (suc room) =
@@ -31,16 +31,16 @@ marks run size begin (suc room) =
 abbrev pub mark_size : ℕ → ℕ
 mark_size leaves = max (div_ceil leaves 64) 1
 
-abbrev pub counted_leaves : ℕ → List ℕ
-counted_leaves leaves = decimal leaves ++ (if leaves == 1 then codes " leaf" else codes " leaves")
+abbrev pub leaves_word : ℕ → List ℕ
+leaves_word leaves = if leaves == 1 then codes " leaf" else codes " leaves"
 
-abbrev pub marks_told : ℕ → List ℕ
-marks_told size = if nat_lt 1 size then codes " by " ++ decimal size else []
+abbrev pub size_told : ℕ → List ℕ
+size_told size = if nat_lt 1 size then codes " by " ++ decimal size else []
 
 -- the line of a run, which has a number
 abbrev pub line : ℕ → Outcome → List ℕ
 line number run =
-    codes "run " ++ (decimal number ++ (codes ", " ++ (counted_leaves run.leaves ++ (marks_told (mark_size run.leaves) ++ (codes ": " ++ (marks run (mark_size run.leaves) 0 64 ++ codes "\n"))))))
+    codes "run " ++ (decimal number ++ (codes ", " ++ (decimal run.leaves ++ (leaves_word run.leaves ++ (size_told (mark_size run.leaves) ++ (codes ": " ++ (marks run (mark_size run.leaves) 0 run.leaves ++ codes "\n")))))))
 
 -- the lines of runs, which are numbered from one number on
 abbrev pub lines : ℕ → List Outcome → List ℕ

@@ -1,8 +1,8 @@
 //! A row of leaves for each run, as text.
-ghost use Rattle.std.specs.Prelude.{◌≡◌, ◌×◌, ◌≤◌, ◌-◌, Some, is_some};
+ghost use Rattle.std.specs.Prelude.{◌≡◌, ◌≤◌, ◌-◌, Some, is_some};
 ghost use Rattle.std.specs.Fmt.{DisplaysOnOk};
 ghost use Rattle.leaf_board.specs.Closing.{count_of, cut_of};
-ghost use Rattle.gates.specs.Pictures.{bar, line, lines, mark, marks};
+ghost use Rattle.gates.specs.Pictures.{bar, leaves_word, line, lines, mark, marks, size_told};
 
 use std::fmt::{self, Display, Formatter, Write};
 use stealing_pool::{RunEntry, RunReport};
@@ -38,23 +38,37 @@ fn write_line<W: Write>(f: &mut Formatter<W>, number: usize, entry: &RunEntry) -
 {
     let leaves = entry.leaves();
     let size = leaves.div_ceil(MOST).max(1);
-    let word = if leaves == 1 { "leaf" } else { "leaves" };
-    write!(f, "run {number}, {leaves} {word}")?;
-    if size > 1 {
-        write!(f, " by {size}")?;
-    }
+    write!(f, "run {number}, {leaves}")?;
+    f.write_str(word_of(leaves))?;
+    write_size(f, size)?;
     f.write_str(": ")?;
     write_marks(f, entry, size)?;
     f.write_str("\n")
 }
 
-/// Writes the leaves of a run, a character so many.
+fn word_of(leaves: usize) -> &'static str
+    ensures { result.now ≡ leaves_word leaves }
+{
+    if leaves == 1 { " leaf" } else { " leaves" }
+}
+
+/// Writes how many leaves a character stands for, where it isn't one.
+fn write_size<W: Write>(f: &mut Formatter<W>, size: usize) -> fmt::Result
+    ensures { DisplaysOnOk W.write_str_gives f.old result (Some (size_told size)) f.new }
+{
+    if size > 1 {
+        write!(f, " by {size}")?;
+    }
+    Ok(())
+}
+
+/// Writes the leaves of a run, a character so many. There are no more characters than leaves.
 fn write_marks<W: Write>(f: &mut Formatter<W>, entry: &RunEntry, size: usize) -> fmt::Result
-    ensures { DisplaysOnOk W.write_str_gives f.old result (Some (marks entry.now size 0 64)) f.new }
+    ensures { DisplaysOnOk W.write_str_gives f.old result (Some (marks entry.now size 0 entry.now.leaves)) f.new }
 {
     let leaves = entry.leaves();
     let mut begin = 0;
-    let mut room = MOST;
+    let mut room = leaves;
     while begin < leaves && room > 0 {
         let end = begin.saturating_add(size).min(leaves);
         f.write_str(mark_of(entry, begin, end))?;
@@ -74,8 +88,8 @@ fn mark_of(entry: &RunEntry, begin: usize, end: usize) -> &'static str
     let mut none = true;
     for leaf in begin..end {
         let is_counted = entry.count(leaf).is_some();
-        all = all && is_counted;
-        none = none && !is_counted;
+        all &= is_counted;
+        none &= !is_counted;
     }
     match (all, none) {
         (true, _) => "#",
