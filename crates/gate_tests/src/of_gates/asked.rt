@@ -126,17 +126,17 @@ fn number_of<R: Threads + Clock + Sync, H: Gate + Sync, L: LineStream<Item = Str
 /// A moment so many readings of a clock behind the next one.
 fn moment(clock: &Ticks, readings: usize) -> Result<Instant, Fail> {
     let next = Instant::now(clock)?;
-    match next.checked_add(Duration::from_millis(readings as u64 + 1)) {
+    match next.checked_add(Duration::from_millis((readings as u64).saturating_add(1))) {
         Some(at) => Ok(at),
         None => Ok(next),
     }
 }
 
 /// Whether it was told as it should be: up to the end of what is asked a halt, with so many leaves begun as were asked for, and there the value.
-fn is_told<T: Copy + Eq>(
+fn is_told(
     until: &Until<'_, Deadline<'_, Ticks>, Counts>,
-    answer: Option<T>,
-    wanted: T,
+    answer: Option<i64>,
+    wanted: i64,
     asked: &str,
     place: usize,
 ) -> bool {
