@@ -5,6 +5,7 @@ ghost use Rattle.std.specs.String.{string_bytes};
 
 use spliterator::{NoMemory, Row, Value};
 use stages::{Mapping, Operator, Test};
+use std::alloc::Global;
 use std::test::Fail;
 use stream_functions::{
     Above, And, AsLong, Below, Cloned, Composed, Contains, Copied, Divided, Divisible, Divisor,
@@ -166,6 +167,11 @@ fn tests_behind_mappings(rt: HostRuntime) {
     assert!(rt; !holds(&Composed(Length, Above(3)), &"abc"));
 }
 
+fn are_pieces(alloc: Global, text: &str, wanted: &[&str]) -> Result<bool, NoMemory> {
+    let pieces = image(&Pieces::new(alloc, ','), &text)?;
+    Ok(pieces.as_slice() == wanted)
+}
+
 #[test]
 fn pieces_and_numbers_of_texts(rt: HostRuntime) -> Result<(), Fail> {
     for (text, separator, at, wanted) in [
@@ -180,18 +186,11 @@ fn pieces_and_numbers_of_texts(rt: HostRuntime) -> Result<(), Fail> {
         assert!(rt; image(&piece, &text)? == wanted, "{text} at {at}");
     }
     assert!(rt; image(&Piece::word(1), &"a bc d")? == "bc");
-    for (text, wanted) in [
-        ("to,,be", ["to", "", "be"]),
-        (",,", ["", "", ""]),
-        ("é,ü,", ["é", "ü", ""]),
-    ] {
-        let pieces = image(&Pieces::new(rt.alloc(), ','), &text)?;
-        assert!(rt; pieces.as_slice() == wanted.as_slice(), "{text}");
-    }
-    for text in ["", "to be"] {
-        let pieces = image(&Pieces::new(rt.alloc(), ','), &text)?;
-        assert!(rt; pieces.as_slice() == [text].as_slice(), "{text}");
-    }
+    let alloc = rt.alloc();
+    assert!(rt; are_pieces(alloc, "to,,be", &["to", "", "be"])? && are_pieces(alloc, "", &[""])?);
+    assert!(rt;
+        are_pieces(alloc, "é,ü,", &["é", "ü", ""])? && are_pieces(alloc, "to be", &["to be"])?
+    );
     for (text, wanted) in [
         ("7", Some(7)),
         ("-7", Some(-7)),
