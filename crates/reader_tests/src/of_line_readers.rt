@@ -10,7 +10,7 @@ use line_blocks::LinesError;
 use line_readers::{LineFunction, LineStream, OwnLine, ReadLines, lines_of};
 use parallel_streams::{Engine, Run};
 use spliterator::NoMemory;
-use stages::Nothing;
+use stages::{Nothing, Sink};
 use std::alloc::Global;
 use std::process::Abort;
 use std::thread::Threads;
@@ -255,18 +255,27 @@ fn hand_tried<R: Threads + Clock + Alloc<A = Global> + Sync>(
         .for_each_ordered(engine, tried)
 }
 
+/// Whether a line has failed. Once one has, nothing more is read.
+fn hand_over<R: Threads + Clock + Alloc<A = Global> + Sync>(
+    engine: &Engine<'_, R, NoGate>,
+    bytes: &[u8],
+    texts: &mut Vec<String>,
+) -> Result<bool, LinesError> {
+    let mut tried = UpToError::new(texts);
+    hand_tried(engine, bytes, &mut tried)?;
+    if tried.is_full() {
+        hand_tried(engine, b"\xff", &mut tried)?;
+    }
+    Ok(tried.ended().is_err())
+}
+
 #[test]
 fn lines_are_handed_over_up_to_one_that_has_failed(rt: HostRuntime) -> Result<(), LinesError> {
-    let alloc = rt.alloc();
     let engine = engine_of(&rt, 2);
     for &(bytes, wanted, has_failed) in &TRIED {
-        let mut texts = Vec::new(alloc);
-        let mut tried = UpToError::new(&mut texts);
-        hand_tried(&engine, bytes, &mut tried)?;
-        if has_failed {
-            hand_tried(&engine, b"\xff", &mut tried)?;
-        }
-        assert!(&rt; tried.ended().is_err() == has_failed && are(&texts, wanted));
+        let mut texts = Vec::new(rt.alloc());
+        let failed = hand_over(&engine, bytes, &mut texts)?;
+        assert!(&rt; failed == has_failed && are(&texts, wanted));
     }
     Ok(())
 }
