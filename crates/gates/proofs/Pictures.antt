@@ -15,10 +15,11 @@ and_assoc false answer rest = refl
 and_assoc true answer rest = refl
 
 -- what was asked so far, with the answer of the next leaf
-pub each_next : (such : ℕ → Bool) (so_far whole : Bool) (leaf end : ℕ) → leaf < end → (so_far && each_from such leaf (end - leaf)) ≡ whole
-    → ((so_far && such leaf) && each_from such (leaf + 1) (end - (leaf + 1))) ≡ whole
-each_next such so_far whole leaf end below is =
-    and_assoc so_far (such leaf) (each_from such (leaf + 1) (end - (leaf + 1))) ∙ ap (λ b. so_far && b) (sym (each_step such leaf end below)) ∙ is
+pub each_next : (such : ℕ → Bool) (so_far answer whole : Bool) (leaf end : ℕ) → leaf < end → answer ≡ such leaf → (so_far && each_from such leaf (end - leaf)) ≡ whole
+    → ((so_far && answer) && each_from such (leaf + 1) (end - (leaf + 1))) ≡ whole
+each_next such so_far answer whole leaf end below answer_is is =
+    and_assoc so_far answer (each_from such (leaf + 1) (end - (leaf + 1))) ∙ ap (λ b. so_far && (b && each_from such (leaf + 1) (end - (leaf + 1)))) answer_is
+    ∙ ap (λ b. so_far && b) (sym (each_step such leaf end below)) ∙ is
 
 -- What is to be written behind what was: so many marks from a leaf on, which are just enough for the leaves behind `begin`
 pub record AreLeft (run : Outcome) (size begin : ℕ) (done whole : List ℕ) : Type 0 where
@@ -60,7 +61,7 @@ module _ (run : Outcome) (size begin : ℕ) (done whole : List ℕ) where
   pub none_left : run.leaves ≤ begin → AreLeft run size begin done whole → done ≡ whole
   none_left past left = nothing_left left.first left.number past left.begins left.needed left.text
 
--- at the begin all marks of a row are left
+-- all marks of a row are left at first
 pub all_left : (run : Outcome) (size : ℕ) → 0 < size → AreLeft run size 0 [] (row run size)
 all_left run size some =
     let bounds = div_ceil_times run.leaves size some in
