@@ -1,7 +1,8 @@
 //! A caller's function that refuses memory. A leaf right of what is wanted may then turn the answer into `NoMemory`, never into another value.
 
-use super::answers::{check, first_of, numbers, same, sum_of};
-use super::at;
+use super::answers::{check, first_of, same, sum_of};
+use super::streams::{Streams, numbers};
+use super::{Case, at, run_test};
 use parallel_streams::{Run, Stream, StreamError};
 use spliterator::NoMemory;
 use stages::Mapping;
@@ -45,15 +46,23 @@ fn check_met<
     check(rt, is_met, true).and(check(rt, found, Some(first)))
 }
 
+/// The first of ten numbers.
+pub fn check_firsts<R: Threads + Clock + Abort + Alloc<A = Global> + Sync, S: Streams>(
+    rt: &R,
+    streams: &S,
+) -> Result<(), StreamError> {
+    for &(target, first) in &FIRSTS {
+        check_met(rt, &at((1, target)), numbers(rt, streams, 0, 10), first)?;
+    }
+    Ok(())
+}
+
 // With one worker nothing behind the first item is asked for, in its own leaf neither; and of a match nothing behind the first hit.
 #[test]
 fn one_worker_reads_nothing_behind_the_first_item_or_hit(
     rt: HostRuntime,
 ) -> Result<(), StreamError> {
-    for &(target, first) in &FIRSTS {
-        check_met(&rt, &at((1, target)), numbers(&rt, 0, 10), first)?;
-    }
-    Ok(())
+    run_test(&rt, Case::OneWorkerReadsNothingBehind)
 }
 
 // The first of ten numbers, where memory is refused at 7, so that their sum wants memory.
@@ -68,15 +77,23 @@ fn refused<
     first_of(rt, run, &ten)
 }
 
+/// The first of ten numbers, right of which memory is refused.
+pub fn check_refused<R: Threads + Clock + Abort + Alloc<A = Global> + Sync, S: Streams>(
+    rt: &R,
+    streams: &S,
+) -> Result<(), StreamError> {
+    let of_seven = refused(rt, &at((7, 1)), numbers(rt, streams, 0, 10));
+    if of_seven != Err(StreamError::NoMemory) {
+        same(rt, of_seven, Ok(Some(0)));
+    }
+    let of_one = refused(rt, &at((1, 1)), numbers(rt, streams, 0, 10));
+    check(rt, of_one, Some(0))
+}
+
 // With one worker no leaf right of what is wanted runs; with seven one may.
 #[test]
 fn a_refusal_right_of_the_first_item_gives_no_other_item(
     rt: HostRuntime,
 ) -> Result<(), StreamError> {
-    let of_seven = refused(&rt, &at((7, 1)), numbers(&rt, 0, 10));
-    if of_seven != Err(StreamError::NoMemory) {
-        same(&rt, of_seven, Ok(Some(0)));
-    }
-    let of_one = refused(&rt, &at((1, 1)), numbers(&rt, 0, 10));
-    check(&rt, of_one, Some(0))
+    run_test(&rt, Case::RefusalRightOfFirst)
 }
