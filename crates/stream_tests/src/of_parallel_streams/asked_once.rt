@@ -1,8 +1,9 @@
 //! How often a caller's functions are asked.
 ghost use Rattle.std.specs.Prelude.{int_lt};
 
-use super::answers::{check, check_list, counted, listed, same};
+use super::answers::{Reported, check, check_list, counted, listed, same};
 use super::functions::Copies;
+use super::rows::front;
 use super::streams::{Streams, numbers};
 use super::{Case, SETTINGS, at, run_test};
 use parallel_streams::{Run, Stream, StreamError};
@@ -51,25 +52,13 @@ impl Test<i64> for Under<'_> {
     }
 }
 
-/// How often the functions before a barrier and the one behind it were asked.
-#[derive(Drop)]
-struct Asked {
-    mapped: AtomicU64,
-    tested: AtomicU64,
-    behind: AtomicU64,
+/// How often a function was asked: a number that begins anew.
+fn times(asked: &AtomicU64) -> u64 {
+    asked.swap(0, Ordering::SeqCst)
 }
 
-/// These numbers, which begin anew.
-fn times(asked: &Asked) -> [u64; 3] {
-    [
-        asked.mapped.swap(0, Ordering::SeqCst),
-        asked.tested.swap(0, Ordering::SeqCst),
-        asked.behind.swap(0, Ordering::SeqCst),
-    ]
-}
-
-// The images of numbers.
-fn images<R: Threads + Clock + Alloc<A = Global> + Sync, X: Stream<Item = i64> + Drop + Sync>(
+// Of some numbers those that are below five.
+fn below_five<R: Threads + Clock + Alloc<A = Global> + Sync, X: Stream<Item = i64> + Drop + Sync>(
     rt: &R,
     run: &Run<'_, NoGate>,
     numbers: X,
@@ -77,7 +66,7 @@ fn images<R: Threads + Clock + Alloc<A = Global> + Sync, X: Stream<Item = i64> +
 ) -> Result<Vec<i64>, StreamError>
     requires { X.ready numbers }
 {
-    listed(rt, run, &numbers.map(Itself { asked }))
+    listed(rt, run, &numbers.filter(Under { bound: 5, asked }))
 }
 
 // .. of those behind the first two.
@@ -89,59 +78,48 @@ fn behind_two<R: Threads + Clock + Alloc<A = Global> + Sync, X: Stream<Item = i6
 ) -> Result<Vec<i64>, StreamError>
     requires { X.ready numbers }
 {
-    images(rt, run, numbers.skip(2), asked)
-}
-
-// .. of those of them that are below five.
-fn below_five<R: Threads + Clock + Alloc<A = Global> + Sync, X: Stream<Item = i64> + Drop + Sync>(
-    rt: &R,
-    run: &Run<'_, NoGate>,
-    numbers: X,
-    asked: &Asked,
-) -> Result<Vec<i64>, StreamError>
-    requires { X.ready numbers }
-{
-    let tested = numbers.filter(Under {
-        bound: 5,
-        asked: &asked.tested,
-    });
-    behind_two(rt, run, tested, &asked.behind)
-}
-
-// The numbers 2, 3 and 4 of five, behind two functions, a barrier and another function.
-fn three_of_five<
-    R: Threads + Clock + Alloc<A = Global> + Sync,
-    X: Stream<Item = i64> + Drop + Sync,
->(rt: &R, run: &Run<'_, NoGate>, numbers: X, asked: &Asked) -> Result<Vec<i64>, StreamError>
-    requires { X.ready numbers }
-{
-    let mapped = numbers.map(Itself {
-        asked: &asked.mapped,
-    });
-    below_five(rt, run, mapped, asked)
+    below_five(rt, run, numbers.skip(2), asked)
 }
 
 // The first 5,000 numbers.
-fn front<R: Threads + Clock + Alloc<A = Global> + Sync, X: Stream<Item = i64> + Drop + Sync>(
-    rt: &R,
-    run: &Run<'_, NoGate>,
-    numbers: X,
-) -> Result<Vec<i64>, StreamError>
+fn first_of_many<
+    R: Threads + Clock + Alloc<A = Global> + Sync,
+    X: Stream<Item = i64> + Drop + Sync,
+>(rt: &R, run: &Run<'_, NoGate>, numbers: X) -> Result<Vec<i64>, StreamError>
     requires { X.ready numbers }
 {
     listed(rt, run, &numbers.limit(5_000))
 }
 
-// The first 5,000 images of numbers.
-fn front_of<R: Threads + Clock + Alloc<A = Global> + Sync, X: Stream<Item = i64> + Drop + Sync>(
+// The first 5,000 numbers, or those below five behind the first two.
+fn front_or_rest<
+    R: Threads + Clock + Alloc<A = Global> + Sync,
+    X: Stream<Item = i64> + Drop + Sync,
+>(
+    rt: &R,
+    run: &Run<'_, NoGate>,
+    numbers: X,
+    behind: Option<&AtomicU64>,
+) -> Result<Vec<i64>, StreamError>
+    requires { X.ready numbers }
+{
+    match behind {
+        Some(asked) => behind_two(rt, run, numbers, asked),
+        None => first_of_many(rt, run, numbers),
+    }
+}
+
+// .. of the images of numbers.
+fn of_images<R: Threads + Clock + Alloc<A = Global> + Sync, X: Stream<Item = i64> + Drop + Sync>(
     rt: &R,
     run: &Run<'_, NoGate>,
     numbers: X,
     asked: &AtomicU64,
+    behind: Option<&AtomicU64>,
 ) -> Result<Vec<i64>, StreamError>
     requires { X.ready numbers }
 {
-    front(rt, run, numbers.map(Itself { asked }))
+    front_or_rest(rt, run, numbers.map(Itself { asked }), behind)
 }
 
 /// The functions before a barrier and behind it.
@@ -149,20 +127,16 @@ pub fn check_functions<R: Threads + Clock + Abort + Alloc<A = Global> + Sync, S:
     rt: &R,
     streams: &S,
 ) -> Result<(), StreamError> {
-    let asked = Asked {
-        mapped: AtomicU64::new(0),
-        tested: AtomicU64::new(0),
-        behind: AtomicU64::new(0),
-    };
+    let (mapped, behind) = (AtomicU64::new(0), AtomicU64::new(0));
     for &setting in &SETTINGS {
-        let three = three_of_five(rt, &at(setting), numbers(rt, streams, 0, 5), &asked);
+        let five = numbers(rt, streams, 0, 5);
+        let three = of_images(rt, &at(setting), five, &mapped, Some(&behind));
         check_list(rt, three, &[2, 3, 4])?;
-        same(rt, times(&asked), [5, 5, 3]);
+        same(rt, (times(&mapped), times(&behind)), (5, 3));
 
         let million = numbers(rt, streams, 0, 1_000_000);
-        let front = front_of(rt, &at(setting), million, &asked.mapped)?;
-        let [mapped, _, _] = times(&asked);
-        let is_so = (5_000..=7_812).contains(&mapped);
+        let front = of_images(rt, &at(setting), million, &mapped, None)?;
+        let is_so = (5_000..=7_812).contains(&times(&mapped));
         same(rt, (front.len(), is_so), (5_000, true));
     }
     Ok(())
@@ -191,21 +165,12 @@ fn first_copy<R: Threads + Clock + Alloc<A = Global> + Sync, X: Stream<Item = i6
     rt: &R,
     run: &Run<'_, NoGate>,
     numbers: X,
+    asked: &AtomicU64,
 ) -> Result<Option<i64>, StreamError>
     requires { X.ready numbers }
 {
     let alloc = rt.alloc();
-    first_behind(rt, run, numbers.flat_map(Copies { alloc }))
-}
-
-// .. of the images of numbers.
-fn behind_copies<
-    R: Threads + Clock + Alloc<A = Global> + Sync,
-    X: Stream<Item = i64> + Drop + Sync,
->(rt: &R, run: &Run<'_, NoGate>, numbers: X, asked: &AtomicU64) -> Result<Option<i64>, StreamError>
-    requires { X.ready numbers }
-{
-    first_copy(rt, run, numbers.map(Itself { asked }))
+    first_behind(rt, run, numbers.flat_map(Copies { alloc, asked }))
 }
 
 /// How far a source is read where items become many.
@@ -215,7 +180,7 @@ pub fn check_segments<R: Threads + Clock + Abort + Alloc<A = Global> + Sync, S: 
 ) -> Result<(), StreamError> {
     let asked = AtomicU64::new(0);
     let million = numbers(rt, streams, 5_000, 1_005_000);
-    let found = behind_copies(rt, &at((2, 0)), million, &asked)?;
+    let found = first_copy(rt, &at((2, 0)), million, &asked)?;
     let times = asked.load(Ordering::SeqCst);
     same(rt, (found, times), (Some(5_253), 366));
     Ok(())
@@ -245,17 +210,7 @@ fn check_asked<T: Copy + PartialEq + Debug>(
     Ok(())
 }
 
-// How many numbers stand before the first that fails a test.
-fn counted_front<
-    R: Threads + Clock + Alloc<A = Global> + Sync,
-    X: Stream<Item = i64> + Drop + Sync,
->(rt: &R, run: &Run<'_, NoGate>, numbers: X, test: Under<'_>) -> Result<i64, StreamError>
-    requires { X.ready numbers }
-{
-    counted(rt, run, &numbers.take_while(test))
-}
-
-// How many numbers follow these.
+// How many numbers follow those that meet a test.
 fn counted_rest<R: Threads + Clock + Alloc<A = Global> + Sync, X: Stream<Item = i64> + Drop + Sync>(
     rt: &R,
     run: &Run<'_, NoGate>,
@@ -322,6 +277,11 @@ static MET: [(i64, (bool, u64), (bool, u64)); 3] = [
 /// A bound, how many of these numbers are below it, and how often a while is asked.
 static TAKEN: [(i64, i64, u64); 3] = [(-1, 0, 1), (50, 50, 51), (200, 200, 200)];
 
+// How many items there are.
+fn length_of(found: Reported) -> Result<i64, StreamError> {
+    Ok(found?.0.len() as i64)
+}
+
 // The matches and whiles of one setting.
 fn check_setting<R: Threads + Clock + Abort + Alloc<A = Global> + Sync, S: Streams>(
     rt: &R,
@@ -336,8 +296,8 @@ fn check_setting<R: Threads + Clock + Abort + Alloc<A = Global> + Sync, S: Strea
     }
     for &(bound, taken, times) in &TAKEN {
         let test = Under { bound, asked };
-        let front = counted_front(rt, run, numbers(rt, streams, 0, 200), test);
-        check_asked(rt, asked, setting, front, (taken, times))?;
+        let front = front(rt, run, numbers(rt, streams, 0, 200), test);
+        check_asked(rt, asked, setting, length_of(front), (taken, times))?;
         let rest = counted_rest(rt, run, numbers(rt, streams, 0, 200), test);
         check_asked(rt, asked, setting, rest, (200 - taken, times))?;
     }

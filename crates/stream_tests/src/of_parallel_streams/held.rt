@@ -1,12 +1,10 @@
 //! Workers that a gate holds: what is found right of a held leaf takes nobody's place.
 ghost use Rattle.std.specs.Prelude.{pos, int_lt};
 
-use super::answers::{
-    Reported, check, check_items, check_list, limited, list_of, reported, same, sum_of,
-};
+use super::answers::{check, check_items, check_list, list_of, same, sum_of};
 use super::gates::Watch;
 use super::reports::{Entry, check_report};
-use super::rows::first_above_hundred;
+use super::rows::{first_that, front};
 use super::streams::{Streams, numbers};
 use super::{Case, at, run_test};
 use parallel_streams::{Run, Stream, StreamError, of};
@@ -18,7 +16,7 @@ use std::process::Abort;
 use std::sync::atomic::Ordering;
 use std::thread::Threads;
 use std::time::Clock;
-use stream_functions::Not;
+use stream_functions::{Above, Not};
 
 /// A run by two workers.
 fn by_two(target: u64, gate: &Watch) -> Run<'_, Watch> {
@@ -58,8 +56,8 @@ pub fn check_million<R: Threads + Clock + Abort + Alloc<A = Global> + Sync, S: S
 ) -> Result<(), StreamError> {
     let gate = Watch::until(0, 2);
     let million = numbers(rt, streams, 0, 1_000_000);
-    let found = first_above_hundred(rt, &by_two(1000, &gate), million);
-    check_report(rt, gate.all_came().and(found), &[102], &OF_A_MILLION)
+    let found = first_that(rt, &by_two(1000, &gate), million, Above(100));
+    check_report(rt, gate.all_came().and(found), &[101], &OF_A_MILLION)
 }
 
 // Leaf 0 is held until the other worker has run leaf 512, where its share begins, and leaf 1. It stops at the first item of each.
@@ -88,27 +86,6 @@ impl Test<i64> for Watched<'_> {
     }
 }
 
-// The first of the numbers that are watched.
-fn first_watched<
-    R: Threads + Clock + Alloc<A = Global> + Sync,
-    X: Stream<Item = i64> + Drop + Sync,
->(rt: &R, numbers: X, gate: &Watch) -> Reported
-    requires { X.ready numbers }
-{
-    limited(rt, &by_two(4096, gate), numbers.filter(Watched { gate }), 1)
-}
-
-// The front of the numbers that aren't.
-fn front_watched<
-    R: Threads + Clock + Alloc<A = Global> + Sync,
-    X: Stream<Item = i64> + Drop + Sync,
->(rt: &R, numbers: X, gate: &Watch) -> Reported
-    requires { X.ready numbers }
-{
-    let above = numbers.take_while(Not(Watched { gate }));
-    reported(rt, &by_two(4096, gate), &above)
-}
-
 static OF_A_CUT_LEAF: [Entry<'_>; 2] = [(2, Some(0), &[(0, 1)]), (1, None, &[(0, 0)])];
 
 /// A leaf that is cut while it is read one by one.
@@ -117,7 +94,8 @@ pub fn check_cut_leaf<R: Threads + Clock + Abort + Alloc<A = Global> + Sync, S: 
     streams: &S,
 ) -> Result<(), StreamError> {
     let gate = Watch::until(2, 0);
-    let found = first_watched(rt, numbers(rt, streams, 0, 8192), &gate);
+    let all = numbers(rt, streams, 0, 8192);
+    let found = first_that(rt, &by_two(4096, &gate), all, Watched { gate: &gate });
     let told = check_report(rt, gate.all_came().and(found), &[0], &OF_A_CUT_LEAF);
     let asked = gate.asked.load(Ordering::SeqCst);
     check(rt, told.and(Ok(asked)), 1024)
@@ -165,7 +143,8 @@ pub fn check_cut_blocks<R: Threads + Clock + Abort + Alloc<A = Global> + Sync, S
     streams: &S,
 ) -> Result<(), StreamError> {
     let gate = Watch::until(2, 0);
-    let found = front_watched(rt, numbers(rt, streams, 0, 8192), &gate);
+    let all = numbers(rt, streams, 0, 8192);
+    let found = front(rt, &by_two(4096, &gate), all, Not(Watched { gate: &gate }));
     let told = check_items(rt, gate.all_came().and(found), &[]);
     told.and(check(rt, Ok(gate.asked.load(Ordering::SeqCst)), 1024))
 }

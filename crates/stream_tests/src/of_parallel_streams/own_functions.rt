@@ -52,17 +52,17 @@ fn ten_more<R: Threads + Clock + Alloc<A = Global> + Sync, X: Stream<Item = i64>
     let ten_more: FromFn<i64, _, TenMore> = FromFn::new(|x: &i64| -> Result<i64, NoMemory> {
         WrapAdd::new().join(x, &10)
     });
-    below_thirteen(rt, run, numbers.map(ten_more))
+    listed(rt, run, &numbers.map(ten_more))
 }
 
-fn below_thirteen<
+fn are_below_thirteen<
     R: Threads + Clock + Alloc<A = Global> + Sync,
     X: Stream<Item = i64> + Drop + Sync,
->(rt: &R, run: &Run<'_, NoGate>, numbers: X) -> Result<Vec<i64>, StreamError>
+>(rt: &R, run: &Run<'_, NoGate>, numbers: X) -> Result<bool, StreamError>
     requires { X.ready numbers }
 {
     let below_thirteen: TestFn<_, BelowThirteen> = TestFn::new(|x: &i64| *x < 13);
-    listed(rt, run, &numbers.filter(below_thirteen))
+    numbers.all_match(rt, rt.alloc(), run, &below_thirteen)
 }
 
 fn total<R: Threads + Clock + Alloc<A = Global> + Sync, X: Stream<Item = i64> + Drop + Sync>(
@@ -86,7 +86,10 @@ pub fn rows<R: Threads + Clock + Abort + Alloc<A = Global> + Sync, S: Streams>(
 ) -> Result<(), StreamError> {
     let total = total(rt, run, numbers(rt, streams, 1, 6));
     let items = ten_more(rt, run, numbers(rt, streams, 1, 6));
-    check_list(rt, items, &[11, 12]).and(check(rt, total, Some(15)))
+    let are_below = are_below_thirteen(rt, run, numbers(rt, streams, 12, 14));
+    check_list(rt, items, &[11, 12, 13, 14, 15])
+        .and(check(rt, are_below, false))
+        .and(check(rt, total, Some(15)))
 }
 
 #[test]

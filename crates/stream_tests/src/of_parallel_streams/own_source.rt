@@ -4,7 +4,7 @@ ghost use Rattle.std.specs.Prelude.{◌≡◌, ◌<◌, ◌^◌, pos, replicate,
 ghost use Rattle.spliterator.specs.Spliterator.{IsSplit};
 
 use super::answers::{check, check_items, counted, limited, reduced, same};
-use super::rows::second_and_one;
+use super::rows::second;
 use super::{Case, Suite, at, run_test};
 use parallel_streams::{Plumbing, Run, Source, Stream, StreamError, of};
 use spliterator::{NoMemory, Spliterator};
@@ -94,7 +94,7 @@ fn sevens(left: u64, lent: &AtomicU64) -> Source<Again<'_>>
     })
 }
 
-// Three sevens: their number, their sum, the first two, and the second and one.
+// Three sevens: their number, their sum, the first two, and the second.
 fn check_three<
     R: Threads + Clock + Abort + Alloc<A = Global> + Sync,
     X: Stream<Item = i64> + Copy + Drop + Sync,
@@ -106,7 +106,7 @@ fn check_three<
     check(rt, counted(rt, run, &three), 3)
         .and(check(rt, sum, 21))
         .and(check_items(rt, limited(rt, run, three, 2), &[7, 7]))
-        .and(check_items(rt, second_and_one(rt, run, three), &[8]))
+        .and(check_items(rt, second(rt, run, three), &[7]))
 }
 
 /// Rows of one setting.

@@ -51,16 +51,24 @@ impl Stage for WithNext {
 }
 
 // The numbers 0 to 2, each before the next one.
+fn check_numbers<
+    R: Threads + Clock + Abort + Alloc<A = Global> + Sync,
+    X: Stream<Item = i64> + Drop + Sync,
+>(rt: &R, run: &Run<'_, NoGate>, numbers: X) -> Result<(), StreamError>
+    requires { X.ready numbers }
+{
+    let listed = listed(rt, run, &numbers);
+    let apart = first_apart(rt, run, numbers, 9);
+    check_list(rt, listed, &[0, 1, 1, 2, 2, 3]).and(check_items(rt, apart, &[0, 1, 2, 3]))
+}
+
 fn check_pairs<
     R: Threads + Clock + Abort + Alloc<A = Global> + Sync,
     X: Stream<Item = i64> + Drop + Sync,
 >(rt: &R, run: &Run<'_, NoGate>, numbers: X) -> Result<(), StreamError>
     requires { X.ready numbers }
 {
-    let pairs = numbers.then(WithNext);
-    let listed = listed(rt, run, &pairs);
-    let apart = first_apart(rt, run, pairs, 9);
-    check_list(rt, listed, &[0, 1, 1, 2, 2, 3]).and(check_items(rt, apart, &[0, 1, 2, 3]))
+    check_numbers(rt, run, numbers.then(WithNext))
 }
 
 /// Rows of one setting.

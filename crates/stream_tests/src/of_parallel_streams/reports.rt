@@ -2,7 +2,7 @@
 
 use super::answers::{Reported, check, check_list, limited, reported, same};
 use super::gates::{Watch, once};
-use super::rows::{front, second_and_one};
+use super::rows::{front, second};
 use super::streams::{Streams, numbers};
 use super::{Case, at, run_test};
 use parallel_streams::{Run, Stream, StreamError};
@@ -11,6 +11,7 @@ use std::process::Abort;
 use std::thread::Threads;
 use std::time::Clock;
 use stealing_pool::{RunEntry, RunReport};
+use stream_functions::Below;
 
 /// How many leaves a run had, where it was cut, and the counts of leaves; all others were skipped.
 pub type Entry<'a> = (usize, Option<usize>, &'a [(usize, u64)]);
@@ -78,11 +79,11 @@ pub fn check_entries<R: Threads + Clock + Abort + Alloc<A = Global> + Sync, S: S
     streams: &S,
 ) -> Result<(), StreamError> {
     let three = limited(rt, &at((1, 4)), numbers(rt, streams, 0, 10), 3);
-    let below = front(rt, &at((1, 10)), numbers(rt, streams, 0, 100));
-    let six = second_and_one(rt, &at((1, 1)), numbers(rt, streams, 4, 7));
+    let below = front(rt, &at((1, 10)), numbers(rt, streams, 0, 100), Below(3));
+    let five = second(rt, &at((1, 1)), numbers(rt, streams, 4, 7));
     check_report(rt, three, &[0, 1, 2], &OF_A_LIMIT)
         .and(check_report(rt, below, &[0, 1, 2], &OF_A_FRONT))
-        .and(check_report(rt, six, &[6], &OF_EACH_BARRIER))
+        .and(check_report(rt, five, &[5], &OF_EACH_BARRIER))
 }
 
 #[test]

@@ -11,7 +11,7 @@ use std::alloc::Global;
 use std::process::Abort;
 use std::thread::Threads;
 use std::time::Clock;
-use stream_functions::{Above, Itself};
+use stream_functions::Above;
 
 /// The most items of a range.
 const GREAT: i64 = 4_611_686_018_427_387_904;
@@ -67,7 +67,7 @@ fn check_known<
 {
     let (skipped, most, size) = row;
     assert!(rt; skipped < 9_223_372_036_854_775_808 && most < 9_223_372_036_854_775_808);
-    let (_, known, count) = behind_both(rt, run, numbers.map(Itself), skipped, most);
+    let (_, known, count) = behind_both(rt, run, numbers, skipped, most);
     same(rt, (known, count), (Some(size.unsigned_abs()), Ok(size)));
 }
 
