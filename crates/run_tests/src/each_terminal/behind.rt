@@ -32,18 +32,8 @@ impl Behind {
     }
 }
 
-// The sum of some numbers.
-fn total<R: Threads + Clock + Sync, X: Stream<Item = i64> + Sync>(
-    engine: &Engine<'_, R, Workers>,
-    numbers: &X,
-) -> Result<i64, NoMemory>
-    requires { X.ready numbers.now }
-{
-    numbers.collect_on(engine, &SummingLong::new(Itself))
-}
-
 // The sum of what a barrier leaves of some numbers: the front that is as long as a cut or below it, what follows, all, or all and others.
-fn sum_left<R: Threads + Clock + Sync, X: Stream<Item = i64> + Copy + Sync>(
+fn sum_left<R: Threads + Clock + Sync, X: Stream<Item = i64> + Drop + Sync>(
     engine: &Engine<'_, R, Workers>,
     all: X,
     others: X,
@@ -54,13 +44,14 @@ fn sum_left<R: Threads + Clock + Sync, X: Stream<Item = i64> + Copy + Sync>(
     requires others { X.ready others }
 {
     let (place, test) = (u64::from(cut), Below(i64::from(cut)));
+    let sum = SummingLong::new(Itself);
     match behind {
-        Behind::Limit => total(engine, &all.limit(place)),
-        Behind::Skip => total(engine, &all.skip(place)),
-        Behind::TakeWhile => total(engine, &all.take_while(test)),
-        Behind::DropWhile => total(engine, &all.drop_while(test)),
-        Behind::Distinct => total(engine, &all.distinct()),
-        Behind::Concat => all.concat(engine, &others, &SummingLong::new(Itself)),
+        Behind::Limit => all.limit(place).collect_on(engine, &sum),
+        Behind::Skip => all.skip(place).collect_on(engine, &sum),
+        Behind::TakeWhile => all.take_while(test).collect_on(engine, &sum),
+        Behind::DropWhile => all.drop_while(test).collect_on(engine, &sum),
+        Behind::Distinct => all.distinct().collect_on(engine, &sum),
+        Behind::Concat => all.concat(engine, &others, &sum),
     }
 }
 

@@ -1,8 +1,7 @@
 //! Terminal operations that need no list.
 
+use super::sum_of;
 use super::workers::Workers;
-use super::{is, sum_of};
-use derived_collectors::Summary;
 use parallel_streams::{Engine, Stream};
 use spliterator::NoMemory;
 use stages::{Max, WrapAdd};
@@ -28,16 +27,8 @@ pub enum Fold {
     NoneMatch,
 }
 
-/// Whether a summary tells the number of items, their sum and the greatest of them.
-fn tells(found: Result<Summary, NoMemory>, items: u32) -> Result<bool, NoMemory> {
-    let told = found?;
-    let number = i64::from(items);
-    let wanted = (number, sum_of(items), Some(number.wrapping_sub(1)));
-    Ok((told.count, told.sum, told.greatest) == wanted)
-}
-
 /// Whether the answer over the numbers from 0 on, so many and at least one, is right. A search meets the last of them.
-pub fn is_right<R: Threads + Clock + Sync, X: Stream<Item = i64> + Copy + Sync>(
+pub fn is_right<R: Threads + Clock + Sync, X: Stream<Item = i64> + Drop + Sync>(
     engine: &Engine<'_, R, Workers>,
     all: X,
     fold: Fold,
@@ -45,20 +36,23 @@ pub fn is_right<R: Threads + Clock + Sync, X: Stream<Item = i64> + Copy + Sync>(
 ) -> Result<bool, NoMemory>
     requires { X.ready all }
 {
-    let (number, last) = (i64::from(items), i64::from(items).wrapping_sub(1));
-    match fold {
-        Fold::Sum => is(all.sum(engine), sum_of(items)),
-        Fold::Summary => tells(all.summary(engine), items),
-        Fold::Reduce => is(all.reduce_on(engine, 0, &WrapAdd::new()), sum_of(items)),
-        Fold::ReduceOptional => is(all.reduce_optional_on(engine, &Max::new()), Some(last)),
-        Fold::Min => is(all.min(engine), Some(0)),
-        Fold::Max => is(all.max(engine), Some(last)),
-        Fold::MinByKey => is(all.min_by_key(engine, &Negated), Some(last)),
-        Fold::MaxByKey => is(all.max_by_key(engine, &Itself), Some(last)),
-        Fold::Count => is(all.filter(Above(-1)).count_on(engine), number),
-        Fold::FindFirst => is(all.filter(Equal(last)).find_first_on(engine), Some(last)),
-        Fold::AnyMatch => all.any_match_on(engine, &Equal(last)),
-        Fold::AllMatch => is(all.all_match_on(engine, &Below(last)), false),
-        Fold::NoneMatch => is(all.none_match_on(engine, &Equal(last)), false),
-    }
+    let (sum, last) = (sum_of(items), i64::from(items).wrapping_sub(1));
+    Ok(match fold {
+        Fold::Sum => all.sum(engine)? == sum,
+        Fold::Summary => {
+            let told = all.summary(engine)?;
+            (told.count, told.sum, told.greatest) == (i64::from(items), sum, Some(last))
+        }
+        Fold::Reduce => all.reduce_on(engine, 0, &WrapAdd::new())? == sum,
+        Fold::ReduceOptional => all.reduce_optional_on(engine, &Max::new())? == Some(last),
+        Fold::Min => all.min(engine)? == Some(0),
+        Fold::Max => all.max(engine)? == Some(last),
+        Fold::MinByKey => all.min_by_key(engine, &Negated)? == Some(last),
+        Fold::MaxByKey => all.max_by_key(engine, &Itself)? == Some(last),
+        Fold::Count => all.filter(Above(-1)).count_on(engine)? == i64::from(items),
+        Fold::FindFirst => all.filter(Equal(last)).find_first_on(engine)? == Some(last),
+        Fold::AnyMatch => all.any_match_on(engine, &Equal(last))?,
+        Fold::AllMatch => !all.all_match_on(engine, &Below(last))?,
+        Fold::NoneMatch => !all.none_match_on(engine, &Equal(last))?,
+    })
 }

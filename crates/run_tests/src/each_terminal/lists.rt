@@ -1,13 +1,12 @@
 //! Terminal operations that make a list, a text or a map.
 
-use super::is;
 use super::workers::Workers;
 use parallel_streams::{Engine, MapError, Stream, of};
 use sources::SliceSplit;
 use spliterator::NoMemory;
 use std::thread::Threads;
 use std::time::Clock;
-use stream_functions::{Composed, Divisor, Itself, Modulo, Times};
+use stream_functions::{Divisor, Itself, Modulo, Times};
 use terminals::{FirstSorted, Terminals, to_sorted_list};
 
 #[derive(Clone, Copy)]
@@ -97,42 +96,9 @@ fn sorted_by<R: Threads + Clock + Sync, X: Stream<Item = i64> + Sync>(
     }
 }
 
-/// The size of the set of some numbers.
-fn set_size<R: Threads + Clock + Sync, X: Stream<Item = i64> + Sync>(
-    engine: &Engine<'_, R, Workers>,
-    all: &X,
-) -> Result<usize, NoMemory>
-    requires { X.ready all.now }
-{
-    Ok(all.to_set(engine)?.len())
-}
-
-/// The numbers as they are handed over.
-fn seen<R: Threads + Clock + Sync, X: Stream<Item = i64> + Sync>(
-    engine: &Engine<'_, R, Workers>,
-    all: &X,
-) -> Result<Vec<i64>, NoMemory>
-    requires { X.ready all.now }
-{
-    let mut seen = Vec::new(engine.alloc);
-    all.for_each_ordered(engine, &mut seen)?;
-    Ok(seen)
-}
-
-/// Whether a list has the numbers from 0 on, so many of them.
-fn has_all(found: Result<Vec<i64>, NoMemory>, items: u32) -> Result<bool, NoMemory> {
-    Ok(are_all(found?.as_slice(), items))
-}
-
-/// Whether a list has them by their last digits.
-fn has_by_digits(found: Result<Vec<i64>, NoMemory>, items: u32) -> Result<bool, NoMemory> {
-    let found = found?;
-    Ok(found.len() == items as usize && are_by_digits(found.as_slice(), i64::from(items)))
-}
-
 /// Whether the answer over the numbers from 0 on, so many, at least one and no multiple of the prime number, is right. What is sorted whole came in
 /// another order.
-pub fn is_right<R: Threads + Clock + Sync, X: Stream<Item = i64> + Copy + Sync>(
+pub fn is_right<R: Threads + Clock + Sync, X: Stream<Item = i64> + Drop + Sync>(
     engine: &Engine<'_, R, Workers>,
     all: X,
     list: List,
@@ -140,24 +106,30 @@ pub fn is_right<R: Threads + Clock + Sync, X: Stream<Item = i64> + Copy + Sync>(
 ) -> Result<bool, NoMemory>
     requires { X.ready all }
 {
-    let number = items as usize;
-    match list {
-        List::ToList => has_all(all.to_list(engine), items),
-        List::ToSet => is(set_size(engine, &all), number),
-        List::ForEachOrdered => has_all(seen(engine, &all), items),
-        List::Joining => {
-            let length = number.wrapping_mul(2).wrapping_sub(1);
-            is(joined_length(engine, items), length)
+    let alloc = engine.alloc;
+    Ok(match list {
+        List::ToList => are_all(all.to_list(engine)?.as_slice(), items),
+        List::ToSet => all.to_set(engine)?.len() == items as usize,
+        List::ForEachOrdered => {
+            let mut seen = Vec::new(alloc);
+            all.for_each_ordered(engine, &mut seen)?;
+            are_all(seen.as_slice(), items)
         }
-        List::StrictMap => is(entries(engine, &all), number),
+        List::Joining => joined_length(engine, items)?
+            == (items as usize).wrapping_mul(2).wrapping_sub(1),
+        List::StrictMap => entries(engine, &all)? == items as usize,
         List::Sorted | List::SortedList => {
-            let shuffled = all.map(Composed(Times(PRIME), below(items)));
-            has_all(sorted_by(engine, &shuffled, list), items)
+            let shuffled = all.map(Times(PRIME)).map(below(items));
+            are_all(sorted_by(engine, &shuffled, list)?.as_slice(), items)
         }
-        List::SortedByKey => has_by_digits(all.sorted_by_key(engine, &Modulo::by(10)), items),
+        List::SortedByKey => {
+            let found = all.sorted_by_key(engine, &Modulo::by(10))?;
+            found.len() == items as usize && are_by_digits(found.as_slice(), i64::from(items))
+        }
         List::FirstSorted => {
-            let first = FirstSorted::<i64, _>::new(engine.alloc, Itself, 100);
-            has_all(all.collect_on(engine, &first), items.min(100))
+            let first = FirstSorted::<i64, _>::new(alloc, Itself, 100);
+            let found = all.collect_on(engine, &first)?;
+            are_all(found.as_slice(), items.min(100))
         }
-    }
+    })
 }

@@ -42,11 +42,6 @@ fn sum_of(items: u32) -> i64 {
     end.wrapping_mul(end.wrapping_sub(1)) / 2
 }
 
-/// Whether an answer is the one that is wanted.
-fn is<T: Copy + PartialEq>(found: Result<T, NoMemory>, wanted: T) -> Result<bool, NoMemory> {
-    Ok(found? == wanted)
-}
-
 /// Whether the answer over so many numbers is right.
 fn is_right<R: Threads + Clock + Abort + Sync>(
     engine: &Engine<'_, R, Workers>,
