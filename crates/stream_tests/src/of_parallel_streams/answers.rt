@@ -4,9 +4,9 @@ ghost use Rattle.parallel_streams.specs.Terminals.{IsLeftIdentity};
 ghost use Rattle.spliterator.specs.Values.{IsI64};
 ghost use Rattle.stages.specs.Operators.{IsAssociative};
 
+use super::streams::{Streams, numbers};
 use collectors::{Collector, SummingLong, ToList};
-use parallel_streams::{Run, Source, Stream, StreamError, of};
-use sources::{RangeSplit, SliceSplit};
+use parallel_streams::{Run, Stream, StreamError};
 use stages::Operator;
 use std::alloc::Global;
 use std::fmt::Debug;
@@ -18,11 +18,6 @@ use stream_functions::Itself;
 
 /// The items of a stream, and what each run tells of its leaves.
 pub type Reported = Result<(Vec<i64>, RunReport), StreamError>;
-
-/// The numbers from one up to another.
-pub fn numbers(rt: &impl Abort, start: i64, end: i64) -> Source<RangeSplit> {
-    of(RangeSplit::range(start, end).expect(rt, "a range"))
-}
 
 /// The items of a stream.
 pub fn listed<
@@ -36,13 +31,14 @@ pub fn listed<
 }
 
 /// The numbers from one up to another, as a list.
-pub fn list_of<R: Threads + Clock + Abort + Alloc<A = Global> + Sync, H: Gate + Sync>(
+pub fn list_of<R: Threads + Clock + Abort + Alloc<A = Global> + Sync, H: Gate + Sync, S: Streams>(
     rt: &R,
     run: &Run<'_, H>,
+    streams: &S,
     start: i64,
     end: i64,
 ) -> Result<Vec<i64>, StreamError> {
-    listed(rt, run, &numbers(rt, start, end))
+    listed(rt, run, &numbers(rt, streams, start, end))
 }
 
 /// The items of a stream, and what each run tells of its leaves.
@@ -90,18 +86,18 @@ pub fn sum_of<R: Threads + Clock + Alloc<A = Global> + Sync, X: Stream<Item = i6
 }
 
 /// What a collector makes of numbers.
-pub fn collected<R: Threads + Clock + Alloc<A = Global> + Sync, C: Collector<Item = i64> + Sync>(
-    rt: &R,
-    run: &Run<'_, NoGate>,
-    numbers: &[i64],
-    collector: &C,
-) -> Result<C::Out, StreamError>
+pub fn collected<
+    R: Threads + Clock + Alloc<A = Global> + Sync,
+    X: Stream<Item = i64> + Sync,
+    C: Collector<Item = i64> + Sync,
+>(rt: &R, run: &Run<'_, NoGate>, numbers: &X, collector: &C) -> Result<C::Out, StreamError>
 where
     C::Acc: Send,
     C::Out: Send,
-    requires { C.ready collector.now }
+    requires numbers { X.ready numbers.now }
+    requires collector { C.ready collector.now }
 {
-    of(SliceSplit::new(numbers)).collect(rt, rt.alloc(), run, collector)
+    numbers.collect(rt, rt.alloc(), run, collector)
 }
 
 /// The first items of a stream, and what each run tells of its leaves.
@@ -136,16 +132,16 @@ pub fn reduced<
 }
 
 /// Numbers joined by an operator, or none where there is no number.
-pub fn joined<R: Threads + Clock + Alloc<A = Global> + Sync, O: Operator<i64> + Sync>(
-    rt: &R,
-    run: &Run<'_, NoGate>,
-    numbers: &[i64],
-    operator: &O,
-) -> Result<Option<i64>, StreamError>
+pub fn joined<
+    R: Threads + Clock + Alloc<A = Global> + Sync,
+    X: Stream<Item = i64> + Sync,
+    O: Operator<i64> + Sync,
+>(rt: &R, run: &Run<'_, NoGate>, numbers: &X, operator: &O) -> Result<Option<i64>, StreamError>
+    requires numbers { X.ready numbers.now }
     requires operator { O.ready operator.now }
     requires associative { IsAssociative IsI64 (O.join operator.now) }
 {
-    of(SliceSplit::new(numbers)).reduce_optional(rt, rt.alloc(), run, operator)
+    numbers.reduce_optional(rt, rt.alloc(), run, operator)
 }
 
 /// Checks a value.

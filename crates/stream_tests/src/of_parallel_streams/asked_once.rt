@@ -1,9 +1,11 @@
 //! How often a caller's functions are asked.
 ghost use Rattle.std.specs.Prelude.{int_lt};
 
-use super::answers::{check, check_list, counted, listed, numbers, same};
+use super::answers::{Reported, check, check_list, counted, listed, same};
 use super::functions::Copies;
-use super::{SETTINGS, at};
+use super::rows::front;
+use super::streams::{Streams, numbers};
+use super::{Case, SETTINGS, at, run_test};
 use parallel_streams::{Run, Stream, StreamError};
 use spliterator::NoMemory;
 use stages::{Mapping, Test};
@@ -50,25 +52,13 @@ impl Test<i64> for Under<'_> {
     }
 }
 
-/// How often the functions before a barrier and the one behind it were asked.
-#[derive(Drop)]
-struct Asked {
-    mapped: AtomicU64,
-    tested: AtomicU64,
-    behind: AtomicU64,
+/// How often a function was asked: a number that begins anew.
+fn times(asked: &AtomicU64) -> u64 {
+    asked.swap(0, Ordering::SeqCst)
 }
 
-/// These numbers, which begin anew.
-fn times(asked: &Asked) -> [u64; 3] {
-    [
-        asked.mapped.swap(0, Ordering::SeqCst),
-        asked.tested.swap(0, Ordering::SeqCst),
-        asked.behind.swap(0, Ordering::SeqCst),
-    ]
-}
-
-// The images of numbers.
-fn images<R: Threads + Clock + Alloc<A = Global> + Sync, X: Stream<Item = i64> + Drop + Sync>(
+// Of some numbers those that are below five.
+fn below_five<R: Threads + Clock + Alloc<A = Global> + Sync, X: Stream<Item = i64> + Drop + Sync>(
     rt: &R,
     run: &Run<'_, NoGate>,
     numbers: X,
@@ -76,7 +66,7 @@ fn images<R: Threads + Clock + Alloc<A = Global> + Sync, X: Stream<Item = i64> +
 ) -> Result<Vec<i64>, StreamError>
     requires { X.ready numbers }
 {
-    listed(rt, run, &numbers.map(Itself { asked }))
+    listed(rt, run, &numbers.filter(Under { bound: 5, asked }))
 }
 
 // .. of those behind the first two.
@@ -88,82 +78,75 @@ fn behind_two<R: Threads + Clock + Alloc<A = Global> + Sync, X: Stream<Item = i6
 ) -> Result<Vec<i64>, StreamError>
     requires { X.ready numbers }
 {
-    images(rt, run, numbers.skip(2), asked)
-}
-
-// .. of those of them that are below five.
-fn below_five<R: Threads + Clock + Alloc<A = Global> + Sync, X: Stream<Item = i64> + Drop + Sync>(
-    rt: &R,
-    run: &Run<'_, NoGate>,
-    numbers: X,
-    asked: &Asked,
-) -> Result<Vec<i64>, StreamError>
-    requires { X.ready numbers }
-{
-    let tested = numbers.filter(Under {
-        bound: 5,
-        asked: &asked.tested,
-    });
-    behind_two(rt, run, tested, &asked.behind)
-}
-
-// The numbers 2, 3 and 4 of five, behind two functions, a barrier and another function.
-fn three_of_five<
-    R: Threads + Clock + Alloc<A = Global> + Sync,
-    X: Stream<Item = i64> + Drop + Sync,
->(rt: &R, run: &Run<'_, NoGate>, numbers: X, asked: &Asked) -> Result<Vec<i64>, StreamError>
-    requires { X.ready numbers }
-{
-    let mapped = numbers.map(Itself {
-        asked: &asked.mapped,
-    });
-    below_five(rt, run, mapped, asked)
+    below_five(rt, run, numbers.skip(2), asked)
 }
 
 // The first 5,000 numbers.
-fn front<R: Threads + Clock + Alloc<A = Global> + Sync, X: Stream<Item = i64> + Drop + Sync>(
-    rt: &R,
-    run: &Run<'_, NoGate>,
-    numbers: X,
-) -> Result<Vec<i64>, StreamError>
+fn first_of_many<
+    R: Threads + Clock + Alloc<A = Global> + Sync,
+    X: Stream<Item = i64> + Drop + Sync,
+>(rt: &R, run: &Run<'_, NoGate>, numbers: X) -> Result<Vec<i64>, StreamError>
     requires { X.ready numbers }
 {
     listed(rt, run, &numbers.limit(5_000))
 }
 
-// The first 5,000 images of numbers.
-fn front_of<R: Threads + Clock + Alloc<A = Global> + Sync, X: Stream<Item = i64> + Drop + Sync>(
+// The first 5,000 numbers, or those below five behind the first two.
+fn front_or_rest<
+    R: Threads + Clock + Alloc<A = Global> + Sync,
+    X: Stream<Item = i64> + Drop + Sync,
+>(
+    rt: &R,
+    run: &Run<'_, NoGate>,
+    numbers: X,
+    behind: Option<&AtomicU64>,
+) -> Result<Vec<i64>, StreamError>
+    requires { X.ready numbers }
+{
+    match behind {
+        Some(asked) => behind_two(rt, run, numbers, asked),
+        None => first_of_many(rt, run, numbers),
+    }
+}
+
+// .. of the images of numbers.
+fn of_images<R: Threads + Clock + Alloc<A = Global> + Sync, X: Stream<Item = i64> + Drop + Sync>(
     rt: &R,
     run: &Run<'_, NoGate>,
     numbers: X,
     asked: &AtomicU64,
+    behind: Option<&AtomicU64>,
 ) -> Result<Vec<i64>, StreamError>
     requires { X.ready numbers }
 {
-    front(rt, run, numbers.map(Itself { asked }))
+    front_or_rest(rt, run, numbers.map(Itself { asked }), behind)
+}
+
+/// The functions before a barrier and behind it.
+pub fn check_functions<R: Threads + Clock + Abort + Alloc<A = Global> + Sync, S: Streams>(
+    rt: &R,
+    streams: &S,
+) -> Result<(), StreamError> {
+    let (mapped, behind) = (AtomicU64::new(0), AtomicU64::new(0));
+    for &setting in &SETTINGS {
+        let five = numbers(rt, streams, 0, 5);
+        let three = of_images(rt, &at(setting), five, &mapped, Some(&behind));
+        check_list(rt, three, &[2, 3, 4])?;
+        same(rt, (times(&mapped), times(&behind)), (5, 3));
+
+        let million = numbers(rt, streams, 0, 1_000_000);
+        let front = of_images(rt, &at(setting), million, &mapped, None)?;
+        let is_so = (5_000..=7_812).contains(&times(&mapped));
+        same(rt, (front.len(), is_so), (5_000, true));
+    }
+    Ok(())
 }
 
 // Of five items, and of the three behind a barrier. A million numbers are halved eight times, until a part has at most 2^12 of them: a limit of
 // 5,000 reads no more than two such segments, each of 3,906.
 #[test]
 fn functions_are_asked_once_an_item(rt: HostRuntime) -> Result<(), StreamError> {
-    let asked = Asked {
-        mapped: AtomicU64::new(0),
-        tested: AtomicU64::new(0),
-        behind: AtomicU64::new(0),
-    };
-    for &setting in &SETTINGS {
-        let three = three_of_five(&rt, &at(setting), numbers(&rt, 0, 5), &asked);
-        check_list(&rt, three, &[2, 3, 4])?;
-        same(&rt, times(&asked), [5, 5, 3]);
-
-        let million = numbers(&rt, 0, 1_000_000);
-        let front = front_of(&rt, &at(setting), million, &asked.mapped)?;
-        let [mapped, _, _] = times(&asked);
-        let is_so = (5_000..=7_812).contains(&mapped);
-        same(&rt, (front.len(), is_so), (5_000, true));
-    }
-    Ok(())
+    run_test(&rt, Case::FunctionsOnce)
 }
 
 // The first number behind 1,300,000.
@@ -182,35 +165,32 @@ fn first_copy<R: Threads + Clock + Alloc<A = Global> + Sync, X: Stream<Item = i6
     rt: &R,
     run: &Run<'_, NoGate>,
     numbers: X,
+    asked: &AtomicU64,
 ) -> Result<Option<i64>, StreamError>
     requires { X.ready numbers }
 {
     let alloc = rt.alloc();
-    first_behind(rt, run, numbers.flat_map(Copies { alloc }))
+    first_behind(rt, run, numbers.flat_map(Copies { alloc, asked }))
 }
 
-// .. of the images of numbers.
-fn behind_copies<
-    R: Threads + Clock + Alloc<A = Global> + Sync,
-    X: Stream<Item = i64> + Drop + Sync,
->(rt: &R, run: &Run<'_, NoGate>, numbers: X, asked: &AtomicU64) -> Result<Option<i64>, StreamError>
-    requires { X.ready numbers }
-{
-    first_copy(rt, run, numbers.map(Itself { asked }))
+/// How far a source is read where items become many.
+pub fn check_segments<R: Threads + Clock + Abort + Alloc<A = Global> + Sync, S: Streams>(
+    rt: &R,
+    streams: &S,
+) -> Result<(), StreamError> {
+    let asked = AtomicU64::new(0);
+    let million = numbers(rt, streams, 5_000, 1_005_000);
+    let found = first_copy(rt, &at((2, 0)), million, &asked)?;
+    let times = asked.load(Ordering::SeqCst);
+    same(rt, (found, times), (Some(5_253), 366));
+    Ok(())
 }
 
 // Of a million numbers, each as often as it says. The first segment has 244, 16 times less than where no stage makes several of one; of these more
 // than a million come, so that the next has 122.
 #[test]
 fn segments_are_as_much_shorter_as_items_are_more(rt: HostRuntime) -> Result<(), StreamError> {
-    let asked = AtomicU64::new(0);
-    let found = behind_copies(&rt, &at((2, 0)), numbers(&rt, 5_000, 1_005_000), &asked)?;
-    same(
-        &rt,
-        (found, asked.load(Ordering::SeqCst)),
-        (Some(5_253), 366),
-    );
-    Ok(())
+    run_test(&rt, Case::ShorterSegments)
 }
 
 /// Checks an answer about 200 numbers, and how often its test was asked: as often as is told, and where that is less than 200, more often by others
@@ -230,17 +210,7 @@ fn check_asked<T: Copy + PartialEq + Debug>(
     Ok(())
 }
 
-// How many numbers stand before the first that fails a test.
-fn counted_front<
-    R: Threads + Clock + Alloc<A = Global> + Sync,
-    X: Stream<Item = i64> + Drop + Sync,
->(rt: &R, run: &Run<'_, NoGate>, numbers: X, test: Under<'_>) -> Result<i64, StreamError>
-    requires { X.ready numbers }
-{
-    counted(rt, run, &numbers.take_while(test))
-}
-
-// How many numbers follow these.
+// How many numbers follow those that meet a test.
 fn counted_rest<R: Threads + Clock + Alloc<A = Global> + Sync, X: Stream<Item = i64> + Drop + Sync>(
     rt: &R,
     run: &Run<'_, NoGate>,
@@ -273,18 +243,75 @@ fn check_matches<
     check_asked(rt, test.asked, setting, met, every)
 }
 
-// Of 100,000 numbers, in many segments: behind the first that is left no number is asked about.
-#[test]
-fn nothing_is_asked_behind_what_is_dropped(rt: HostRuntime) -> Result<(), StreamError> {
+/// How often a while is asked that drops.
+pub fn check_dropped<R: Threads + Clock + Abort + Alloc<A = Global> + Sync, S: Streams>(
+    rt: &R,
+    streams: &S,
+) -> Result<(), StreamError> {
     let asked = &AtomicU64::new(0);
     let test = Under {
         bound: 9_000,
         asked,
     };
     for setting in [(1, 0), (7, 0), (64, 0)] {
-        let rest = counted_rest(&rt, &at(setting), numbers(&rt, 0, 100_000), test);
-        check(&rt, rest, 91_000)?;
-        same(&rt, asked.swap(0, Ordering::SeqCst), 9_001);
+        let rest = counted_rest(rt, &at(setting), numbers(rt, streams, 0, 100_000), test);
+        check(rt, rest, 91_000)?;
+        same(rt, asked.swap(0, Ordering::SeqCst), 9_001);
+    }
+    Ok(())
+}
+
+// Of 100,000 numbers, in many segments: behind the first that is left no number is asked about.
+#[test]
+fn nothing_is_asked_behind_what_is_dropped(rt: HostRuntime) -> Result<(), StreamError> {
+    run_test(&rt, Case::NothingBehindDropped)
+}
+
+/// A bound, whether any and all of the numbers from 0 up to 200 are below it, and how often a test is asked for either.
+static MET: [(i64, (bool, u64), (bool, u64)); 3] = [
+    (-1, (false, 200), (false, 1)),
+    (1, (true, 1), (false, 2)),
+    (200, (true, 1), (true, 200)),
+];
+
+/// A bound, how many of these numbers are below it, and how often a while is asked.
+static TAKEN: [(i64, i64, u64); 3] = [(-1, 0, 1), (50, 50, 51), (200, 200, 200)];
+
+// How many items there are.
+fn length_of(found: Reported) -> Result<i64, StreamError> {
+    Ok(found?.0.len() as i64)
+}
+
+// The matches and whiles of one setting.
+fn check_setting<R: Threads + Clock + Abort + Alloc<A = Global> + Sync, S: Streams>(
+    rt: &R,
+    streams: &S,
+    setting: (u32, u64),
+    asked: &AtomicU64,
+) -> Result<(), StreamError> {
+    let run = &at(setting);
+    for &(bound, any, every) in &MET {
+        let all = numbers(rt, streams, 0, 200);
+        check_matches(rt, setting, &all, &Under { bound, asked }, any, every)?;
+    }
+    for &(bound, taken, times) in &TAKEN {
+        let test = Under { bound, asked };
+        let front = front(rt, run, numbers(rt, streams, 0, 200), test);
+        check_asked(rt, asked, setting, length_of(front), (taken, times))?;
+        let rest = counted_rest(rt, run, numbers(rt, streams, 0, 200), test);
+        check_asked(rt, asked, setting, rest, (200 - taken, times))?;
+    }
+    Ok(())
+}
+
+/// How often tests are asked.
+pub fn check_tests<R: Threads + Clock + Abort + Alloc<A = Global> + Sync, S: Streams>(
+    rt: &R,
+    streams: &S,
+) -> Result<(), StreamError> {
+    let asked = AtomicU64::new(0);
+    for setting in [(1, 200), (1, 1), (7, 1), (2, 7), (7, 0)] {
+        check_setting(rt, streams, setting, &asked)?;
     }
     Ok(())
 }
@@ -292,25 +319,5 @@ fn nothing_is_asked_behind_what_is_dropped(rt: HostRuntime) -> Result<(), Stream
 // Of 200 numbers, those below a bound that none, some or all of them meet: matches, and whiles.
 #[test]
 fn tests_are_asked_once_an_item(rt: HostRuntime) -> Result<(), StreamError> {
-    let number = AtomicU64::new(0);
-    let asked = &number;
-    for &setting in &[(1, 200), (1, 1), (7, 1), (2, 7), (7, 0)] {
-        let run = &at(setting);
-        let all = numbers(&rt, 0, 200);
-        for &(bound, any, every) in &[
-            (-1, (false, 200), (false, 1)),
-            (1, (true, 1), (false, 2)),
-            (200, (true, 1), (true, 200)),
-        ] {
-            check_matches(&rt, setting, &all, &Under { bound, asked }, any, every)?;
-        }
-        for &(bound, taken, times) in &[(-1, 0, 1), (50, 50, 51), (200, 200, 200)] {
-            let test = Under { bound, asked };
-            let front = counted_front(&rt, run, numbers(&rt, 0, 200), test);
-            check_asked(&rt, asked, setting, front, (taken, times))?;
-            let rest = counted_rest(&rt, run, numbers(&rt, 0, 200), test);
-            check_asked(&rt, asked, setting, rest, (200 - taken, times))?;
-        }
-    }
-    Ok(())
+    run_test(&rt, Case::TestsOnce)
 }

@@ -7,14 +7,16 @@ use collectors::Pairing;
 use spliterator::NoMemory;
 use stages::Mapping;
 use std::alloc::Global;
+use std::sync::atomic::{AtomicU64, Ordering};
 
-/// As many copies of a number as it says, whatever its sign.
+/// As many copies of a number as it says, whatever its sign. It counts how often it was asked.
 #[derive(Drop)]
-pub struct Copies {
+pub struct Copies<'a> {
     pub alloc: Global,
+    pub asked: &'a AtomicU64,
 }
 
-impl Mapping<i64> for Copies {
+impl Mapping<i64> for Copies<'_> {
     type Out = Vec<i64>;
 
     ghost image = { λ _ x. replicate (unsigned_abs x) x };
@@ -22,6 +24,7 @@ impl Mapping<i64> for Copies {
     ghost images_are_values = { λ _ x. All-replicate IsI64 (unsigned_abs x) x };
 
     fn image(&self, x: &i64) -> Result<Vec<i64>, NoMemory> {
+        self.asked.fetch_add(1, Ordering::SeqCst);
         let number = x.unsigned_abs() as usize;
         Ok(vec![in self.alloc; *x; number]?)
     }

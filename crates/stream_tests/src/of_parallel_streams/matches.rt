@@ -1,7 +1,8 @@
 //! Matches.
 
-use super::answers::{check, numbers};
-use super::{Suite, at_each_setting};
+use super::answers::check;
+use super::streams::{Streams, numbers};
+use super::{Case, Suite, run_test};
 use parallel_streams::{Run, Stream, StreamError};
 use std::alloc::Global;
 use std::process::Abort;
@@ -40,17 +41,19 @@ fn check_matches<
 }
 
 /// Rows of one setting.
-pub fn rows<R: Threads + Clock + Abort + Alloc<A = Global> + Sync>(
+pub fn rows<R: Threads + Clock + Abort + Alloc<A = Global> + Sync, S: Streams>(
     rt: &R,
     run: &Run<'_, NoGate>,
+    streams: &S,
 ) -> Result<(), StreamError> {
     for &(end, limit, wanted) in &MATCHES {
-        check_matches(rt, run, numbers(rt, 0, end), &Below(limit), wanted)?;
+        let numbers = numbers(rt, streams, 0, end);
+        check_matches(rt, run, numbers, &Below(limit), wanted)?;
     }
     Ok(())
 }
 
 #[test]
 fn matches_at_each_number_of_workers(rt: HostRuntime) -> Result<(), StreamError> {
-    at_each_setting(&rt, Suite::Matches)
+    run_test(&rt, Case::AtEachSetting(Suite::Matches))
 }

@@ -2,8 +2,9 @@
 ghost use Rattle.std.specs.Prelude.{pos, ◌+ℤ◌, int_lt};
 ghost use Rattle.stages.specs.Wrapping.{wrapped_sum, wrapped-value};
 
-use super::answers::{check, check_list, listed, numbers};
-use super::{Suite, at_each_setting};
+use super::answers::{check, check_list, listed};
+use super::streams::{Streams, numbers};
+use super::{Case, Suite, run_test};
 use parallel_streams::{Run, Stream, StreamError};
 use spliterator::NoMemory;
 use stages::{
@@ -51,17 +52,17 @@ fn ten_more<R: Threads + Clock + Alloc<A = Global> + Sync, X: Stream<Item = i64>
     let ten_more: FromFn<i64, _, TenMore> = FromFn::new(|x: &i64| -> Result<i64, NoMemory> {
         WrapAdd::new().join(x, &10)
     });
-    below_thirteen(rt, run, numbers.map(ten_more))
+    listed(rt, run, &numbers.map(ten_more))
 }
 
-fn below_thirteen<
+fn are_below_thirteen<
     R: Threads + Clock + Alloc<A = Global> + Sync,
     X: Stream<Item = i64> + Drop + Sync,
->(rt: &R, run: &Run<'_, NoGate>, numbers: X) -> Result<Vec<i64>, StreamError>
+>(rt: &R, run: &Run<'_, NoGate>, numbers: X) -> Result<bool, StreamError>
     requires { X.ready numbers }
 {
     let below_thirteen: TestFn<_, BelowThirteen> = TestFn::new(|x: &i64| *x < 13);
-    listed(rt, run, &numbers.filter(below_thirteen))
+    numbers.all_match(rt, rt.alloc(), run, &below_thirteen)
 }
 
 fn total<R: Threads + Clock + Alloc<A = Global> + Sync, X: Stream<Item = i64> + Drop + Sync>(
@@ -78,16 +79,20 @@ fn total<R: Threads + Clock + Alloc<A = Global> + Sync, X: Stream<Item = i64> + 
 }
 
 /// Rows of one setting.
-pub fn rows<R: Threads + Clock + Abort + Alloc<A = Global> + Sync>(
+pub fn rows<R: Threads + Clock + Abort + Alloc<A = Global> + Sync, S: Streams>(
     rt: &R,
     run: &Run<'_, NoGate>,
+    streams: &S,
 ) -> Result<(), StreamError> {
-    let total = total(rt, run, numbers(rt, 1, 6));
-    let items = ten_more(rt, run, numbers(rt, 1, 6));
-    check_list(rt, items, &[11, 12]).and(check(rt, total, Some(15)))
+    let total = total(rt, run, numbers(rt, streams, 1, 6));
+    let items = ten_more(rt, run, numbers(rt, streams, 1, 6));
+    let are_below = are_below_thirteen(rt, run, numbers(rt, streams, 12, 14));
+    check_list(rt, items, &[11, 12, 13, 14, 15])
+        .and(check(rt, are_below, false))
+        .and(check(rt, total, Some(15)))
 }
 
 #[test]
 fn functions_of_the_callers_own(rt: HostRuntime) -> Result<(), StreamError> {
-    at_each_setting(&rt, Suite::OwnFunctions)
+    run_test(&rt, Case::AtEachSetting(Suite::OwnFunctions))
 }

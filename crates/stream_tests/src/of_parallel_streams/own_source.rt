@@ -4,8 +4,8 @@ ghost use Rattle.std.specs.Prelude.{◌≡◌, ◌<◌, ◌^◌, pos, replicate,
 ghost use Rattle.spliterator.specs.Spliterator.{IsSplit};
 
 use super::answers::{check, check_items, counted, limited, reduced, same};
-use super::rows::second_and_one;
-use super::{Suite, at, at_each_setting};
+use super::rows::second;
+use super::{Case, Suite, at, run_test};
 use parallel_streams::{Plumbing, Run, Source, Stream, StreamError, of};
 use spliterator::{NoMemory, Spliterator};
 use stages::WrapAdd;
@@ -94,24 +94,33 @@ fn sevens(left: u64, lent: &AtomicU64) -> Source<Again<'_>>
     })
 }
 
+// Three sevens: their number, their sum, the first two, and the second.
+fn check_three<
+    R: Threads + Clock + Abort + Alloc<A = Global> + Sync,
+    X: Stream<Item = i64> + Copy + Drop + Sync,
+>(rt: &R, run: &Run<'_, NoGate>, three: X) -> Result<(), StreamError>
+    requires { X.ready three }
+{
+    same(rt, three.known_size(), None);
+    let sum = reduced(rt, run, &three, 0, &WrapAdd::new());
+    check(rt, counted(rt, run, &three), 3)
+        .and(check(rt, sum, 21))
+        .and(check_items(rt, limited(rt, run, three, 2), &[7, 7]))
+        .and(check_items(rt, second(rt, run, three), &[7]))
+}
+
 /// Rows of one setting.
 pub fn rows<R: Threads + Clock + Abort + Alloc<A = Global> + Sync>(
     rt: &R,
     run: &Run<'_, NoGate>,
 ) -> Result<(), StreamError> {
     let lent = AtomicU64::new(0);
-    let three = sevens(3, &lent);
-    same(rt, three.known_size(), None);
-    let sum = reduced(rt, run, &three, 0, &WrapAdd::new());
-    check(rt, counted(rt, run, &three), 3)
-        .and(check(rt, sum, 21))
-        .and(check_items(rt, limited(rt, run, sevens(3, &lent), 2), &[7, 7]))
-        .and(check_items(rt, second_and_one(rt, run, three), &[8]))
+    check_three(rt, run, sevens(3, &lent))
 }
 
 #[test]
 fn a_source_of_the_callers_own(rt: HostRuntime) -> Result<(), StreamError> {
-    at_each_setting(&rt, Suite::OwnSource)
+    run_test(&rt, Case::AtEachSetting(Suite::OwnSource))
 }
 
 // Of a billion blocks one is lent.

@@ -5,9 +5,10 @@ ghost use Rattle.stages.specs.FlagLaws.{KeepsSound-flat_map};
 ghost use Rattle.stages.specs.Wrapping.{wrapped_sum};
 ghost use Rattle.std.specs.Ordering.{int_cmp};
 
-use super::answers::{check_items, check_list, listed, numbers};
+use super::answers::{check_items, check_list, listed};
 use super::rows::first_apart;
-use super::{Suite, at_each_setting};
+use super::streams::{Streams, numbers};
+use super::{Case, Suite, run_test};
 use parallel_streams::{Run, Stream, StreamError};
 use spliterator::NoMemory;
 use stages::{Operation, Operator, Sink, Stage, WrapAdd};
@@ -50,27 +51,36 @@ impl Stage for WithNext {
 }
 
 // The numbers 0 to 2, each before the next one.
+fn check_numbers<
+    R: Threads + Clock + Abort + Alloc<A = Global> + Sync,
+    X: Stream<Item = i64> + Drop + Sync,
+>(rt: &R, run: &Run<'_, NoGate>, numbers: X) -> Result<(), StreamError>
+    requires { X.ready numbers }
+{
+    let listed = listed(rt, run, &numbers);
+    let apart = first_apart(rt, run, numbers, 9);
+    check_list(rt, listed, &[0, 1, 1, 2, 2, 3]).and(check_items(rt, apart, &[0, 1, 2, 3]))
+}
+
 fn check_pairs<
     R: Threads + Clock + Abort + Alloc<A = Global> + Sync,
     X: Stream<Item = i64> + Drop + Sync,
 >(rt: &R, run: &Run<'_, NoGate>, numbers: X) -> Result<(), StreamError>
     requires { X.ready numbers }
 {
-    let pairs = numbers.then(WithNext);
-    let listed = listed(rt, run, &pairs);
-    let apart = first_apart(rt, run, pairs, 9);
-    check_list(rt, listed, &[0, 1, 1, 2, 2, 3]).and(check_items(rt, apart, &[0, 1, 2, 3]))
+    check_numbers(rt, run, numbers.then(WithNext))
 }
 
 /// Rows of one setting.
-pub fn rows<R: Threads + Clock + Abort + Alloc<A = Global> + Sync>(
+pub fn rows<R: Threads + Clock + Abort + Alloc<A = Global> + Sync, S: Streams>(
     rt: &R,
     run: &Run<'_, NoGate>,
+    streams: &S,
 ) -> Result<(), StreamError> {
-    check_pairs(rt, run, numbers(rt, 0, 3))
+    check_pairs(rt, run, numbers(rt, streams, 0, 3))
 }
 
 #[test]
 fn a_stage_of_the_callers_own(rt: HostRuntime) -> Result<(), StreamError> {
-    at_each_setting(&rt, Suite::OwnStage)
+    run_test(&rt, Case::AtEachSetting(Suite::OwnStage))
 }

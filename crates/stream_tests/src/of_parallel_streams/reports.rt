@@ -1,15 +1,17 @@
 //! What reports say: counts, cuts and skipped leaves.
 
-use super::answers::{Reported, check, check_list, limited, numbers, reported, same};
-use super::at;
+use super::answers::{Reported, check, check_list, limited, reported, same};
 use super::gates::{Watch, once};
-use super::rows::{front, second_and_one};
+use super::rows::{front, second};
+use super::streams::{Streams, numbers};
+use super::{Case, at, run_test};
 use parallel_streams::{Run, Stream, StreamError};
 use std::alloc::Global;
 use std::process::Abort;
 use std::thread::Threads;
 use std::time::Clock;
 use stealing_pool::{RunEntry, RunReport};
+use stream_functions::Below;
 
 /// How many leaves a run had, where it was cut, and the counts of leaves; all others were skipped.
 pub type Entry<'a> = (usize, Option<usize>, &'a [(usize, u64)]);
@@ -71,16 +73,24 @@ static OF_EACH_BARRIER: [Entry<'_>; 3] = [
     (1, None, &[(0, 0)]),
 ];
 
+/// The entries of a limit, of a while, and of each of two barriers.
+pub fn check_entries<R: Threads + Clock + Abort + Alloc<A = Global> + Sync, S: Streams>(
+    rt: &R,
+    streams: &S,
+) -> Result<(), StreamError> {
+    let three = limited(rt, &at((1, 4)), numbers(rt, streams, 0, 10), 3);
+    let below = front(rt, &at((1, 10)), numbers(rt, streams, 0, 100), Below(3));
+    let five = second(rt, &at((1, 1)), numbers(rt, streams, 4, 7));
+    check_report(rt, three, &[0, 1, 2], &OF_A_LIMIT)
+        .and(check_report(rt, below, &[0, 1, 2], &OF_A_FRONT))
+        .and(check_report(rt, five, &[5], &OF_EACH_BARRIER))
+}
+
 #[test]
 fn a_limit_and_a_take_while_cut_and_each_barrier_has_an_entry(
     rt: HostRuntime,
 ) -> Result<(), StreamError> {
-    let three = limited(&rt, &at((1, 4)), numbers(&rt, 0, 10), 3);
-    let below = front(&rt, &at((1, 10)), numbers(&rt, 0, 100));
-    let six = second_and_one(&rt, &at((1, 1)), numbers(&rt, 4, 7));
-    check_report(&rt, three, &[0, 1, 2], &OF_A_LIMIT)
-        .and(check_report(&rt, below, &[0, 1, 2], &OF_A_FRONT))
-        .and(check_report(&rt, six, &[6], &OF_EACH_BARRIER))
+    run_test(&rt, Case::Entries)
 }
 
 /// The sum of `once` of the leaves that have a count, over all entries.
@@ -115,10 +125,11 @@ fn cut<R: Threads + Clock + Alloc<A = Global> + Sync, X: Stream<Item = i64> + Dr
     limited(rt, run, numbers, 3)
 }
 
-// Run by run, the leaves with a count are those that the gate was told of: 10 leaves and then 3 where nothing is cut, 2 of 4 and then 1 where
-// one worker is cut.
-#[test]
-fn a_report_is_that_of_the_runs_that_the_gate_saw(rt: HostRuntime) -> Result<(), StreamError> {
+/// The leaves of a report, and those that the gate was told of.
+pub fn check_seen<R: Threads + Clock + Abort + Alloc<A = Global> + Sync, S: Streams>(
+    rt: &R,
+    streams: &S,
+) -> Result<(), StreamError> {
     for &(workers, target, wanted) in &SEEN {
         let gate = &Watch::until(0, 0);
         let run = Run {
@@ -126,9 +137,16 @@ fn a_report_is_that_of_the_runs_that_the_gate_saw(rt: HostRuntime) -> Result<(),
             target,
             gate,
         };
-        let found = cut(&rt, &run, numbers(&rt, 0, 10), target == 1);
-        check(&rt, by_number(found), gate.by_number())?;
-        same(&rt, gate.entered(), wanted);
+        let found = cut(rt, &run, numbers(rt, streams, 0, 10), target == 1);
+        check(rt, by_number(found), gate.by_number())?;
+        same(rt, gate.entered(), wanted);
     }
     Ok(())
+}
+
+// Run by run, the leaves with a count are those that the gate was told of: 10 leaves and then 3 where nothing is cut, 2 of 4 and then 1 where
+// one worker is cut.
+#[test]
+fn a_report_is_that_of_the_runs_that_the_gate_saw(rt: HostRuntime) -> Result<(), StreamError> {
+    run_test(&rt, Case::SeenByGate)
 }

@@ -1,72 +1,57 @@
 //! The worked rows over numbers, as calls.
 
 use super::answers::{
-    Reported, check, check_items, check_list, counted, first_of, joined, limited, listed, numbers,
-    reduced, reported, sum_of,
+    Reported, check, check_items, counted, first_of, joined, limited, reduced, reported, sum_of,
 };
 use super::functions::Copies;
-use super::{Suite, at, at_each_setting};
-use parallel_streams::{Run, Stream, StreamError, of};
-use sources::{RangeSplit, SliceSplit};
-use stages::{LastOf, Max, Min, WrapAdd, WrapMul};
+use super::streams::{Streams, numbers};
+use super::{Case, Suite, at, run_test};
+use parallel_streams::{Run, Stream, StreamError};
+use sources::RangeSplit;
+use stages::{LastOf, Max, Min, Test, WrapAdd, WrapMul};
 use std::alloc::Global;
 use std::process::Abort;
+use std::sync::atomic::AtomicU64;
 use std::thread::Threads;
 use std::time::Clock;
 use stealing_pool::{Gate, NoGate};
-use stream_functions::{Above, Below, Plus, Times};
+use stream_functions::{Above, Below};
 
-/// The second of some numbers, and one.
-pub fn second_and_one<
-    R: Threads + Clock + Alloc<A = Global> + Sync,
-    X: Stream<Item = i64> + Drop + Sync,
->(rt: &R, run: &Run<'_, NoGate>, numbers: X) -> Reported
-    requires { X.ready numbers }
-{
-    first_and_one(rt, run, numbers.skip(1))
-}
-
-// The first of some numbers, and one.
-fn first_and_one<
-    R: Threads + Clock + Alloc<A = Global> + Sync,
-    X: Stream<Item = i64> + Drop + Sync,
->(rt: &R, run: &Run<'_, NoGate>, numbers: X) -> Reported
-    requires { X.ready numbers }
-{
-    plus_one(rt, run, numbers.limit(1))
-}
-
-// Each number and one.
-fn plus_one<R: Threads + Clock + Alloc<A = Global> + Sync, X: Stream<Item = i64> + Drop + Sync>(
+/// The second of some numbers.
+pub fn second<R: Threads + Clock + Alloc<A = Global> + Sync, X: Stream<Item = i64> + Drop + Sync>(
     rt: &R,
     run: &Run<'_, NoGate>,
     numbers: X,
 ) -> Reported
     requires { X.ready numbers }
 {
-    reported(rt, run, &numbers.map(Plus(1)))
+    limited(rt, run, numbers.skip(1), 1)
 }
 
-/// The front of some numbers that is below 3.
-pub fn front<R: Threads + Clock + Alloc<A = Global> + Sync, X: Stream<Item = i64> + Drop + Sync>(
-    rt: &R,
-    run: &Run<'_, NoGate>,
-    numbers: X,
-) -> Reported
-    requires { X.ready numbers }
+/// The front of some numbers that meet a test.
+pub fn front<
+    R: Threads + Clock + Alloc<A = Global> + Sync,
+    H: Gate + Sync,
+    X: Stream<Item = i64> + Drop + Sync,
+    P: Test<i64> + Drop + Sync,
+>(rt: &R, run: &Run<'_, H>, numbers: X, test: P) -> Reported
+    requires numbers { X.ready numbers }
+    requires test { P.ready test }
 {
-    reported(rt, run, &numbers.take_while(Below(3)))
+    reported(rt, run, &numbers.take_while(test))
 }
 
-// What follows that front.
-fn rest<R: Threads + Clock + Alloc<A = Global> + Sync, X: Stream<Item = i64> + Drop + Sync>(
-    rt: &R,
-    run: &Run<'_, NoGate>,
-    numbers: X,
-) -> Result<Vec<i64>, StreamError>
-    requires { X.ready numbers }
+/// The first number that meets a test, and what each run tells of its leaves.
+pub fn first_that<
+    R: Threads + Clock + Alloc<A = Global> + Sync,
+    H: Gate + Sync,
+    X: Stream<Item = i64> + Drop + Sync,
+    P: Test<i64> + Drop + Sync,
+>(rt: &R, run: &Run<'_, H>, numbers: X, test: P) -> Reported
+    requires numbers { X.ready numbers }
+    requires test { P.ready test }
 {
-    listed(rt, run, &numbers.drop_while(Below(3)))
+    limited(rt, run, numbers.filter(test), 1)
 }
 
 /// The first of the numbers that differ. The limit stops no leaf before `distinct`.
@@ -79,61 +64,17 @@ pub fn first_apart<
     limited(rt, run, numbers.distinct(), most)
 }
 
-/// The first of the items that are above 100, of numbers times three, and what each run tells of its leaves.
-pub fn first_above_hundred<
-    R: Threads + Clock + Alloc<A = Global> + Sync,
-    H: Gate + Sync,
-    X: Stream<Item = i64> + Drop + Sync,
->(rt: &R, run: &Run<'_, H>, numbers: X) -> Reported
-    requires { X.ready numbers }
-{
-    first_above(rt, run, numbers.map(Times(3)))
-}
-
-// The first of the numbers that are above 100.
-fn first_above<
-    R: Threads + Clock + Alloc<A = Global> + Sync,
-    H: Gate + Sync,
-    X: Stream<Item = i64> + Drop + Sync,
->(rt: &R, run: &Run<'_, H>, numbers: X) -> Reported
-    requires { X.ready numbers }
-{
-    limited(rt, run, numbers.filter(Above(100)), 1)
-}
-
-// The same by the terminal alone.
-fn found_above_hundred<
-    R: Threads + Clock + Alloc<A = Global> + Sync,
-    X: Stream<Item = i64> + Drop + Sync,
->(rt: &R, run: &Run<'_, NoGate>, numbers: X) -> Result<Option<i64>, StreamError>
-    requires { X.ready numbers }
-{
-    found_above(rt, run, numbers.map(Times(3)))
-}
-
-// .. of the numbers themselves.
-fn found_above<R: Threads + Clock + Alloc<A = Global> + Sync, X: Stream<Item = i64> + Drop + Sync>(
+// What stands before a number above 2, the second, and the first none.
+fn fronts<R: Threads + Clock + Abort + Alloc<A = Global> + Sync, S: Streams>(
     rt: &R,
     run: &Run<'_, NoGate>,
-    numbers: X,
-) -> Result<Option<i64>, StreamError>
-    requires { X.ready numbers }
-{
-    first_of(rt, run, &numbers.filter(Above(100)))
-}
-
-// What stands before a number above 2, what follows, the second and one, and the first none.
-fn fronts<R: Threads + Clock + Abort + Alloc<A = Global> + Sync>(
-    rt: &R,
-    run: &Run<'_, NoGate>,
+    streams: &S,
 ) -> Result<(), StreamError> {
-    let below = front(rt, run, of(SliceSplit::new(&[1, 2, 5, 1])));
-    let rest = rest(rt, run, of(SliceSplit::new(&[1, 2, 5, 1])));
-    let nine = second_and_one(rt, run, of(SliceSplit::new(&[4, 8, 15])));
-    let none = limited(rt, run, of(SliceSplit::new(&[4, 8, 15])), 0);
+    let below = front(rt, run, streams.slice(&[1, 2, 5, 1]), Below(3));
+    let eight = second(rt, run, streams.slice(&[4, 8, 15]));
+    let none = limited(rt, run, streams.slice(&[4, 8, 15]), 0);
     check_items(rt, below, &[1, 2])
-        .and(check_list(rt, rest, &[5, 1]))
-        .and(check_items(rt, nine, &[9]))
+        .and(check_items(rt, eight, &[8]))
         .and(check_items(rt, none, &[]))
 }
 
@@ -158,36 +99,44 @@ fn check_copies<
     requires { X.ready numbers }
 {
     let (most, wanted, number) = row;
-    let copies = numbers.flat_map(Copies { alloc: rt.alloc() });
+    let asked = AtomicU64::new(0);
+    let copies = numbers.flat_map(Copies {
+        alloc: rt.alloc(),
+        asked: &asked,
+    });
     let count = counted(rt, run, &copies);
     check(rt, count, number).and(check_items(rt, limited(rt, run, copies, most), wanted))
 }
 
-fn firsts<R: Threads + Clock + Abort + Alloc<A = Global> + Sync>(
+fn firsts<R: Threads + Clock + Abort + Alloc<A = Global> + Sync, S: Streams>(
     rt: &R,
     run: &Run<'_, NoGate>,
+    streams: &S,
 ) -> Result<(), StreamError> {
     for &(numbers, most, wanted) in &APART {
-        let found = first_apart(rt, run, of(SliceSplit::new(numbers)), most);
+        let found = first_apart(rt, run, streams.slice(numbers), most);
         check_items(rt, found, wanted)?;
     }
     for &(numbers, wanted) in &COPIES {
-        check_copies(rt, run, of(SliceSplit::new(numbers)), wanted)?;
+        check_copies(rt, run, streams.slice(numbers), wanted)?;
     }
     Ok(())
 }
 
-fn reductions<R: Threads + Clock + Abort + Alloc<A = Global> + Sync>(
+fn reductions<R: Threads + Clock + Abort + Alloc<A = Global> + Sync, S: Streams>(
     rt: &R,
     run: &Run<'_, NoGate>,
+    streams: &S,
 ) -> Result<(), StreamError> {
     for &(numbers, identity) in &LASTS {
-        let last = last_below(rt, run, of(SliceSplit::new(numbers)), identity);
+        let last = last_below(rt, run, streams.slice(numbers), identity);
         check(rt, last, 9)?;
     }
-    let product = joined(rt, run, &[2, 5, 3], &WrapMul::new());
-    check(rt, joined(rt, run, &[], &Max::new()), None)
-        .and(check(rt, joined(rt, run, &[2, 5, 3], &Min::new()), Some(2)))
+    let greatest = joined(rt, run, &streams.slice(&[]), &Max::new());
+    let least = joined(rt, run, &streams.slice(&[2, 5, 3]), &Min::new());
+    let product = joined(rt, run, &streams.slice(&[2, 5, 3]), &WrapMul::new());
+    check(rt, greatest, None)
+        .and(check(rt, least, Some(2)))
         .and(check(rt, product, Some(30)))
 }
 
@@ -217,15 +166,23 @@ fn check_sums<
         .and(check(rt, sum_of(rt, run, &numbers), sum))
 }
 
-fn ranges<R: Threads + Clock + Abort + Alloc<A = Global> + Sync>(
+/// The ends of closed ranges, the first number or none, and the sum, which wraps.
+static SUMS: [(i64, i64, Option<i64>, i64); 3] = [
+    (1, 5, Some(1), 15),
+    (5, 4, None, 0),
+    (i64::MAX - 1, i64::MAX, Some(i64::MAX - 1), -3),
+];
+
+fn ranges<R: Threads + Clock + Abort + Alloc<A = Global> + Sync, S: Streams>(
     rt: &R,
     run: &Run<'_, NoGate>,
+    streams: &S,
 ) -> Result<(), StreamError> {
-    let last = i64::MAX;
-    let last_two = RangeSplit::closed(last - 1, last).expect(rt, "a range");
-    check_sums(rt, run, numbers(rt, 1, 6), Some(1), 15)
-        .and(check_sums(rt, run, numbers(rt, 5, 5), None, 0))
-        .and(check_sums(rt, run, of(last_two), Some(last - 1), -3))
+    for &(start, last, first, sum) in &SUMS {
+        let range = RangeSplit::closed(start, last).expect(rt, "a range");
+        check_sums(rt, run, streams.range(range), first, sum)?;
+    }
+    Ok(())
 }
 
 // The last number below 10, or the identity.
@@ -247,30 +204,39 @@ fn last_below<R: Threads + Clock + Alloc<A = Global> + Sync, X: Stream<Item = i6
 }
 
 /// Rows of one setting.
-pub fn rows<R: Threads + Clock + Abort + Alloc<A = Global> + Sync>(
+pub fn rows<R: Threads + Clock + Abort + Alloc<A = Global> + Sync, S: Streams>(
     rt: &R,
     run: &Run<'_, NoGate>,
+    streams: &S,
 ) -> Result<(), StreamError> {
-    fronts(rt, run)
-        .and(firsts(rt, run))
-        .and(reductions(rt, run))
-        .and(ranges(rt, run))
+    fronts(rt, run, streams)
+        .and(firsts(rt, run, streams))
+        .and(reductions(rt, run, streams))
+        .and(ranges(rt, run, streams))
 }
 
 #[test]
 fn rows_at_each_number_of_workers(rt: HostRuntime) -> Result<(), StreamError> {
-    at_each_setting(&rt, Suite::Numbers)
+    run_test(&rt, Case::AtEachSetting(Suite::Numbers))
 }
 
 /// Numbers of workers.
 static WORKERS: [u32; 4] = [1, 7, 2, 64];
 
-#[test]
-fn the_first_of_a_million(rt: HostRuntime) -> Result<(), StreamError> {
+/// The first of a million that is above 100.
+pub fn check_million<R: Threads + Clock + Abort + Alloc<A = Global> + Sync, S: Streams>(
+    rt: &R,
+    streams: &S,
+) -> Result<(), StreamError> {
     for &workers in &WORKERS {
-        let million = numbers(&rt, 0, 1_000_000);
-        let first = found_above_hundred(&rt, &at((workers, 1000)), million);
-        check(&rt, first, Some(102))?;
+        let million = numbers(rt, streams, 0, 1_000_000);
+        let first = first_that(rt, &at((workers, 1000)), million, Above(100));
+        check_items(rt, first, &[101])?;
     }
     Ok(())
+}
+
+#[test]
+fn the_first_of_a_million(rt: HostRuntime) -> Result<(), StreamError> {
+    run_test(&rt, Case::FirstOfMillion)
 }

@@ -1,9 +1,12 @@
 //! Settings that are refused before anything runs.
 
-use super::answers::{check, counted, first_of, numbers, same};
+use super::answers::{check, counted, first_of, same};
 use super::gates::Watch;
+use super::streams::{Streams, numbers};
+use super::{Case, run_test};
 use parallel_streams::{MapError, Run, Stream, StreamError};
 use std::alloc::Global;
+use std::process::Abort;
 use std::test::Fail;
 use std::thread::Threads;
 use std::time::Clock;
@@ -27,25 +30,33 @@ fn both<R: Threads + Clock + Alloc<A = Global> + Sync, X: Stream<Item = i64> + S
     (counted(rt, run, numbers), first_of(rt, run, numbers))
 }
 
-#[test]
-fn unlawful_settings_are_refused(rt: HostRuntime) -> Result<(), StreamError> {
+/// Settings that no run may have, and the greatest that it may.
+pub fn check_unlawful<R: Threads + Clock + Abort + Alloc<A = Global> + Sync, S: Streams>(
+    rt: &R,
+    streams: &S,
+) -> Result<(), StreamError> {
     let gate = Watch::until(0, 0);
-    let ten = numbers(&rt, 0, 10);
+    let ten = numbers(rt, streams, 0, 10);
     for &(workers, target, error) in &UNLAWFUL {
         let run = Run {
             workers,
             target,
             gate: &gate,
         };
-        same(&rt, both(&rt, &run, &ten), (Err(error), Err(error)));
+        same(rt, both(rt, &run, &ten), (Err(error), Err(error)));
     }
-    same(&rt, gate.entered(), 0);
+    same(rt, gate.entered(), 0);
     let run = Run {
         workers: 64,
         target: 4_611_686_018_427_387_904,
         gate: &gate,
     };
-    check(&rt, both(&rt, &run, &ten).1, Some(0))
+    check(rt, both(rt, &run, &ten).1, Some(0))
+}
+
+#[test]
+fn unlawful_settings_are_refused(rt: HostRuntime) -> Result<(), StreamError> {
+    run_test(&rt, Case::UnlawfulSettings)
 }
 
 #[test]

@@ -1,16 +1,17 @@
 //! Sizes that are known before anything runs, and the flags.
 ghost use Rattle.std.specs.Prelude.{◌<◌, ◌^◌};
 
-use super::SETTINGS;
-use super::answers::{check, counted, numbers, same};
+use super::answers::{check, counted, same};
 use super::gates::Watch;
+use super::streams::{Streams, numbers};
+use super::{Case, SETTINGS, run_test};
 use parallel_streams::{Plumbing, Run, Stream, StreamError};
 use stages::{Filter, StreamFlags};
 use std::alloc::Global;
 use std::process::Abort;
 use std::thread::Threads;
 use std::time::Clock;
-use stream_functions::{Above, Itself};
+use stream_functions::Above;
 
 /// The most items of a range.
 const GREAT: i64 = 4_611_686_018_427_387_904;
@@ -66,7 +67,7 @@ fn check_known<
 {
     let (skipped, most, size) = row;
     assert!(rt; skipped < 9_223_372_036_854_775_808 && most < 9_223_372_036_854_775_808);
-    let (_, known, count) = behind_both(rt, run, numbers.map(Itself), skipped, most);
+    let (_, known, count) = behind_both(rt, run, numbers, skipped, most);
     same(rt, (known, count), (Some(size.unsigned_abs()), Ok(size)));
 }
 
@@ -89,29 +90,41 @@ fn check_cleared<
     check(rt, count, i64::from(most))
 }
 
-#[test]
-fn a_count_of_a_known_size_runs_no_leaf(rt: HostRuntime) {
+/// The flags of the greatest range, and counts that are known.
+pub fn check_counts<R: Threads + Clock + Abort + Alloc<A = Global> + Sync, S: Streams>(
+    rt: &R,
+    streams: &S,
+) -> Result<(), StreamError> {
     let gate = Watch::until(0, 0);
-    let great = numbers(&rt, 0, GREAT);
+    let great = numbers(rt, streams, 0, GREAT);
     let flags = great.flags();
     let told = [flags.is_distinct(), flags.is_sorted(), flags.is_sized()];
-    same(&rt, told, [true, true, true]);
+    same(rt, told, [true, true, true]);
     for &(workers, target) in &SETTINGS {
         let run = Run {
             workers,
             target,
             gate: &gate,
         };
-        same(&rt, counted(&rt, &run, &great), Ok(GREAT));
+        same(rt, counted(rt, &run, &great), Ok(GREAT));
         for &(end, row) in &KNOWN {
-            check_known(&rt, &run, numbers(&rt, 0, end), row);
+            check_known(rt, &run, numbers(rt, streams, 0, end), row);
         }
     }
-    same(&rt, gate.entered(), 0);
+    same(rt, gate.entered(), 0);
+    Ok(())
 }
 
 #[test]
-fn a_filter_clears_the_known_size(rt: HostRuntime) -> Result<(), StreamError> {
+fn a_count_of_a_known_size_runs_no_leaf(rt: HostRuntime) -> Result<(), StreamError> {
+    run_test(&rt, Case::KnownCounts)
+}
+
+/// Counts behind a filter.
+pub fn check_filtered<R: Threads + Clock + Abort + Alloc<A = Global> + Sync, S: Streams>(
+    rt: &R,
+    streams: &S,
+) -> Result<(), StreamError> {
     let gate = Watch::until(0, 0);
     for &(workers, target) in &SETTINGS {
         let run = Run {
@@ -120,9 +133,14 @@ fn a_filter_clears_the_known_size(rt: HostRuntime) -> Result<(), StreamError> {
             gate: &gate,
         };
         for most in [3, 5] {
-            check_cleared(&rt, &run, numbers(&rt, 0, 10), most)?;
+            check_cleared(rt, &run, numbers(rt, streams, 0, 10), most)?;
         }
     }
-    same(&rt, gate.entered() > 0, true);
+    same(rt, gate.entered() > 0, true);
     Ok(())
+}
+
+#[test]
+fn a_filter_clears_the_known_size(rt: HostRuntime) -> Result<(), StreamError> {
+    run_test(&rt, Case::FilteredCounts)
 }

@@ -1,25 +1,23 @@
-//! Maps with no merge function.
+//! Maps with no merge function. `collector_tests` has those of texts.
 
 use super::answers::same;
 use super::groups::check_entries;
-use super::{Suite, at_each_setting};
+use super::streams::Streams;
+use super::{Case, Suite, run_test};
 use indexmap::IndexMap;
-use parallel_streams::{MapError, Run, Stream, StreamError, of};
-use sources::{LinesSplit, SliceSplit};
-use stages::Mapping;
+use parallel_streams::{MapError, Run, Stream, StreamError};
 use std::alloc::Global;
-use std::fmt::Debug;
 use std::process::Abort;
 use std::thread::Threads;
 use std::time::Clock;
 use stealing_pool::NoGate;
-use stream_functions::{Itself, Length, Plus};
+use stream_functions::{Itself, Plus};
 
 /// Checks the entries of a map, or the key that repeats.
-fn check_map<V: Debug + PartialEq + Drop>(
+fn check_map(
     rt: &impl Abort,
-    answer: Result<IndexMap<i64, V>, MapError<i64>>,
-    (keys, values, repeated): (&[i64], &[V], Option<i64>),
+    answer: Result<IndexMap<i64, i64>, MapError<i64>>,
+    (keys, values, repeated): (&[i64], &[i64], Option<i64>),
 ) -> Result<(), StreamError> {
     let found = match answer {
         Ok(map) => map,
@@ -35,27 +33,16 @@ fn check_map<V: Debug + PartialEq + Drop>(
     check_entries(rt, Ok(found), keys, values)
 }
 
-// Checks the map of a stream's items by two functions.
-fn check_keyed<
-    R: Threads + Clock + Abort + Alloc<A = Global> + Sync,
-    X: Stream + Drop + Sync,
-    K: Mapping<X::Item, Out = i64> + Drop + Sync,
-    V: Mapping<X::Item> + Drop + Sync,
->(
+// Checks the map of each number to the next one.
+fn check_next<R: Threads + Clock + Abort + Alloc<A = Global> + Sync, X: Stream<Item = i64> + Sync>(
     rt: &R,
     run: &Run<'_, NoGate>,
-    stream: X,
-    key: K,
-    value: V,
-    expected: (&[i64], &[V::Out], Option<i64>),
+    numbers: &X,
+    expected: (&[i64], &[i64], Option<i64>),
 ) -> Result<(), StreamError>
-where
-    V::Out: Eq + Debug + Drop + Send,
-    requires stream { X.ready stream }
-    requires key { K.ready key }
-    requires value { V.ready value }
+    requires { X.ready numbers.now }
 {
-    let answer = stream.to_map_strict(rt, rt.alloc(), run, &key, &value);
+    let answer = numbers.to_map_strict(rt, rt.alloc(), run, &Itself, &Plus(1));
     check_map(rt, answer, expected)
 }
 
@@ -68,29 +55,19 @@ static NUMBERS: [(&[i64], (&[i64], &[i64], Option<i64>)); 4] = [
     (&[], (&[], &[], None)),
 ];
 
-/// Lines, and the length of each to the line, or the key that comes again.
-static LINES: [(&str, (&[i64], &[&str], Option<i64>)); 2] = [
-    ("ab\ncd\n", (&[], &[], Some(2))),
-    ("ab\nc\n", (&[2, 1], &["ab", "c"], None)),
-];
-
 /// Rows of one setting.
-pub fn rows<R: Threads + Clock + Abort + Alloc<A = Global> + Sync>(
+pub fn rows<R: Threads + Clock + Abort + Alloc<A = Global> + Sync, S: Streams>(
     rt: &R,
     run: &Run<'_, NoGate>,
+    streams: &S,
 ) -> Result<(), StreamError> {
     for &(numbers, expected) in &NUMBERS {
-        let stream = of(SliceSplit::new(numbers));
-        check_keyed(rt, run, stream, Itself, Plus(1), expected)?;
-    }
-    for &(lines, expected) in &LINES {
-        let stream = of(LinesSplit::new(lines));
-        check_keyed(rt, run, stream, Length, Itself, expected)?;
+        check_next(rt, run, &streams.slice(numbers), expected)?;
     }
     Ok(())
 }
 
 #[test]
 fn strict_maps_at_each_number_of_workers(rt: HostRuntime) -> Result<(), StreamError> {
-    at_each_setting(&rt, Suite::StrictMaps)
+    run_test(&rt, Case::AtEachSetting(Suite::StrictMaps))
 }
