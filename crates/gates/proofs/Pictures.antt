@@ -1,5 +1,5 @@
 -- The marks and lines of a picture, one after another.
-use Rattle.std.proofs.Common.{length, drop, get_or, append_assoc, append-nil, ◌≡◌, ◌<◌, ◌≤◌, ◌+◌, ◌*◌, ◌-◌, ◌++◌, ◌∙◌, ℕ, zero, suc, Bool, true, false, ◌&&◌, List, [], ◌∷◌, min, ap, sym, refl, arith}
+use Rattle.std.proofs.Common.{length, drop, get_or, append_assoc, append-nil, ◌≡◌, ◌<◌, ◌≤◌, ◌+◌, ◌*◌, ◌-◌, ◌++◌, ◌∙◌, ℕ, zero, suc, Bool, true, false, ◌&&◌, List, [], min, ap, sym, refl, arith}
 use Rattle.std.proofs.lemmas.List.{drop_more}
 use Rattle.std.proofs.lemmas.Grind.{div_ceil_times}
 use Rattle.std.proofs.Math.Nat.{suc-mul}

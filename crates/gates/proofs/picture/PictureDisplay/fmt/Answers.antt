@@ -1,4 +1,4 @@
-use Rattle.std.proofs.Common.{◌+◌, ◌++◌, ap, arith, rules}
+use Rattle.std.proofs.Common.{◌+◌, ◌++◌, ap, rules}
 use Rattle.std.proofs.Output.{has_written_append}
 use Rattle.gates.specs.Pictures.{line}
 use Rattle.gates.proofs.Pictures.{lines_next}
