@@ -29,37 +29,34 @@ enum Task {
     Sort,
     SortByKey,
     Concat,
-    SumBehind,
-    AnyBehind,
-    DistinctList,
 }
 
-/// A task, the numbers from 1 up to so many, the estimate of a leaf, what the task makes of them, and what is asked in turn: before a (r)un, a (l)eaf, a
-/// (c)ombination, a barrier's (p)ass, the (f)inish of a container, (k)eys, a (s)ort, and (w)ithin a leaf, after each stretch of 1,024 items: also a last one that
-/// is shorter, where it is read as a block.
-static ASKED: [(Task, i64, u64, i64, &str); 16] = [
-    (Task::Sum, 2, 1, 3, "rllcf"),
-    (Task::Sum, 4, 1, 10, "rllllcccf"),
-    (Task::Sum, 5_000, 5_000, 12_502_500, "rlwwwwf"),
-    (Task::Join, 2, 1, 3, "rllcf"),
-    (Task::Report, 2, 1, 3, "rllcf"),
-    (Task::First, 2, 1, 1, "rlf"),
-    (Task::Any, 2, 1, 0, "rllc"),
-    (Task::List, 2, 1, 2, "rllf"),
-    (Task::Sort, 2, 1, 1, "rllfs"),
-    (Task::SortByKey, 2, 1, 2, "rllfks"),
-    (Task::Concat, 2, 1, 6, "rllcrllccf"),
-    (Task::SumBehind, 2, 1, 3, "rllcprlwlwcf"),
+/// A task, whether a limit stands in front of it, the numbers from 1 up to so many, the estimate of a leaf, what the task makes of them, and what is asked in
+/// turn: before a (r)un, a (l)eaf, a (c)ombination, a barrier's (p)ass, the (f)inish of a container, (k)eys, a (s)ort, and (w)ithin a leaf, after each stretch of
+/// 1,024 items: also a last one that is shorter, where it is read as a block.
+static ASKED: [(Task, bool, i64, u64, i64, &str); 15] = [
+    (Task::Sum, false, 2, 1, 3, "rllcf"),
+    (Task::Sum, false, 4, 1, 10, "rllllcccf"),
+    (Task::Sum, false, 5_000, 5_000, 12_502_500, "rlwwwwf"),
+    (Task::Join, false, 2, 1, 3, "rllcf"),
+    (Task::Report, false, 2, 1, 3, "rllcf"),
+    (Task::First, false, 2, 1, 1, "rlf"),
+    (Task::Any, false, 2, 1, 0, "rllc"),
+    (Task::List, false, 2, 1, 2, "rllf"),
+    (Task::Sort, false, 2, 1, 1, "rllfs"),
+    (Task::SortByKey, false, 2, 1, 2, "rllfks"),
+    (Task::Concat, false, 2, 1, 6, "rllcrllccf"),
+    (Task::Sum, true, 2, 1, 3, "rllcprlwlwcf"),
     (
-        Task::SumBehind,
+        Task::Sum,
+        true,
         5_000,
         5_000,
         12_502_500,
         "rlwwprlwwwrlwwprlwwwcf",
     ),
-    (Task::AnyBehind, 2, 1, 0, "rllcprlwlwc"),
-    (Task::AnyBehind, 5_000, 5_000, 0, "rlwwprlwwwrlwwprlwwwc"),
-    (Task::DistinctList, 2, 1, 2, "rllcprllcf"),
+    (Task::Any, true, 2, 1, 0, "rllcprlwlwc"),
+    (Task::Any, true, 5_000, 5_000, 0, "rlwwprlwwwrlwwprlwwwc"),
 ];
 
 fn first_of(numbers: &[i64]) -> i64 {
@@ -69,12 +66,12 @@ fn first_of(numbers: &[i64]) -> i64 {
     }
 }
 
-fn made_of<R: Threads + Clock + Sync, H: Gate + Sync, X: Stream<Item = i64> + Drop + Sync>(
+fn made_of<R: Threads + Clock + Sync, H: Gate + Sync, X: Stream<Item = i64> + Sync>(
     engine: &Engine<'_, R, H>,
-    items: X,
+    items: &X,
     task: Task,
 ) -> Result<i64, NoMemory>
-    requires { X.ready items }
+    requires { X.ready items.now }
 {
     let sum = SummingLong::new(Itself);
     match task {
@@ -93,10 +90,32 @@ fn made_of<R: Threads + Clock + Sync, H: Gate + Sync, X: Stream<Item = i64> + Dr
         Task::List => Ok(items.to_list(engine)?.len() as i64),
         Task::Sort => Ok(first_of(&items.sorted(engine)?)),
         Task::SortByKey => Ok(first_of(&items.sorted_by_key(engine, &Negated)?)),
-        Task::Concat => items.concat(engine, &items, &sum),
-        Task::SumBehind => items.limit(9_000).collect_on(engine, &sum),
-        Task::AnyBehind => Ok(i64::from(items.limit(9_000).any_match_on(engine, &Above(9_000))?)),
-        Task::DistinctList => Ok(items.distinct().to_list(engine)?.len() as i64),
+        Task::Concat => items.concat(engine, items, &sum),
+    }
+}
+
+fn made_behind<R: Threads + Clock + Sync, H: Gate + Sync, X: Stream<Item = i64> + Drop + Sync>(
+    engine: &Engine<'_, R, H>,
+    items: X,
+    task: Task,
+) -> Result<i64, NoMemory>
+    requires { X.ready items }
+{
+    made_of(engine, &items.limit(9_000), task)
+}
+
+fn made<R: Threads + Clock + Sync, H: Gate + Sync, X: Stream<Item = i64> + Drop + Sync>(
+    engine: &Engine<'_, R, H>,
+    items: X,
+    is_limited: bool,
+    task: Task,
+) -> Result<i64, NoMemory>
+    requires { X.ready items }
+{
+    if is_limited {
+        made_behind(engine, items, task)
+    } else {
+        made_of(engine, &items, task)
     }
 }
 
@@ -155,7 +174,7 @@ fn is_told(
 
 #[test]
 fn a_halt_is_noticed_wherever_it_is_asked(rt: HostRuntime) -> Result<(), Fail> {
-    for &(task, last, target, wanted, asked) in &ASKED {
+    for &(task, is_limited, last, target, wanted, asked) in &ASKED {
         for place in 0..=asked.len() {
             let (clock, gate) = (Ticks::of(1), Counts::new());
             let at = moment(&clock, place)?;
@@ -170,7 +189,7 @@ fn a_halt_is_noticed_wherever_it_is_asked(rt: HostRuntime) -> Result<(), Fail> {
             };
             let engine = Engine::new(&rt, rt.alloc(), &run).expect(&rt, "an engine");
             let numbers = of(RangeSplit::range(0, last).expect(&rt, "a range")).map(Plus(1));
-            let answer = made_of(&engine, numbers, task).ok();
+            let answer = made(&engine, numbers, is_limited, task).ok();
             assert!(&rt;
                 is_told(&until, answer, wanted, asked, place),
                 "{asked} {place} {}",
