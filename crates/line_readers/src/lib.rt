@@ -10,6 +10,8 @@
 mod barred;
 mod between;
 mod ending;
+mod flight;
+mod lane;
 mod line_function;
 mod lines;
 mod linked;

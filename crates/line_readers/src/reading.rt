@@ -25,7 +25,7 @@ use std::time::Clock;
 use stealing_pool::Gate;
 
 /// The next block, and the reader behind it.
-fn read_ahead<I: Read + Drop>(
+pub(crate) fn read_ahead<I: Read + Drop>(
     blocks: LineBlocks<I>,
     room: Vec<u8>,
 ) -> Result<(LineBlocks<I>, Block), LinesError>
