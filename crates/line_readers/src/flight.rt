@@ -30,6 +30,7 @@ use std::thread::{Promise, PromisedHandle, Scope, Threads};
 use std::time::Clock;
 
 /// What becomes of each line, and what takes it: a function, a stage behind it, and a collector.
+#[derive(Drop)]
 pub(crate) struct Passing<'a, F, G, C> {
     pub function: &'a F,
     pub stage: &'a G,

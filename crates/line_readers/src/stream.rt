@@ -19,6 +19,7 @@ use parallel_streams::Engine;
 use spliterator::OrderedValue;
 use stages::{Nothing, Sink, Stage, Test};
 use std::io::Read;
+use std::sync::Wait;
 use std::thread::Threads;
 use std::time::Clock;
 use stealing_pool::Gate;
@@ -134,8 +135,9 @@ pub trait LineStream: Sized {
         BarredLines::new(self, Distinct::new())
     }
 
-    /// The result of a collector on all the items. While one block is worked on, another thread reads the next one: memory is that of two blocks, of the
-    /// container, and of the containers of a block's leaves, however much the reader has.
+    /// The result of a collector on all the items. As many blocks are worked on at once as there are workers, each by a thread of its own, while the
+    /// caller's thread reads the next one: memory is that of so many blocks and their containers, however much the reader has. In front of an operation
+    /// that looks at many items one block is worked on by all workers, while another thread reads the next one.
     ///
     /// ```text
     /// lines_of(file).map_lines(Number).collect_on(&engine, &Counting::new())?
@@ -143,7 +145,7 @@ pub trait LineStream: Sized {
     // java.util.stream.Stream, collect
     final fn collect_on<C: Collector<Item = Self::Item> + Sync>(
         self,
-        engine: &Engine<'_, impl Threads + Clock + Sync, impl Gate + Sync>,
+        engine: &Engine<'_, impl Threads + Clock + Wait + Sync, impl Gate + Sync>,
         collector: &C,
     ) -> Result<C::Out, LinesError>
     where
@@ -177,7 +179,7 @@ pub trait LineStream: Sized {
     // java.util.stream, package summary, Stream operations and pipelines (short-circuiting)
     final fn collect_decided<C: Deciding<Item = Self::Item> + Sync>(
         self,
-        engine: &Engine<'_, impl Threads + Clock + Sync, impl Gate + Sync>,
+        engine: &Engine<'_, impl Threads + Clock + Wait + Sync, impl Gate + Sync>,
         collector: &C,
     ) -> Result<C::Out, LinesError>
     where
@@ -206,7 +208,7 @@ pub trait LineStream: Sized {
     // java.util.stream.Stream, count
     final fn count_on(
         self,
-        engine: &Engine<'_, impl Threads + Clock + Sync, impl Gate + Sync>,
+        engine: &Engine<'_, impl Threads + Clock + Wait + Sync, impl Gate + Sync>,
     ) -> Result<i64, LinesError>
         requires { Self.ready self }
         ensures faults { IfErr result (IsFault (Self.longest self) (Self.known self)) }
@@ -221,7 +223,7 @@ pub trait LineStream: Sized {
     // java.util.stream.Stream, findFirst
     final fn find_first_on(
         self,
-        engine: &Engine<'_, impl Threads + Clock + Sync, impl Gate + Sync>,
+        engine: &Engine<'_, impl Threads + Clock + Wait + Sync, impl Gate + Sync>,
     ) -> Result<Option<Self::Item>, LinesError>
         requires lines { Self.ready self }
         requires clones { ClonesAlike Self.Item.is_clone Self.Item.content }
@@ -246,7 +248,7 @@ pub trait LineStream: Sized {
     // java.util.stream.Stream, anyMatch
     final fn any_match_on<P: Test<Self::Item> + Sync>(
         self,
-        engine: &Engine<'_, impl Threads + Clock + Sync, impl Gate + Sync>,
+        engine: &Engine<'_, impl Threads + Clock + Wait + Sync, impl Gate + Sync>,
         test: &P,
     ) -> Result<bool, LinesError>
         requires lines { Self.ready self }
@@ -272,7 +274,7 @@ pub trait LineStream: Sized {
     // java.util.stream.Stream, allMatch
     final fn all_match_on<P: Test<Self::Item> + Sync>(
         self,
-        engine: &Engine<'_, impl Threads + Clock + Sync, impl Gate + Sync>,
+        engine: &Engine<'_, impl Threads + Clock + Wait + Sync, impl Gate + Sync>,
         test: &P,
     ) -> Result<bool, LinesError>
         requires lines { Self.ready self }
@@ -289,7 +291,7 @@ pub trait LineStream: Sized {
     // java.util.stream.Stream, noneMatch
     final fn none_match_on<P: Test<Self::Item> + Sync>(
         self,
-        engine: &Engine<'_, impl Threads + Clock + Sync, impl Gate + Sync>,
+        engine: &Engine<'_, impl Threads + Clock + Wait + Sync, impl Gate + Sync>,
         test: &P,
     ) -> Result<bool, LinesError>
         requires lines { Self.ready self }

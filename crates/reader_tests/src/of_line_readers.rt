@@ -13,6 +13,7 @@ use spliterator::NoMemory;
 use stages::{Nothing, Sink};
 use std::alloc::Global;
 use std::process::Abort;
+use std::sync::Wait;
 use std::thread::Threads;
 use std::time::Clock;
 use stealing_pool::NoGate;
@@ -68,7 +69,7 @@ fn are(texts: &[String], lines: &[&str]) -> bool {
             .all(|(text, line)| text.as_str() == *line)
 }
 
-fn rows<R: Threads + Clock + Abort + Alloc<A = Global> + Sync>(
+fn rows<R: Threads + Clock + Wait + Abort + Alloc<A = Global> + Sync>(
     engine: &Engine<'_, R, NoGate>,
 ) -> Result<(), LinesError> {
     let rt = engine.rt;
@@ -243,7 +244,7 @@ static TRIED: [(&[u8], &[&str], bool); 5] = [
 ];
 
 /// Hands lines over, in blocks of four bytes, up to the first that has failed.
-fn hand_tried<R: Threads + Clock + Alloc<A = Global> + Sync>(
+fn hand_tried<R: Threads + Clock + Wait + Alloc<A = Global> + Sync>(
     engine: &Engine<'_, R, NoGate>,
     bytes: &[u8],
     tried: &mut UpToError<'_, Vec<String>, String>,
@@ -256,7 +257,7 @@ fn hand_tried<R: Threads + Clock + Alloc<A = Global> + Sync>(
 }
 
 /// Whether a line has failed. Once one has, nothing more is read.
-fn hand_over<R: Threads + Clock + Alloc<A = Global> + Sync>(
+fn hand_over<R: Threads + Clock + Wait + Alloc<A = Global> + Sync>(
     engine: &Engine<'_, R, NoGate>,
     bytes: &[u8],
     texts: &mut Vec<String>,
@@ -298,7 +299,7 @@ fn short_blocks(
     lines.map_lines(OwnLine { alloc })
 }
 
-fn matched<R: Threads + Clock + Sync, L: LineStream<Item = String> + Drop>(
+fn matched<R: Threads + Clock + Wait + Sync, L: LineStream<Item = String> + Drop>(
     engine: &Engine<'_, R, NoGate>,
     some: L,
     each: L,
@@ -335,7 +336,7 @@ const SEVEN: &[u8] = b"a\nbb\na\nccc\n\nbb\nd\n";
 /// Longer than nothing.
 const SOME: Composed<Length, Above> = Composed(Length, Above(0));
 
-fn leave<R: Threads + Clock + Abort + Alloc<A = Global> + Sync, L: LineStream<Item = String>>(
+fn leave<R: Threads + Clock + Wait + Abort + Alloc<A = Global> + Sync, L: LineStream<Item = String>>(
     engine: &Engine<'_, R, NoGate>,
     lines: L,
     wanted: &[&str],
@@ -349,7 +350,7 @@ fn leave<R: Threads + Clock + Abort + Alloc<A = Global> + Sync, L: LineStream<It
 
 // The front that is so long, what follows so many, and the front of the lines that differ, over any lines: each call that names a stream's type costs a
 // check as much as several such functions.
-fn leave_front<R: Threads + Clock + Abort + Alloc<A = Global> + Sync, L: LineStream<Item = String>>(
+fn leave_front<R: Threads + Clock + Wait + Abort + Alloc<A = Global> + Sync, L: LineStream<Item = String>>(
     engine: &Engine<'_, R, NoGate>,
     lines: L,
     most: u32,
@@ -362,7 +363,7 @@ fn leave_front<R: Threads + Clock + Abort + Alloc<A = Global> + Sync, L: LineStr
 }
 
 fn leave_behind<
-    R: Threads + Clock + Abort + Alloc<A = Global> + Sync,
+    R: Threads + Clock + Wait + Abort + Alloc<A = Global> + Sync,
     L: LineStream<Item = String>,
 >(engine: &Engine<'_, R, NoGate>, lines: L, number: u32, wanted: &[&str]) -> Result<(), LinesError>
     requires lines { L.ready lines }
@@ -372,7 +373,7 @@ fn leave_behind<
 }
 
 fn leave_front_apart<
-    R: Threads + Clock + Abort + Alloc<A = Global> + Sync,
+    R: Threads + Clock + Wait + Abort + Alloc<A = Global> + Sync,
     L: LineStream<Item = String>,
 >(engine: &Engine<'_, R, NoGate>, lines: L, most: u32, wanted: &[&str]) -> Result<(), LinesError>
     requires lines { L.ready lines }
@@ -389,7 +390,7 @@ fn seven(alloc: Global, size: usize) -> ReadLines<ThreeBytes<'static>, OwnLine, 
     lines.map_lines(OwnLine { alloc })
 }
 
-fn one_skips<R: Threads + Clock + Abort + Alloc<A = Global> + Sync>(
+fn one_skips<R: Threads + Clock + Wait + Abort + Alloc<A = Global> + Sync>(
     engine: &Engine<'_, R, NoGate>,
     size: usize,
 ) -> Result<(), LinesError>
@@ -402,7 +403,7 @@ fn one_skips<R: Threads + Clock + Abort + Alloc<A = Global> + Sync>(
 /// The longest fronts that are wanted, and these.
 static FRONTS: [(u32, &[&str]); 2] = [(3, &["a", "bb", "a"]), (0, &[])];
 
-fn one_limits<R: Threads + Clock + Abort + Alloc<A = Global> + Sync>(
+fn one_limits<R: Threads + Clock + Wait + Abort + Alloc<A = Global> + Sync>(
     engine: &Engine<'_, R, NoGate>,
     size: usize,
 ) -> Result<(), LinesError>
@@ -414,7 +415,7 @@ fn one_limits<R: Threads + Clock + Abort + Alloc<A = Global> + Sync>(
     Ok(())
 }
 
-fn differing_stay<R: Threads + Clock + Abort + Alloc<A = Global> + Sync>(
+fn differing_stay<R: Threads + Clock + Wait + Abort + Alloc<A = Global> + Sync>(
     engine: &Engine<'_, R, NoGate>,
     size: usize,
 ) -> Result<(), LinesError>
@@ -427,7 +428,7 @@ fn differing_stay<R: Threads + Clock + Abort + Alloc<A = Global> + Sync>(
     )
 }
 
-fn one_takes_while<R: Threads + Clock + Abort + Alloc<A = Global> + Sync>(
+fn one_takes_while<R: Threads + Clock + Wait + Abort + Alloc<A = Global> + Sync>(
     engine: &Engine<'_, R, NoGate>,
     size: usize,
 ) -> Result<(), LinesError>
@@ -440,7 +441,7 @@ fn one_takes_while<R: Threads + Clock + Abort + Alloc<A = Global> + Sync>(
     )
 }
 
-fn one_drops_while<R: Threads + Clock + Abort + Alloc<A = Global> + Sync>(
+fn one_drops_while<R: Threads + Clock + Wait + Abort + Alloc<A = Global> + Sync>(
     engine: &Engine<'_, R, NoGate>,
     size: usize,
 ) -> Result<(), LinesError>
@@ -453,7 +454,7 @@ fn one_drops_while<R: Threads + Clock + Abort + Alloc<A = Global> + Sync>(
     )
 }
 
-fn two_leave_the_third<R: Threads + Clock + Abort + Alloc<A = Global> + Sync>(
+fn two_leave_the_third<R: Threads + Clock + Wait + Abort + Alloc<A = Global> + Sync>(
     engine: &Engine<'_, R, NoGate>,
     size: usize,
 ) -> Result<(), LinesError>
@@ -463,7 +464,7 @@ fn two_leave_the_third<R: Threads + Clock + Abort + Alloc<A = Global> + Sync>(
     leave_front(engine, behind_two, 1, &["a"])
 }
 
-fn three_leave_the_first_that_differ<R: Threads + Clock + Abort + Alloc<A = Global> + Sync>(
+fn three_leave_the_first_that_differ<R: Threads + Clock + Wait + Abort + Alloc<A = Global> + Sync>(
     engine: &Engine<'_, R, NoGate>,
     size: usize,
 ) -> Result<(), LinesError>
@@ -473,7 +474,7 @@ fn three_leave_the_first_that_differ<R: Threads + Clock + Abort + Alloc<A = Glob
     leave_front_apart(engine, behind_one, 3, &["bb", "a", "ccc"])
 }
 
-fn two_leave_the_last<R: Threads + Clock + Abort + Alloc<A = Global> + Sync>(
+fn two_leave_the_last<R: Threads + Clock + Wait + Abort + Alloc<A = Global> + Sync>(
     engine: &Engine<'_, R, NoGate>,
     size: usize,
 ) -> Result<(), LinesError>
@@ -508,7 +509,7 @@ fn spoilt(alloc: Global) -> ReadLines<ThreeBytes<'static>, OwnLine, Nothing<Stri
 }
 
 // How many lines the front has that is so long at most.
-fn count_front<R: Threads + Clock + Sync, L: LineStream>(
+fn count_front<R: Threads + Clock + Wait + Sync, L: LineStream>(
     engine: &Engine<'_, R, NoGate>,
     lines: L,
     most: u32,
