@@ -19,7 +19,6 @@ use parallel_streams::{Engine, Run, Stream, container_of, of};
 use sources::LinesSplit;
 use spliterator::NoMemory;
 use stages::Stage;
-use stealing_pool::Gate;
 use std::alloc::Global;
 use std::collections::VecDeque;
 use std::io::Read;
@@ -28,6 +27,7 @@ use std::sync::Wait;
 use std::thread;
 use std::thread::{Promise, PromisedHandle, Scope, Threads};
 use std::time::Clock;
+use stealing_pool::Gate;
 
 /// What becomes of each line, and what takes it: a function, a stage behind it, and a collector.
 #[derive(Drop)]
@@ -44,14 +44,19 @@ struct Owed<'a, F, G, C> {
     text: Snapshot<String>,
 }
 
-impl<'a, F: LineFunction, G: Stage<In = F::Out>, C: Collector<Item = G::Out>> Promise<Result<C::Acc, NoMemory>> for Owed<'a, F, G, C> {
+impl<'a, F: LineFunction, G: Stage<In = F::Out>, C: Collector<Item = G::Out>> Promise<
+    Result<C::Acc, NoMemory>,
+> for Owed<'a, F, G, C> {
     ghost kept_by = { λ p result. let it = p.passing.now.collector.now in
         let made = IsContainerOf G.Out.is_value (C.content it) (C.empty it) (C.add it) in
         let values = values_of (F.image p.passing.now.function.now) (G.expand p.passing.now.stage.now) in
         IfOk result (made (values (text_lines (string_bytes p.text.value)))) };
 }
 
-type AtWork<'a, F, G, C> = PromisedHandle<Result<<C as Collector>::Acc, NoMemory>, Owed<'a, F, G, C>>;
+type AtWork<'a, F, G, C> = PromisedHandle<
+    Result<<C as Collector>::Acc, NoMemory>,
+    Owed<'a, F, G, C>,
+>;
 
 /// Blocks at work, from the first on, and the container of what stands before them.
 #[derive(Drop)]
@@ -68,7 +73,11 @@ fn alone<'e, R, H>(rt: &'e R, alloc: Global, target: u64, gate: &'e H) -> Engine
     Engine {
         rt,
         alloc,
-        run: Run { workers: 1, target, gate },
+        run: Run {
+            workers: 1,
+            target,
+            gate,
+        },
     }
 }
 
@@ -97,8 +106,15 @@ where
         let values = values_of (F.image passing.now.function.now) (G.expand passing.now.stage.now) in
         IfOk result (made (values (text_lines (string_bytes text)))) }
 {
-    let lane = Lane { gate: engine.run.gate, number: lane };
-    let target = if engine.run.target == 0 { leaf_bytes(text.len(), 1) } else { engine.run.target };
+    let lane = Lane {
+        gate: engine.run.gate,
+        number: lane,
+    };
+    let target = if engine.run.target == 0 {
+        leaf_bytes(text.len(), 1)
+    } else {
+        engine.run.target
+    };
     let alone = alone(engine.rt, engine.alloc, target, &lane);
     let lines = of(LinesSplit::new(text.as_str()));
     let function = passing.function;
@@ -136,7 +152,10 @@ where
         let values = values_of (F.image passing.now.function.now) (G.expand passing.now.stage.now) in
         IfErr result (λ acc. IfOk acc (made (values (text_lines (string_bytes text))))) }
 {
-    let owed = Owed { passing, text: Snapshot::of(&text) };
+    let owed = Owed {
+        passing,
+        text: Snapshot::of(&text),
+    };
     let work = move || -> Result<C::Acc, NoMemory>
         requires { F.ready passing.now.function.now × G.ready passing.now.stage.now × C.ready passing.now.collector.now }
         ensures { let own = passing.entry.now in
@@ -152,7 +171,13 @@ where
 }
 
 /// Takes what a thread makes into a container, behind what is in it.
-fn take_made<R: Threads, H: Gate, F: LineFunction, G: Stage<In = F::Out>, C: Collector<Item = G::Out>>(
+fn take_made<
+    R: Threads,
+    H: Gate,
+    F: LineFunction,
+    G: Stage<In = F::Out>,
+    C: Collector<Item = G::Out>,
+>(
     engine: &Engine<'_, R, H>,
     passing: &Passing<'_, F, G, C>,
     whole: &mut C::Acc,
@@ -173,7 +198,14 @@ fn take_made<R: Threads, H: Gate, F: LineFunction, G: Stage<In = F::Out>, C: Col
 }
 
 /// Takes in what all blocks at work become, in their order, until nothing that follows makes a difference. Says whether that is so.
-fn land<R: Threads, H: Gate, F: LineFunction, G: Stage<In = F::Out>, C: Collector<Item = G::Out>, E: Ending<C>>(
+fn land<
+    R: Threads,
+    H: Gate,
+    F: LineFunction,
+    G: Stage<In = F::Out>,
+    C: Collector<Item = G::Out>,
+    E: Ending<C>,
+>(
     engine: &Engine<'_, R, H>,
     passing: &Passing<'_, F, G, C>,
     ending: &E,
@@ -181,8 +213,7 @@ fn land<R: Threads, H: Gate, F: LineFunction, G: Stage<In = F::Out>, C: Collecto
 ) -> Result<bool, NoMemory>
     requires { C.ready passing.now.collector.now }
     ensures landed { IfOk result (λ over. over ≡ false → flight.new.at_work.items ≡ []) }
-    ensures taken {
-        let own = passing.now in
+    ensures taken { let own = passing.now in
         let it = own.collector.now in
         let made = IsContainerOf G.Out.is_value (C.content it) (C.empty it) (C.add it) in
         let values = values_of (F.image own.function.now) (G.expand own.stage.now) in
@@ -201,15 +232,21 @@ fn land<R: Threads, H: Gate, F: LineFunction, G: Stage<In = F::Out>, C: Collecto
 }
 
 /// Takes in what the first block becomes, where as many are at work as there are workers. Says whether nothing that follows makes a difference.
-fn make_room<R: Threads, H: Gate, F: LineFunction, G: Stage<In = F::Out>, C: Collector<Item = G::Out>, E: Ending<C>>(
+fn make_room<
+    R: Threads,
+    H: Gate,
+    F: LineFunction,
+    G: Stage<In = F::Out>,
+    C: Collector<Item = G::Out>,
+    E: Ending<C>,
+>(
     engine: &Engine<'_, R, H>,
     passing: &Passing<'_, F, G, C>,
     ending: &E,
     flight: &mut Flight<'_, F, G, C>,
 ) -> Result<bool, NoMemory>
     requires { C.ready passing.now.collector.now }
-    ensures {
-        let own = passing.now in
+    ensures { let own = passing.now in
         let it = own.collector.now in
         let made = IsContainerOf G.Out.is_value (C.content it) (C.empty it) (C.add it) in
         let values = values_of (F.image own.function.now) (G.expand own.stage.now) in
@@ -254,8 +291,7 @@ where
     requires function { F.ready passing.now.function.now }
     requires stage { G.ready passing.now.stage.now }
     requires collector { C.ready passing.now.collector.now }
-    ensures {
-        let own = passing.now in
+    ensures { let own = passing.now in
         let it = own.collector.now in
         let made = IsContainerOf G.Out.is_value (C.content it) (C.empty it) (C.add it) in
         let values = values_of (F.image own.function.now) (G.expand own.stage.now) in
@@ -312,8 +348,7 @@ where
     ensures faults { let left = prepend_known ahead.0.rest.items (I.remaining ahead.0.reader) in
         (all : Option (List ℕ)) → StandsAt all left ahead.0.place
         → IfErr result (IsFault ahead.0.longest all) }
-    ensures value {
-        let own = passing.now in
+    ensures value { let own = passing.now in
         let it = own.collector.now in
         let made = IsContainerOf G.Out.is_value (C.content it) (C.empty it) (C.add it) in
         let values = values_of (F.image own.function.now) (G.expand own.stage.now) in
@@ -386,8 +421,7 @@ where
     ensures faults { let left = prepend_known ahead.0.rest.items (I.remaining ahead.0.reader) in
         (all : Option (List ℕ)) → StandsAt all left ahead.0.place
         → IfErr result (IsFault ahead.0.longest all) }
-    ensures value {
-        let own = passing.now in
+    ensures value { let own = passing.now in
         let it = own.collector.now in
         let made = IsContainerOf G.Out.is_value (C.content it) (C.empty it) (C.add it) in
         let values = values_of (F.image own.function.now) (G.expand own.stage.now) in
@@ -406,8 +440,7 @@ where
             ensures faults { let left = prepend_known ahead.0.rest.items (I.remaining ahead.0.reader) in
                 (all : Option (List ℕ)) → StandsAt all left ahead.0.place
                 → IfErr result (IsFault ahead.0.longest all) }
-            ensures value {
-                let own = passing.entry.now in
+            ensures value { let own = passing.entry.now in
                 let it = own.collector.now in
                 let made = IsContainerOf G.Out.is_value (C.content it) (C.empty it) (C.add it) in
                 let values = values_of (F.image own.function.now) (G.expand own.stage.now) in

@@ -170,7 +170,8 @@ pub trait LineStream: Sized {
         )
     }
 
-    /// The same, where no more is read than the block behind one that decides the result. Nothing is told of what goes wrong there.
+    /// The same, where no more is read than the block that decides the result, the blocks at work beside it, and one behind them. Nothing is told of what
+    /// goes wrong in those.
     ///
     /// ```text
     /// let rows = lines_of(file).map_lines(Parsed);    // Ok(5), Err(..), Ok(7)
@@ -219,7 +220,7 @@ pub trait LineStream: Sized {
         self.collect_on(engine, &Counting::new())
     }
 
-    /// The first item, or none. No more is read than the block behind that of its line.
+    /// The first item, or none. No more is read than by [`collect_decided`](LineStream::collect_decided).
     // java.util.stream.Stream, findFirst
     final fn find_first_on(
         self,
@@ -244,7 +245,7 @@ pub trait LineStream: Sized {
         )
     }
 
-    /// Whether some item meets the test. No more is read than the block behind that of the first one.
+    /// Whether some item meets the test. No more is read than by [`collect_decided`](LineStream::collect_decided).
     // java.util.stream.Stream, anyMatch
     final fn any_match_on<P: Test<Self::Item> + Sync>(
         self,
@@ -270,7 +271,7 @@ pub trait LineStream: Sized {
         )
     }
 
-    /// Whether every item meets the test, as where there is no item. No more is read than the block behind that of the first one that doesn't.
+    /// Whether every item meets the test, as where there is no item. No more is read than by [`collect_decided`](LineStream::collect_decided).
     // java.util.stream.Stream, allMatch
     final fn all_match_on<P: Test<Self::Item> + Sync>(
         self,
@@ -287,7 +288,7 @@ pub trait LineStream: Sized {
         Ok(!self.any_match_on(engine, &Not(test))?)
     }
 
-    /// Whether no item meets the test. No more is read than the block behind that of the first one that does.
+    /// Whether no item meets the test. No more is read than by [`collect_decided`](LineStream::collect_decided).
     // java.util.stream.Stream, noneMatch
     final fn none_match_on<P: Test<Self::Item> + Sync>(
         self,

@@ -336,11 +336,10 @@ const SEVEN: &[u8] = b"a\nbb\na\nccc\n\nbb\nd\n";
 /// Longer than nothing.
 const SOME: Composed<Length, Above> = Composed(Length, Above(0));
 
-fn leave<R: Threads + Clock + Wait + Abort + Alloc<A = Global> + Sync, L: LineStream<Item = String>>(
-    engine: &Engine<'_, R, NoGate>,
-    lines: L,
-    wanted: &[&str],
-) -> Result<(), LinesError>
+fn leave<
+    R: Threads + Clock + Wait + Abort + Alloc<A = Global> + Sync,
+    L: LineStream<Item = String>,
+>(engine: &Engine<'_, R, NoGate>, lines: L, wanted: &[&str]) -> Result<(), LinesError>
     requires { L.ready lines }
 {
     let texts = lines.collect_on(engine, &ToList::<String>::new(engine.alloc))?;
@@ -350,12 +349,10 @@ fn leave<R: Threads + Clock + Wait + Abort + Alloc<A = Global> + Sync, L: LineSt
 
 // The front that is so long, what follows so many, and the front of the lines that differ, over any lines: each call that names a stream's type costs a
 // check as much as several such functions.
-fn leave_front<R: Threads + Clock + Wait + Abort + Alloc<A = Global> + Sync, L: LineStream<Item = String>>(
-    engine: &Engine<'_, R, NoGate>,
-    lines: L,
-    most: u32,
-    wanted: &[&str],
-) -> Result<(), LinesError>
+fn leave_front<
+    R: Threads + Clock + Wait + Abort + Alloc<A = Global> + Sync,
+    L: LineStream<Item = String>,
+>(engine: &Engine<'_, R, NoGate>, lines: L, most: u32, wanted: &[&str]) -> Result<(), LinesError>
     requires lines { L.ready lines }
     requires lead { ClonesAlike L.Lead.is_clone L.Lead.content }
 {

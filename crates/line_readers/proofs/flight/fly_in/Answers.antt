@@ -75,7 +75,7 @@ loop-preserved g c =
           let ahead = c.loop.invariant.flies before begun known first in (
             left,
             folded-on (λ lines flight. flying g c.args.passing.now before lines flight.whole flight.at_work.items) (λ lines flight. flying g c.args.passing.now before lines flight.whole flight.at_work.items) known ahead.0 left c.loop.flight c.set_off.new.flight (string_bytes c.loop.block.text) ahead.1 ahead.2
-            (λ lines flies. rw c.if-branch-2.false at c.in_ok-set_off.ensures before lines (rw c.if-branch.false at c.in_ok-make_room.ensures before lines flies)),
+                (λ lines flies. rw c.if-branch-2.false at c.in_ok-set_off.ensures before lines (rw c.if-branch.false at c.in_ok-make_room.ensures before lines flies)),
             c.in-Ok.ensures.block,
           );
       stands = λ all first. c.in-Ok.ensures.stands all (c.loop.invariant.stands all first);
