@@ -1,0 +1,4 @@
+pub mod GroupsRead
+pub mod Known
+pub mod KnownNested
+pub mod Members
