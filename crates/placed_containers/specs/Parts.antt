@@ -1,8 +1,10 @@
 -- What lines tell of the parts of a list.
-use Rattle.std.specs.Prelude.{◌≡◌, ◌≤◌, ◌++◌, ℕ, List, [], ◌∷◌, Some, codes}
+use Rattle.std.specs.Prelude.{◌≡◌, ◌≤◌, ◌++◌, ℕ, List, [], ◌∷◌, Some, codes, ⊤}
 use Rattle.serde_json.specs.Data.{Data, number, unsigned, string, array}
 use Rattle.serde_json.specs.View.{items_of}
 use Rattle.serde_json.specs.Read.{read}
+use Rattle.placed_containers.specs.declared.error.PartsError.{PartsError}
+use Rattle.placed_containers.specs.declared.error.PartsError.TheVariants.{NoMemory, NoParts, Missing}
 use Rattle.placed_containers.specs.declared.pieces.Part.{Part}
 
 -- the items between places: those of two parts, the one behind the other, are those of both
@@ -29,3 +31,10 @@ IsPartLine tells job between n line = (from to : ℕ) × (container : Data) × f
 -- the part has its places within n, in order, and the container of the items between them
 abbrev pub IsPart : {X C : Type 0} → (List X → C → Type 0) → (ℕ → ℕ → List X) → ℕ → Part C → Type 0
 IsPart made between n part = part.places.from ≤ part.places.to × part.places.to ≤ n × (part.places.of ≡ n) × made (between part.places.from part.places.to) part.container
+
+-- memory was refused, or parts have yet to come
+abbrev pub IsForMore : PartsError → Type 0
+IsForMore NoMemory = ⊤
+IsForMore NoParts = ⊤
+IsForMore (Missing gaps) = ⊤
+IsForMore _ = ⊥

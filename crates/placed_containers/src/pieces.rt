@@ -1,7 +1,7 @@
 //! Parts in their order, neighbours joined.
-ghost use Rattle.std.specs.Prelude.{◌≡◌, ℕ, List, All, IfOk, OnOk};
+ghost use Rattle.std.specs.Prelude.{ℕ, List, All, IfOk, IfErr, OnOk};
 ghost use Rattle.collectors.specs.Laws.{IsContainerOf};
-ghost use Rattle.placed_containers.specs.Parts.{Joins, IsPart};
+ghost use Rattle.placed_containers.specs.Parts.{IsForMore, IsPart, Joins};
 
 use crate::{Gaps, PartsError, Places};
 use collectors::{Collector, combine_containers, finish_container};
@@ -107,11 +107,12 @@ pub(crate) fn finish_pieces<C: Collector>(
     mut pieces: Vec<Part<C::Acc>>,
 ) -> Result<C::Out, PartsError>
     requires { C.ready collector.now }
-    ensures { let c = collector.now in
+    ensures result { let c = collector.now in
         let made = IsContainerOf C.Item.is_value (C.content c) (C.empty c) (C.add c) in
         (between : ℕ → ℕ → List C.Item.Content) (n : ℕ)
         → All (IsPart made between n) pieces.items
         → IfOk result (C.gives c (between 0 n)) }
+    ensures known { IfErr result IsForMore }
 {
     let gaps = gaps_of(alloc, pieces.as_slice())?;
     let Some(piece) = pieces.pop() else {
