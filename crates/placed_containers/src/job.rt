@@ -19,6 +19,7 @@ use wire_form::{FromWire, WireError, WireForm};
 ///     let line = job.part_line(alloc, places, container)?;    // where a part is folded
 ///     let fewer = job.combine_parts(alloc, &lines)?;          // on the way, as often as you like
 ///     let result = job.finish_parts(alloc, &lines)?;          // at the end
+#[derive(Drop)]
 pub struct Job<'a, C> {
     pub name: &'a str,
     pub collector: &'a C,

@@ -1,0 +1,5 @@
+//! The tests of containers as JSON values, and of parts.
+#![tactic(auto)]
+
+#[cfg(test)]
+mod of_placed_containers;
