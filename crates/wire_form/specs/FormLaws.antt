@@ -5,7 +5,8 @@ use Rattle.serde_json.specs.Data.{Data, number, string, array, Items, depth, ite
 use Rattle.serde_json.specs.Find.{of_integer}
 use Rattle.serde_json.specs.View.{items_of}
 use Rattle.serde_json.specs.Written.{has_float, items_have_float}
-use Rattle.wire_form.specs.Forms.{entry_form, list_form, option_form, pair_form, text_form}
+use Rattle.derived_collectors.specs.Facts.{Facts}
+use Rattle.wire_form.specs.Forms.{entry_form, facts_form, list_form, number_form, option_form, pair_form, text_form}
 
 -- numbers of one form are one
 pub number_form-pinned : (a b : ℤ) → number (of_integer a) ≡ number (of_integer b) → a ≡ b
@@ -76,6 +77,9 @@ module _ {X : Type 0} (form : X → Data) (n : ℕ) (shallow : (x : X) → depth
 pub pair_form-shallow : (a b : Data) (m n : ℕ) → depth a ≤ m → depth b ≤ n → depth (pair_form a b) ≤ max m n + 1
 pair_form-shallow a b m n h k = omega (arith, h, k)
 
+pub sides-shallow : {X : Type 0} (form : X → Data) (n : ℕ) → ((x : X) → depth (form x) ≤ n) → (a b : X) → depth (pair_form (form a) (form b)) ≤ n + 1
+sides-shallow form n shallow a b = omega (arith, shallow a, shallow b)
+
 pub text_form-shallow : (a : Option (List ℕ)) → depth (text_form a) ≤ 0
 text_form-shallow None = zero-le
 text_form-shallow (Some t) = zero-le
@@ -123,3 +127,29 @@ map-same (x ∷ l) = ap (λ m. x ∷ m) (map-same l)
 
 pub map-itself : {X : Type 0} {l r : List X} → map (λ x. x) l ≡ map (λ x. x) r → l ≡ r
 map-itself {l = l} {r = r} h = sym (map-same l) ∙ h ∙ map-same r
+
+-- summaries
+bound-pinned : (a b : Option ℤ) → option_form number_form a ≡ option_form number_form b → a ≡ b
+bound-pinned None None h = refl
+bound-pinned None (Some y) h = cc
+bound-pinned (Some x) None h = cc
+bound-pinned (Some x) (Some y) h =
+    let first : number_form x ≡ number_form y = cc in
+    ap Some (number_form-pinned x y first)
+
+pub facts_form-pinned : (f g : Facts) → facts_form f ≡ facts_form g → f ≡ g
+facts_form-pinned f g h =
+    let totals = pair-first h in
+    let bounds = pair-second h in
+    ap₂ (λ p q. (p, q))
+    (ap₂ (λ a b. (a, b)) (number_form-pinned f.0.0 g.0.0 (pair-first totals)) (number_form-pinned f.0.1 g.0.1 (pair-second totals)))
+    (ap₂ (λ a b. (a, b)) (bound-pinned f.1.0 g.1.0 (pair-first bounds)) (bound-pinned f.1.1 g.1.1 (pair-second bounds)))
+
+pub facts_form-shallow : (f : Facts) → depth (facts_form f) ≤ 3
+facts_form-shallow f = omega (arith, option_form-shallow number_form 0 (λ _. zero-le) f.1.0, option_form-shallow number_form 0 (λ _. zero-le) f.1.1)
+
+pub facts_form-plain : (f : Facts) → has_float (facts_form f) ≡ false
+facts_form-plain f =
+    pair_form-plain (pair_form (number_form f.0.0) (number_form f.0.1)) (pair_form (option_form number_form f.1.0) (option_form number_form f.1.1))
+    (pair_form-plain (number_form f.0.0) (number_form f.0.1) (number_form-plain f.0.0) (number_form-plain f.0.1))
+    (pair_form-plain (option_form number_form f.1.0) (option_form number_form f.1.1) (option_form-plain number_form number_form-plain f.1.0) (option_form-plain number_form number_form-plain f.1.1))

@@ -1,8 +1,10 @@
 -- What values and containers are written as.
-use Rattle.std.specs.Prelude.{◌≡◌, ℕ, List, Option, Some, None, map}
-use Rattle.serde_json.specs.Data.{Data, null, string, array, no_items, item}
+use Rattle.std.specs.Prelude.{◌≡◌, ℕ, ℤ, List, Option, Some, None, map}
+use Rattle.serde_json.specs.Data.{Data, null, number, string, array, no_items, item}
+use Rattle.serde_json.specs.Find.{of_integer}
 use Rattle.serde_json.specs.View.{items_of}
 use Rattle.collectors.specs.Laws.{IsContainerOf}
+use Rattle.derived_collectors.specs.Facts.{Facts}
 
 -- a list: an array of the forms of its members
 abbrev pub list_form : {X : Type 0} → (X → Data) → List X → Data
@@ -21,6 +23,14 @@ option_form form (Some x) = array (item (form x) no_items)
 abbrev pub text_form : Option (List ℕ) → Data
 text_form None = null
 text_form (Some t) = string t
+
+-- a number
+abbrev pub number_form : ℤ → Data
+number_form n = number (of_integer n)
+
+-- count and sum, and the least and the greatest number, where there is one
+abbrev pub facts_form : Facts → Data
+facts_form f = pair_form (pair_form (number_form f.0.0) (number_form f.0.1)) (pair_form (option_form number_form f.1.0) (option_form number_form f.1.1))
 
 -- an entry of a map: its key and what is kept for it
 abbrev pub entry_form : {K A : Type 0} → (K → Data) → (A → Data) → K × A → Data

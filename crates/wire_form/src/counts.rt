@@ -1,8 +1,7 @@
 //! Counts and sums on the wire: numbers.
 ghost use Rattle.std.specs.Prelude.{◌≡◌};
-ghost use Rattle.serde_json.specs.Data.{number};
-ghost use Rattle.serde_json.specs.Find.{of_integer};
 ghost use Rattle.std.proofs.Common.{zero-le};
+ghost use Rattle.wire_form.specs.Forms.{number_form};
 ghost use Rattle.wire_form.specs.FormLaws.{number_form-pinned, number_form-plain};
 
 use crate::values::number_in;
@@ -14,7 +13,7 @@ use stages::Mapping;
 use std::alloc::Global;
 
 impl<T: Value> WireForm for Counting<T> {
-    ghost form = { λ _ n. number (of_integer n) };
+    ghost form = { λ _. number_form };
 
     ghost levels = { λ _. 0 };
 
@@ -36,7 +35,7 @@ impl<T: Value> FromWire for Counting<T> {
 }
 
 impl<T: Value, M: Mapping<T, Out = i64>> WireForm for SummingLong<T, M> {
-    ghost form = { λ _ n. number (of_integer n) };
+    ghost form = { λ _. number_form };
 
     ghost levels = { λ _. 0 };
 

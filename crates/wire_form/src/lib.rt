@@ -1,6 +1,7 @@
-//! Containers as lines of JSON: what one process folded of a part, another combines with the other parts.
+//! Containers as JSON: what one process folded of a part, another reads, and combines with the other parts.
 #![tactic(auto)]
 
+mod adapting;
 mod counts;
 mod error;
 mod form;
@@ -9,6 +10,7 @@ mod lists;
 mod nested;
 mod reductions;
 mod shapes;
+mod summaries;
 mod values;
 
 pub use error::WireError;

@@ -1,15 +1,15 @@
-//! Two collectors at once, and collectors over images or some of the items, on the wire.
+//! Two collectors at once, and the two sides of a test, as JSON: pairs.
 ghost use Rattle.std.specs.Prelude.{◌≡◌, ◌+◌, max};
 ghost use Rattle.std.proofs.Common.{ap₂};
 ghost use Rattle.wire_form.specs.Forms.{pair_form};
-ghost use Rattle.wire_form.specs.FormLaws.{pair-first, pair-second, pair_form-plain, pair_form-shallow};
+ghost use Rattle.wire_form.specs.FormLaws.{pair-first, pair-second, pair_form-plain, pair_form-shallow, sides-shallow};
 
 use crate::shapes::{pair, pair_of};
 use crate::{FromWire, WireError, WireForm};
-use collectors::{Collector, FilteringTo, MappingTo, Pairing, Teeing};
+use collectors::{Collector, Pairing, Partition, PartitioningBy, Teeing};
 use serde_json::Value as Json;
-use spliterator::{NoMemory, Value};
-use stages::{Mapping, Test};
+use spliterator::NoMemory;
+use stages::Test;
 use std::alloc::Global;
 
 impl<A: WireForm, B: WireForm<Item = A::Item>, F: Pairing<A::Out, B::Out>> WireForm
@@ -42,52 +42,32 @@ impl<A: FromWire, B: FromWire<Item = A::Item>, F: Pairing<A::Out, B::Out>> FromW
     }
 }
 
-impl<T: Value, D: WireForm, M: Mapping<T, Out = D::Item>> WireForm for MappingTo<T, M, D>
-where
-    D::Item: Drop,
-{
-    ghost form = { λ c. D.form c.downstream };
+impl<D: WireForm, P: Test<D::Item>> WireForm for PartitioningBy<P, D> {
+    ghost form = { λ c p. pair_form (D.form c.downstream p.no) (D.form c.downstream p.yes) };
 
-    ghost levels = { λ c. D.levels c.downstream };
+    ghost levels = { λ c. D.levels c.downstream + 1 };
 
-    ghost pinned = { λ c. D.pinned c.downstream };
+    ghost pinned = { λ c p q h. ap₂ (λ a b. (a, b))
+        (D.pinned c.downstream p.no q.no (pair-first h))
+        (D.pinned c.downstream p.yes q.yes (pair-second h)) };
 
-    ghost shallow = { λ c. D.shallow c.downstream };
+    ghost shallow = { λ c p. sides-shallow (D.form c.downstream) (D.levels c.downstream) (D.shallow c.downstream) p.no p.yes };
 
-    ghost plain = { λ c. D.plain c.downstream };
+    ghost plain = { λ c p. pair_form-plain (D.form c.downstream p.no) (D.form c.downstream p.yes)
+        (D.plain c.downstream p.no) (D.plain c.downstream p.yes) };
 
-    fn write(&self, alloc: Global, acc: D::Acc) -> Result<Json, NoMemory> {
-        self.downstream.write(alloc, acc)
+    fn write(&self, alloc: Global, acc: Partition<D::Acc>) -> Result<Json, NoMemory> {
+        let no = self.downstream.write(alloc, acc.no)?;
+        let yes = self.downstream.write(alloc, acc.yes)?;
+        pair(alloc, no, yes)
     }
 }
 
-impl<T: Value, D: FromWire, M: Mapping<T, Out = D::Item>> FromWire for MappingTo<T, M, D>
-where
-    D::Item: Drop,
-{
-    fn read(&self, alloc: Global, value: Json) -> Result<D::Acc, WireError> {
-        self.downstream.read(alloc, value)
-    }
-}
-
-impl<D: WireForm, P: Test<D::Item>> WireForm for FilteringTo<P, D> {
-    ghost form = { λ c. D.form c.downstream };
-
-    ghost levels = { λ c. D.levels c.downstream };
-
-    ghost pinned = { λ c. D.pinned c.downstream };
-
-    ghost shallow = { λ c. D.shallow c.downstream };
-
-    ghost plain = { λ c. D.plain c.downstream };
-
-    fn write(&self, alloc: Global, acc: D::Acc) -> Result<Json, NoMemory> {
-        self.downstream.write(alloc, acc)
-    }
-}
-
-impl<D: FromWire, P: Test<D::Item>> FromWire for FilteringTo<P, D> {
-    fn read(&self, alloc: Global, value: Json) -> Result<D::Acc, WireError> {
-        self.downstream.read(alloc, value)
+impl<D: FromWire, P: Test<D::Item>> FromWire for PartitioningBy<P, D> {
+    fn read(&self, alloc: Global, value: Json) -> Result<Partition<D::Acc>, WireError> {
+        let (no, yes) = pair_of(value)?;
+        let no = self.downstream.read(alloc, no)?;
+        let yes = self.downstream.read(alloc, yes)?;
+        Ok(Partition { no, yes })
     }
 }

@@ -1,11 +1,11 @@
 //! Values that go over a wire.
 ghost use Rattle.std.specs.Prelude.{◌≡◌, ◌≤◌, ℕ, ℤ, false, IfOk, IfErr, IfSome, IsSome, string_bytes, refl};
-ghost use Rattle.serde_json.specs.Data.{Data, number, string, depth};
-ghost use Rattle.serde_json.specs.Find.{of_integer};
+ghost use Rattle.serde_json.specs.Data.{Data, string, depth};
 ghost use Rattle.serde_json.specs.View.{view};
 ghost use Rattle.serde_json.specs.Written.{has_float};
 ghost use Rattle.spliterator.specs.Values.{IsI64};
 ghost use Rattle.std.proofs.Common.{zero-le};
+ghost use Rattle.wire_form.specs.Forms.{number_form};
 ghost use Rattle.wire_form.specs.FormLaws.{number_form-pinned, number_form-plain, string-pinned};
 
 use crate::WireError;
@@ -43,7 +43,7 @@ pub trait FromWireValue: WireValue {
 }
 
 impl WireValue for i64 {
-    ghost form = { λ n. number (of_integer n) };
+    ghost form = { number_form };
 
     ghost levels = { 0 };
 
@@ -60,8 +60,8 @@ impl WireValue for i64 {
 
 // The number that a value is, where it is one of an i64.
 pub(crate) fn number_in(value: Json) -> Option<i64>
-    ensures form { IfSome result (λ n. number (of_integer n) ≡ view value) }
-    ensures known { (n : ℤ) → IsI64 n → number (of_integer n) ≡ view value → IsSome result }
+    ensures form { IfSome result (λ n. number_form n ≡ view value) }
+    ensures known { (n : ℤ) → IsI64 n → number_form n ≡ view value → IsSome result }
 {
     match value {
         Json::Number(number) => number.as_i64(),
