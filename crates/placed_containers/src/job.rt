@@ -41,7 +41,8 @@ impl<'a, C: WireForm> Job<'a, C> {
             let made = IsContainerOf C.Item.is_value (C.content c) (C.empty c) (C.add c) in
             let tells = IsFormOf C.Item.is_value (C.content c) (C.empty c) (C.add c) (C.form c) in
             (between : ℕ → ℕ → List C.Item.Content) → made (between places.from places.to) container
-            → IfOk result (λ line. IsPartLine tells self.now.name.now between places.of (string_bytes line)) }
+            → IfOk result (λ line.
+                IsPartLine tells self.now.name.now between places.of (string_bytes line)) }
         ensures known { places.from ≤ places.to → places.to ≤ places.of
             → IfErr result (λ e. e ≡ PartsError.NoMemory) }
     {
@@ -110,7 +111,8 @@ fn read_parts<C: FromWire>(
     lines: &[&str],
 ) -> Result<Vec<Part<C::Acc>>, PartsError>
     requires { C.ready job.now.collector.now }
-    ensures own { IfOk result (λ _. All (λ line. IsOfJob job.now.name.now line.now) lines.now) }
+    ensures own { let name = job.now.name.now in
+        IfOk result (λ _. All (λ line. IsOfJob name line.now) lines.now) }
     ensures parts { let c = job.now.collector.now in
         let made = IsContainerOf C.Item.is_value (C.content c) (C.empty c) (C.add c) in
         let tells = IsFormOf C.Item.is_value (C.content c) (C.empty c) (C.add c) (C.form c) in
@@ -143,13 +145,15 @@ fn write_parts<C: WireForm>(
     parts: Vec<Part<C::Acc>>,
 ) -> Result<Vec<String>, PartsError>
     requires { C.levels job.now.collector.now ≤ 126 }
-    ensures one_line { IfOk result (λ lines. All (λ line. IsTrue (is_one_line (string_bytes line))) lines.items) }
+    ensures one_line { IfOk result (λ lines.
+        All (λ line. IsTrue (is_one_line (string_bytes line))) lines.items) }
     ensures lines { let c = job.now.collector.now in
+        let name = job.now.name.now in
         let made = IsContainerOf C.Item.is_value (C.content c) (C.empty c) (C.add c) in
         let tells = IsFormOf C.Item.is_value (C.content c) (C.empty c) (C.add c) (C.form c) in
         (between : ℕ → ℕ → List C.Item.Content) (n : ℕ) → All (IsPart made between n) parts.items
         → IfOk result (λ lines.
-            All (λ line. IsPartLine tells job.now.name.now between n (string_bytes line)) lines.items) }
+            All (λ line. IsPartLine tells name between n (string_bytes line)) lines.items) }
     ensures known { let c = job.now.collector.now in
         let made = IsContainerOf C.Item.is_value (C.content c) (C.empty c) (C.add c) in
         (between : ℕ → ℕ → List C.Item.Content) (n : ℕ) → All (IsPart made between n) parts.items
@@ -166,7 +170,8 @@ impl<'a, C: FromWire> Job<'a, C> {
     // The parts that lines tell of, in order, neighbours joined.
     fn pieces(&self, alloc: Global, lines: &[&str]) -> Result<Vec<Part<C::Acc>>, PartsError>
         requires { C.ready self.now.collector.now }
-        ensures own { IfOk result (λ _. All (λ line. IsOfJob self.now.name.now line.now) lines.now) }
+        ensures own { let name = self.now.name.now in
+            IfOk result (λ _. All (λ line. IsOfJob name line.now) lines.now) }
         ensures pieces { let c = self.now.collector.now in
             let made = IsContainerOf C.Item.is_value (C.content c) (C.empty c) (C.add c) in
             let tells = IsFormOf C.Item.is_value (C.content c) (C.empty c) (C.add c) (C.form c) in
@@ -188,7 +193,8 @@ impl<'a, C: FromWire> Job<'a, C> {
     /// `Missing` where they don't tell of all places. Any other line than one of this job's parts is an error.
     pub fn finish_parts(&self, alloc: Global, lines: &[&str]) -> Result<C::Out, PartsError>
         requires { C.ready self.now.collector.now }
-        ensures own { IfOk result (λ _. All (λ line. IsOfJob self.now.name.now line.now) lines.now) }
+        ensures own { let name = self.now.name.now in
+            IfOk result (λ _. All (λ line. IsOfJob name line.now) lines.now) }
         ensures result { let c = self.now.collector.now in
             let tells = IsFormOf C.Item.is_value (C.content c) (C.empty c) (C.add c) (C.form c) in
             (between : ℕ → ℕ → List C.Item.Content) (n : ℕ) → Joins between
@@ -209,15 +215,17 @@ impl<'a, C: FromWire> Job<'a, C> {
     pub fn combine_parts(&self, alloc: Global, lines: &[&str]) -> Result<Vec<String>, PartsError>
         requires ready { C.ready self.now.collector.now }
         requires levels { C.levels self.now.collector.now ≤ 126 }
-        ensures own { IfOk result (λ _. All (λ line. IsOfJob self.now.name.now line.now) lines.now) }
+        ensures own { let name = self.now.name.now in
+            IfOk result (λ _. All (λ line. IsOfJob name line.now) lines.now) }
         ensures one_line { IfOk result (λ joined.
             All (λ line. IsTrue (is_one_line (string_bytes line))) joined.items) }
         ensures joined { let c = self.now.collector.now in
+            let name = self.now.name.now in
             let tells = IsFormOf C.Item.is_value (C.content c) (C.empty c) (C.add c) (C.form c) in
             (between : ℕ → ℕ → List C.Item.Content) (n : ℕ) → Joins between
-            → All (λ line. IsPartLine tells self.now.name.now between n line.now) lines.now
+            → All (λ line. IsPartLine tells name between n line.now) lines.now
             → IfOk result (λ joined.
-                All (λ line. IsPartLine tells self.now.name.now between n (string_bytes line)) joined.items) }
+                All (λ line. IsPartLine tells name between n (string_bytes line)) joined.items) }
         ensures known { let c = self.now.collector.now in
             let tells = IsFormOf C.Item.is_value (C.content c) (C.empty c) (C.add c) (C.form c) in
             (between : ℕ → ℕ → List C.Item.Content) (n : ℕ) → Joins between

@@ -1,4 +1,6 @@
-//! Containers of the parts of a list, as lines of text that any engine carries: parts in any order, told once or twice, give the result on the whole list, or none.
+//! Containers of the parts of a list, as lines of text that any engine carries.
+//!
+//! Lines in any order, told once or twice, give the result on the whole list, or none.
 #![tactic(auto)]
 
 mod error;

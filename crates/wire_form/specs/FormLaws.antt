@@ -6,6 +6,7 @@ use Rattle.serde_json.specs.Find.{of_integer}
 use Rattle.serde_json.specs.View.{items_of}
 use Rattle.serde_json.specs.Written.{has_float, items_have_float}
 use Rattle.derived_collectors.specs.Facts.{Facts}
+use Rattle.derived_collectors.specs.Sets.{as_keys}
 use Rattle.wire_form.specs.Forms.{entry_form, facts_form, list_form, number_form, option_form, pair_form, text_form}
 
 -- numbers of one form are one
@@ -84,9 +85,9 @@ pub text_form-shallow : (a : Option (List ℕ)) → depth (text_form a) ≤ 0
 text_form-shallow None = zero-le
 text_form-shallow (Some t) = zero-le
 
-pub groups-shallow : {K A : Type 0} (of_keys : K → Data) (of_kept : A → Data) (m n : ℕ) → ((k : K) → depth (of_keys k) ≤ m) → ((a : A) → depth (of_kept a) ≤ n)
+pub entries-shallow : {K A : Type 0} (of_keys : K → Data) (of_kept : A → Data) (m n : ℕ) → ((k : K) → depth (of_keys k) ≤ m) → ((a : A) → depth (of_kept a) ≤ n)
     → (es : List (K × A)) → depth (list_form (entry_form of_keys of_kept) es) ≤ max m n + 2
-groups-shallow of_keys of_kept m n keys kept es =
+entries-shallow of_keys of_kept m n keys kept es =
     let one = list_form-shallow (entry_form of_keys of_kept) (max m n + 1) (λ e. pair_form-shallow (of_keys e.0) (of_kept e.1) m n (keys e.0) (kept e.1)) es in
     omega (arith, one)
 
@@ -117,9 +118,9 @@ pub text_form-plain : (a : Option (List ℕ)) → has_float (text_form a) ≡ fa
 text_form-plain None = refl
 text_form-plain (Some t) = refl
 
-pub groups-plain : {K A : Type 0} (of_keys : K → Data) (of_kept : A → Data) → ((k : K) → has_float (of_keys k) ≡ false) → ((a : A) → has_float (of_kept a) ≡ false)
+pub entries-plain : {K A : Type 0} (of_keys : K → Data) (of_kept : A → Data) → ((k : K) → has_float (of_keys k) ≡ false) → ((a : A) → has_float (of_kept a) ≡ false)
     → (es : List (K × A)) → has_float (list_form (entry_form of_keys of_kept) es) ≡ false
-groups-plain of_keys of_kept keys kept es = list_form-plain (entry_form of_keys of_kept) (λ e. pair_form-plain (of_keys e.0) (of_kept e.1) (keys e.0) (kept e.1)) es
+entries-plain of_keys of_kept keys kept es = list_form-plain (entry_form of_keys of_kept) (λ e. pair_form-plain (of_keys e.0) (of_kept e.1) (keys e.0) (kept e.1)) es
 
 map-same : {X : Type 0} (l : List X) → map (λ x. x) l ≡ l
 map-same [] = refl
@@ -153,3 +154,7 @@ facts_form-plain f =
     pair_form-plain (pair_form (number_form f.0.0) (number_form f.0.1)) (pair_form (option_form number_form f.1.0) (option_form number_form f.1.1))
     (pair_form-plain (number_form f.0.0) (number_form f.0.1) (number_form-plain f.0.0) (number_form-plain f.0.1))
     (pair_form-plain (option_form number_form f.1.0) (option_form number_form f.1.1) (option_form-plain number_form number_form-plain f.1.0) (option_form-plain number_form number_form-plain f.1.1))
+
+-- sets of one form have one content
+pub keys-pinned : {K : Type 0} (form : K → Data) → ((j k : K) → form j ≡ form k → j ≡ k) → (ks js : List K) → list_form form ks ≡ list_form form js → as_keys ks ≡ as_keys js
+keys-pinned form pinned ks js h = ap as_keys (map-itself (list_form-pinned form (λ k. k) pinned ks js h))

@@ -1,3 +1,3 @@
 pub mod FormLaws
 pub mod Forms
-pub mod KnownGroups
+pub mod KnownEntries

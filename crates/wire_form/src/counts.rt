@@ -1,4 +1,4 @@
-//! Counts and sums on the wire: numbers.
+//! Counts and sums as JSON: numbers.
 ghost use Rattle.std.specs.Prelude.{◌≡◌};
 ghost use Rattle.std.proofs.Common.{zero-le};
 ghost use Rattle.wire_form.specs.Forms.{number_form};

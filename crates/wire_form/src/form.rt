@@ -1,4 +1,4 @@
-//! Collectors whose containers go over a wire.
+//! Collectors whose containers are written as JSON, and read again.
 ghost use Rattle.std.specs.Prelude.{◌≡◌, ◌≤◌, ℕ, List, false, IfOk, IfErr};
 ghost use Rattle.serde_json.specs.Data.{Data, depth};
 ghost use Rattle.serde_json.specs.Written.{has_float};
@@ -24,7 +24,8 @@ pub trait WireForm: Collector {
         ensures { IfOk result (λ value. view value ≡ form self.now acc) };
 
     // containers of one form have one content
-    ghost pinned: { (c : Self) (a b : Self.Acc) → form c a ≡ form c b → Self.Collector.content c a ≡ Self.Collector.content c b };
+    ghost pinned: { (c : Self) (a b : Self.Acc) → form c a ≡ form c b
+        → Self.Collector.content c a ≡ Self.Collector.content c b };
 
     ghost shallow: { (c : Self) (a : Self.Acc) → depth (form c a) ≤ levels c };
 
@@ -38,7 +39,9 @@ pub trait FromWire: WireForm {
     fn read(&self, alloc: Global, value: Json) -> Result<Self::Acc, WireError>
         requires { Self.ready self.now }
         ensures form { IfOk result (λ acc. Self.form self.now acc ≡ view value) }
-        ensures known { let it = self.now in
-            let is_form = IsFormOf Self.Item.is_value (Self.content it) (Self.empty it) (Self.add it) (Self.form it) in
-            (l : List Self.Item.Content) → is_form l (view value) → IfErr result (λ e. e ≡ WireError.NoMemory) };
+        ensures known { let c = self.now in
+            let is_form = IsFormOf Self.Item.is_value
+                (Self.content c) (Self.empty c) (Self.add c) (Self.form c) in
+            (l : List Self.Item.Content) → is_form l (view value)
+            → IfErr result (λ e. e ≡ WireError.NoMemory) };
 }

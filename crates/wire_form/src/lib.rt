@@ -3,12 +3,15 @@
 
 mod adapting;
 mod counts;
+mod entries;
 mod error;
 mod form;
-mod groups;
+mod kept;
 mod lists;
+mod maps;
 mod nested;
 mod reductions;
+mod sets;
 mod shapes;
 mod summaries;
 mod values;

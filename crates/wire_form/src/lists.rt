@@ -1,4 +1,4 @@
-//! Lists on the wire: arrays.
+//! Lists as JSON: arrays.
 ghost use Rattle.std.specs.Prelude.{◌+◌, map};
 ghost use Rattle.wire_form.specs.Forms.{list_form};
 ghost use Rattle.wire_form.specs.FormLaws.{list_form-pinned, list_form-plain, list_form-shallow, map-itself};
@@ -15,7 +15,8 @@ impl<T: WireValue + Clone + Drop> WireForm for ToList<T> {
 
     ghost levels = { λ _. T.levels + 1 };
 
-    ghost pinned = { λ _ a b h. map-itself (list_form-pinned T.form (λ x. x) T.pinned (map T.content a) (map T.content b) h) };
+    ghost pinned = { λ _ a b h. map-itself
+        (list_form-pinned T.form (λ x. x) T.pinned (map T.content a) (map T.content b) h) };
 
     ghost shallow = { λ _ a. list_form-shallow T.form T.levels T.shallow (map T.content a) };
 

@@ -18,11 +18,16 @@ impl<A: WireForm, B: WireForm<Item = A::Item>, F: Pairing<A::Out, B::Out>> WireF
 
     ghost levels = { λ c. max (A.levels c.first) (B.levels c.second) + 1 };
 
-    ghost pinned = { λ c p q h. ap₂ (λ a b. (a, b)) (A.pinned c.first p.0 q.0 (pair-first h)) (B.pinned c.second p.1 q.1 (pair-second h)) };
+    ghost pinned = { λ c p q h. ap₂ (λ a b. (a, b))
+        (A.pinned c.first p.0 q.0 (pair-first h))
+        (B.pinned c.second p.1 q.1 (pair-second h)) };
 
-    ghost shallow = { λ c p. pair_form-shallow (A.form c.first p.0) (B.form c.second p.1) (A.levels c.first) (B.levels c.second) (A.shallow c.first p.0) (B.shallow c.second p.1) };
+    ghost shallow = { λ c p. pair_form-shallow (A.form c.first p.0) (B.form c.second p.1)
+        (A.levels c.first) (B.levels c.second)
+        (A.shallow c.first p.0) (B.shallow c.second p.1) };
 
-    ghost plain = { λ c p. pair_form-plain (A.form c.first p.0) (B.form c.second p.1) (A.plain c.first p.0) (B.plain c.second p.1) };
+    ghost plain = { λ c p. pair_form-plain (A.form c.first p.0) (B.form c.second p.1)
+        (A.plain c.first p.0) (B.plain c.second p.1) };
 
     fn write(&self, alloc: Global, acc: (A::Acc, B::Acc)) -> Result<Json, NoMemory> {
         let (first, second) = acc;
@@ -51,7 +56,8 @@ impl<D: WireForm, P: Test<D::Item>> WireForm for PartitioningBy<P, D> {
         (D.pinned c.downstream p.no q.no (pair-first h))
         (D.pinned c.downstream p.yes q.yes (pair-second h)) };
 
-    ghost shallow = { λ c p. sides-shallow (D.form c.downstream) (D.levels c.downstream) (D.shallow c.downstream) p.no p.yes };
+    ghost shallow = { λ c p. sides-shallow (D.form c.downstream)
+        (D.levels c.downstream) (D.shallow c.downstream) p.no p.yes };
 
     ghost plain = { λ c p. pair_form-plain (D.form c.downstream p.no) (D.form c.downstream p.yes)
         (D.plain c.downstream p.no) (D.plain c.downstream p.yes) };

@@ -1,4 +1,4 @@
-//! Reductions and joined texts on the wire: null, or what was joined.
+//! Reductions and joined texts as JSON: null, or what was joined.
 ghost use Rattle.std.specs.Prelude.{◌≡◌, ◌+◌, option_map, string_bytes};
 ghost use Rattle.wire_form.specs.Forms.{option_form, text_form};
 ghost use Rattle.wire_form.specs.FormLaws.{option_form-pinned, option_form-plain, option_form-shallow, text_form-pinned, text_form-plain, text_form-shallow};
@@ -16,11 +16,14 @@ impl<T: WireValue + Clone + Drop, O: Operator<T>> WireForm for Reducing<T, O> {
 
     ghost levels = { λ _. T.levels + 1 };
 
-    ghost pinned = { λ _. option_form-pinned (λ x. T.form (T.content x)) T.content (λ x y. T.pinned (T.content x) (T.content y)) };
+    ghost pinned = { λ _. option_form-pinned (λ x. T.form (T.content x)) T.content
+        (λ x y. T.pinned (T.content x) (T.content y)) };
 
-    ghost shallow = { λ _. option_form-shallow (λ x. T.form (T.content x)) T.levels (λ x. T.shallow (T.content x)) };
+    ghost shallow = { λ _. option_form-shallow (λ x. T.form (T.content x)) T.levels
+        (λ x. T.shallow (T.content x)) };
 
-    ghost plain = { λ _. option_form-plain (λ x. T.form (T.content x)) (λ x. T.plain (T.content x)) };
+    ghost plain = { λ _. option_form-plain (λ x. T.form (T.content x))
+        (λ x. T.plain (T.content x)) };
 
     fn write(&self, alloc: Global, acc: Option<T>) -> Result<Json, NoMemory> {
         write_option(alloc, acc)
@@ -38,11 +41,14 @@ impl<T: WireValue + Clone + Drop> WireForm for First<T> {
 
     ghost levels = { λ _. T.levels + 1 };
 
-    ghost pinned = { λ _. option_form-pinned (λ x. T.form (T.content x)) T.content (λ x y. T.pinned (T.content x) (T.content y)) };
+    ghost pinned = { λ _. option_form-pinned (λ x. T.form (T.content x)) T.content
+        (λ x y. T.pinned (T.content x) (T.content y)) };
 
-    ghost shallow = { λ _. option_form-shallow (λ x. T.form (T.content x)) T.levels (λ x. T.shallow (T.content x)) };
+    ghost shallow = { λ _. option_form-shallow (λ x. T.form (T.content x)) T.levels
+        (λ x. T.shallow (T.content x)) };
 
-    ghost plain = { λ _. option_form-plain (λ x. T.form (T.content x)) (λ x. T.plain (T.content x)) };
+    ghost plain = { λ _. option_form-plain (λ x. T.form (T.content x))
+        (λ x. T.plain (T.content x)) };
 
     fn write(&self, alloc: Global, acc: Option<T>) -> Result<Json, NoMemory> {
         write_option(alloc, acc)
@@ -60,7 +66,8 @@ impl<'a, T: Text> WireForm for Joining<'a, T> {
 
     ghost levels = { λ _. 0 };
 
-    ghost pinned = { λ _ a b. text_form-pinned (option_map string_bytes a) (option_map string_bytes b) };
+    ghost pinned = { λ _ a b. text_form-pinned
+        (option_map string_bytes a) (option_map string_bytes b) };
 
     ghost shallow = { λ _ a. text_form-shallow (option_map string_bytes a) };
 

@@ -1,4 +1,4 @@
-//! Values that go over a wire.
+//! Values that are written as JSON, and read again.
 ghost use Rattle.std.specs.Prelude.{◌≡◌, ◌≤◌, ℕ, ℤ, false, IfOk, IfErr, IfSome, IsSome, string_bytes, refl};
 ghost use Rattle.serde_json.specs.Data.{Data, string, depth};
 ghost use Rattle.serde_json.specs.View.{view};
