@@ -14,7 +14,7 @@ Joins between = (p q r : ℕ) → p ≤ q → q ≤ r → between p q ++ between
 -- a line as JSON: the format and its version, the job, the places, and a container's form
 abbrev pub header_form : List ℕ → ℕ → ℕ → ℕ → List Data
 header_form job from to of = string (codes "parts") ∷ number (unsigned 1) ∷ string job
-  ∷ number (unsigned from) ∷ number (unsigned to) ∷ number (unsigned of) ∷ []
+    ∷ number (unsigned from) ∷ number (unsigned to) ∷ number (unsigned of) ∷ []
 
 abbrev pub part_form : List ℕ → ℕ → ℕ → ℕ → Data → Data
 part_form job from to of container = array (items_of (header_form job from to of ++ container ∷ []))
@@ -26,7 +26,7 @@ IsOfJob job line = (from to of : ℕ) × (container : Data) × (read line ≡ So
 -- the line tells of the part between two places of n
 abbrev pub IsPartLine : {X : Type 0} → (List X → Data → Type 0) → List ℕ → (ℕ → ℕ → List X) → ℕ → List ℕ → Type 0
 IsPartLine tells job between n line = (from to : ℕ) × (container : Data) × from ≤ to × to ≤ n
-  × (read line ≡ Some (part_form job from to n container)) × tells (between from to) container
+    × (read line ≡ Some (part_form job from to n container)) × tells (between from to) container
 
 -- the part has its places within n, in order, and the container of the items between them
 abbrev pub IsPart : {X C : Type 0} → (List X → C → Type 0) → (ℕ → ℕ → List X) → ℕ → Part C → Type 0

@@ -42,7 +42,7 @@ impl<'a, C: WireForm> Job<'a, C> {
             let tells = IsFormOf C.Item.is_value (C.content c) (C.empty c) (C.add c) (C.form c) in
             (between : ℕ → ℕ → List C.Item.Content) → made (between places.from places.to) container
             → IfOk result (λ line.
-                IsPartLine tells self.now.name.now between places.of (string_bytes line)) }
+            IsPartLine tells self.now.name.now between places.of (string_bytes line)) }
         ensures known { places.from ≤ places.to → places.to ≤ places.of
             → IfErr result (λ e. e ≡ PartsError.NoMemory) }
     {
@@ -153,7 +153,7 @@ fn write_parts<C: WireForm>(
         let tells = IsFormOf C.Item.is_value (C.content c) (C.empty c) (C.add c) (C.form c) in
         (between : ℕ → ℕ → List C.Item.Content) (n : ℕ) → All (IsPart made between n) parts.items
         → IfOk result (λ lines.
-            All (λ line. IsPartLine tells name between n (string_bytes line)) lines.items) }
+        All (λ line. IsPartLine tells name between n (string_bytes line)) lines.items) }
     ensures known { let c = job.now.collector.now in
         let made = IsContainerOf C.Item.is_value (C.content c) (C.empty c) (C.add c) in
         (between : ℕ → ℕ → List C.Item.Content) (n : ℕ) → All (IsPart made between n) parts.items
@@ -225,7 +225,7 @@ impl<'a, C: FromWire> Job<'a, C> {
             (between : ℕ → ℕ → List C.Item.Content) (n : ℕ) → Joins between
             → All (λ line. IsPartLine tells name between n line.now) lines.now
             → IfOk result (λ joined.
-                All (λ line. IsPartLine tells name between n (string_bytes line)) joined.items) }
+            All (λ line. IsPartLine tells name between n (string_bytes line)) joined.items) }
         ensures known { let c = self.now.collector.now in
             let tells = IsFormOf C.Item.is_value (C.content c) (C.empty c) (C.add c) (C.form c) in
             (between : ℕ → ℕ → List C.Item.Content) (n : ℕ) → Joins between

@@ -58,7 +58,7 @@ module _ {J : Type 0} (same : J → J → Bool) (decides : DecidesEquality same)
       let here : same j k ≡ false = or-false_left (same j k) (list_any (same j) ks) (or-false_right (list_any (same j) before) (same j k || list_any (same j) ks) none) in
       ap₂ ◌||◌ (apart-swap same decides j k here) (apart-before before k ks h.1)
 
-  distinct-known : (P : J → Type 0) (earlier ks : List J) → All P ks → All P (distinct_after same earlier ks)
+  pub distinct-known : (P : J → Type 0) (earlier ks : List J) → All P ks → All P (distinct_after same earlier ks)
   distinct-known P earlier [] v = v
   distinct-known P earlier (k ∷ ks) v =
       let rest = distinct-known P (earlier ++ k ∷ []) ks (All-tail P k ks v) in
@@ -127,9 +127,9 @@ module _ {J : Type 0} (same : J → J → Bool) (decides : DecidesEquality same)
       let reduce = λ (k : J). fold (add_image value None (reduce_add join)) None (of_key same key l k) in
       known-pairs is_key (λ u. is_result (content u)) of (λ u. Some (content u)) is_value key keys reduce
       (λ k u made.
-          let part = of_key same key l k in
-          let all = All-map is_result value part (All-weaker is_value (λ x. is_result (value x)) values part (All-filter (λ x. same k (key x)) is_value l v)) in
-          subst (λ o. IfSome o is_result) (sym (made ∙ fold-image value None (reduce_add join) part)) (reduced-known join is_result joins (map value part) all))
+      let part = of_key same key l k in
+      let all = All-map is_result value part (All-weaker is_value (λ x. is_result (value x)) values part (All-filter (λ x. same k (key x)) is_value l v)) in
+      subst (λ o. IfSome o is_result) (sym (made ∙ fold-image value None (reduce_add join) part)) (reduced-known join is_result joins (map value part) all))
       es l v (sym (map-map (λ e. (e.0, Some e.1)) (λ e. (of e.0, content e.1)) es) ∙ ap as_groups h ∙ mapped same decides key value join l)
 
 -- the first of some that are left

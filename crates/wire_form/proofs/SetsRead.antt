@@ -1,5 +1,5 @@
 -- Sets that are read: the members of an array, where each stands once.
-use Rattle.std.specs.Prelude.{◌≡◌, ◌≤◌, ◌+◌, Bool, false, List, [], ◌∷◌, ◌++◌, length, refl}
+use Rattle.std.specs.Prelude.{◌≡◌, ◌≤◌, suc, Bool, false, List, [], ◌∷◌, ◌++◌, length, refl}
 use Rattle.std.specs.List.{list_any}
 use Rattle.std.proofs.Common.{ap, subst, sym, arith, append_assoc}
 use Rattle.spliterator.specs.Values.{DecidesEquality}
@@ -22,10 +22,10 @@ module _ {K : Type 0} (same : K → K → Bool) where
   distinct-all earlier (k ∷ ks) h =
       let rest = fewer (earlier ++ k ∷ []) ks in
       either (list_any (same k) earlier)
-      (λ t. let short : length ks + 1 ≤ length (distinct_after same (earlier ++ k ∷ []) ks) = simp t at h in absurd (omega (arith, rest, short)))
+      (λ t. let short : suc (length ks) ≤ length (distinct_after same (earlier ++ k ∷ []) ks) = simp t at h in absurd (omega (arith, rest, short)))
       (λ t.
-          let more : length ks + 1 ≤ length (distinct_after same (earlier ++ k ∷ []) ks) + 1 = simp t at h in
-          simp t (ap (λ l. k ∷ l) (distinct-all (earlier ++ k ∷ []) ks (omega (arith, more)))))
+      let more : suc (length ks) ≤ suc (length (distinct_after same (earlier ++ k ∷ []) ks)) = simp t at h in
+      simp t (ap (λ l. k ∷ l) (distinct-all (earlier ++ k ∷ []) ks (omega (arith, more)))))
 
   -- where no two are one, all are there
   pub distinct-of_apart : DecidesEquality same → (earlier ks : List K) → AllApart same (earlier ++ ks) → distinct_after same earlier ks ≡ ks

@@ -41,7 +41,7 @@ pub trait FromWire: WireForm {
         ensures form { IfOk result (λ acc. Self.form self.now acc ≡ view value) }
         ensures known { let c = self.now in
             let is_form = IsFormOf Self.Item.is_value
-                (Self.content c) (Self.empty c) (Self.add c) (Self.form c) in
+            (Self.content c) (Self.empty c) (Self.add c) (Self.form c) in
             (l : List Self.Item.Content) → is_form l (view value)
             → IfErr result (λ e. e ≡ WireError.NoMemory) };
 }

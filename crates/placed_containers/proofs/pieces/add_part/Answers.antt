@@ -25,11 +25,11 @@ returns g c = λ between n joins all part.
     let is_part = IsPart (IsContainerOf g.C.Item.Value.is_value (C.content it) (C.empty it) (C.add it)) between n in
     let pieces = c.args.pieces.now in
     let there : All is_part c.match-last_mut.pieces.items = elim c.match-last_mut.branch [
-      in-Some+else-part-piece w ↦
+      | in-Some+else-part-piece w ↦
           let within : vec_len pieces - 1 < length pieces.items = omega (arith, pieces.ok.0, w.in-Some.ensures.variant.0 refl) in
           let is : slice_index_or pieces.items (vec_len pieces - 1) w.in-Some.piece.now ≡ w.in-Some.piece.now = search rules in
           let old = subst is_part is (all (vec_len pieces - 1) w.in-Some.piece.now within) in
           subst (λ v. All is_part v.items) (sym w.pieces-is) (All-set is_part pieces.items (vec_len pieces - 1) w.in-Some.piece.now old all)
-    | in_default w ↦ subst (λ v. All is_part v.items) (sym w.pieces-is) all
+      | in_default w ↦ subst (λ v. All is_part v.items) (sym w.pieces-is) all
     ] in
     subst (All is_part) (sym c.in_ok-push.ensures.items) (All-push is_part c.match-last_mut.pieces.items c.args.part there part)
