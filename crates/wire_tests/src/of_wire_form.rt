@@ -4,11 +4,11 @@ ghost use Rattle.spliterator.specs.Clones.{ClonesAlike};
 use crate::functions::{Both, Copies};
 use collectors::{
     Counting, FilteringTo, First, GroupingBy, Joining, MappingTo, PartitioningBy, Reducing,
-    SummingLong, Teeing, ToList, accumulate_items, finish_container, fold_items,
+    SummingLong, Teeing, ToList, ToMap, accumulate_items, finish_container, fold_items,
 };
-use derived_collectors::{CollectingAndThen, FlatMappingTo, Summarizing, Summary};
+use derived_collectors::{CollectingAndThen, FlatMappingTo, Summarizing, ToSet};
 use serde_json::Value as Json;
-use stages::Max;
+use stages::{Max, WrapAdd};
 use std::alloc::Global;
 use stream_functions::{Even, Itself, Modulo, Times};
 use wire_form::{FromWire, WireError};
@@ -37,20 +37,23 @@ fn carried<C: FromWire>(
 }
 
 #[test]
-fn numbers_options_and_texts(rt: HostRuntime) -> Result<(), WireError> {
+fn groups_sides_and_texts(rt: HostRuntime) -> Result<(), WireError> {
     let alloc = rt.alloc();
-    let (text, count) = carried(alloc, &Counting::<i64>::new(), &FRONT, &REST)?;
-    assert!(&rt; text.as_str() == "3" && count == 5);
-    let sums = SummingLong::<i64, Itself>::new(Itself);
-    let (text, sum) = carried(alloc, &sums, &FRONT, &REST)?;
-    assert!(&rt; text.as_str() == "14" && sum == 23);
-    let greatest = Reducing::new(Max::<i64>::new());
-    let (text, most) = carried(alloc, &greatest, &FRONT, &REST)?;
-    assert!(&rt; text.as_str() == "[7]" && most == Some(7));
-    let (text, most) = carried(alloc, &greatest, &[], &REST)?;
-    assert!(&rt; text.as_str() == "null" && most == Some(5));
-    let (text, first) = carried(alloc, &First::<i64>::new(), &FRONT, &REST)?;
-    assert!(&rt; text.as_str() == "[5]" && first == Some(5));
+    let both = Teeing::new(
+        Counting::<i64>::new(),
+        Reducing::new(Max::<i64>::new()),
+        Both,
+    );
+    let by_rest = GroupingBy::new(alloc, Modulo::by(3), both);
+    let (text, groups) = carried(alloc, &by_rest, &FRONT, &REST)?;
+    assert!(&rt; text.as_str() == "[[2,[2,[5]]],[1,[1,[7]]]]");
+    assert!(&rt; groups.get(&2) == Some(&(3, Some(5))) && groups.get(&1) == Some(&(2, Some(7))));
+    let doubled = MappingTo::<i64, _, _>::new(Times(2), ToList::<i64>::new(alloc));
+    let sides = PartitioningBy::new(Even, doubled);
+    let (text, parted) = carried(alloc, &sides, &FRONT, &REST)?;
+    assert!(&rt; text.as_str() == "[[10,14],[4]]");
+    assert!(&rt; parted.no.as_slice() == [10, 14, 10].as_slice());
+    assert!(&rt; parted.yes.as_slice() == [4, 8].as_slice());
     let words = Joining::<&str>::new(alloc, ", ", "{", "}");
     let (text, joined) = carried(alloc, &words, &["a", "\n"], &["c"])?;
     assert!(&rt; text.as_str() == r#""a, \n""# && joined.as_str() == "{a, \n, c}");
@@ -60,49 +63,27 @@ fn numbers_options_and_texts(rt: HostRuntime) -> Result<(), WireError> {
 }
 
 #[test]
-fn lists_and_what_is_made_of_them(rt: HostRuntime) -> Result<(), WireError> {
+fn maps_sets_and_summaries(rt: HostRuntime) -> Result<(), WireError> {
     let alloc = rt.alloc();
-    let list = ToList::<i64>::new(alloc);
-    let (text, found) = carried(alloc, &list, &FRONT, &REST)?;
-    assert!(&rt; text.as_str() == "[5,2,7]" && found.as_slice() == [5, 2, 7, 4, 5].as_slice());
-    let doubled = MappingTo::<i64, _, _>::new(Times(2), ToList::<i64>::new(alloc));
-    let (text, found) = carried(alloc, &doubled, &FRONT, &REST)?;
-    assert!(&rt; text.as_str() == "[10,4,14]" && found.as_slice() == [10, 4, 14, 8, 10].as_slice());
-    let even = FilteringTo::new(Even, ToList::<i64>::new(alloc));
-    let (text, found) = carried(alloc, &even, &FRONT, &REST)?;
-    assert!(&rt; text.as_str() == "[2]" && found.as_slice() == [2, 4].as_slice());
-    let copies = FlatMappingTo::<i64, _, _>::new(Copies { alloc }, ToList::<i64>::new(alloc));
-    let (text, found) = carried(alloc, &copies, &[2, 0], &[1])?;
-    assert!(&rt; text.as_str() == "[2,2]" && found.as_slice() == [2, 2, 1].as_slice());
-    let twice = CollectingAndThen::new(Counting::<i64>::new(), Times(2));
-    let (text, found) = carried(alloc, &twice, &FRONT, &REST)?;
-    assert!(&rt; text.as_str() == "3" && found == 10);
-    Ok(())
-}
-
-#[test]
-fn groups_pairs_and_summaries(rt: HostRuntime) -> Result<(), WireError> {
-    let alloc = rt.alloc();
-    let counts = GroupingBy::new(alloc, Modulo::by(3), Counting::<i64>::new());
-    let (text, groups) = carried(alloc, &counts, &FRONT, &REST)?;
-    assert!(&rt; text.as_str() == "[[2,2],[1,1]]");
-    assert!(&rt; groups.len() == 2 && groups.get(&2) == Some(&3) && groups.get(&1) == Some(&2));
-    let sums = SummingLong::<i64, Itself>::new(Itself);
-    let both = Teeing::new(Counting::<i64>::new(), sums, Both);
-    let (text, pair) = carried(alloc, &both, &FRONT, &REST)?;
-    assert!(&rt; text.as_str() == "[3,14]" && pair == (5, 23));
-    let sides = PartitioningBy::new(Even, Counting::<i64>::new());
-    let (text, parted) = carried(alloc, &sides, &FRONT, &REST)?;
-    assert!(&rt; text.as_str() == "[2,1]" && parted.no == 3 && parted.yes == 2);
-    let facts = Summarizing::<i64, Itself>::new(Itself);
-    let (text, summary) = carried(alloc, &facts, &FRONT, &REST)?;
-    let wanted = Summary {
-        count: 5,
-        sum: 23,
-        least: Some(2),
-        greatest: Some(7),
-    };
-    assert!(&rt; text.as_str() == "[[3,14],[[2],[7]]]" && summary == wanted);
+    let sums = ToMap::<i64, i64, _, _, _>::new(alloc, Modulo::by(3), Itself, WrapAdd);
+    let (text, map) = carried(alloc, &sums, &FRONT, &REST)?;
+    assert!(&rt; text.as_str() == "[[2,7],[1,7]]");
+    assert!(&rt; map.get(&2) == Some(&12) && map.get(&1) == Some(&11));
+    let copies = FlatMappingTo::<i64, _, _>::new(Copies { alloc }, ToSet::<i64>::new(alloc));
+    let even = FilteringTo::new(Even, copies);
+    let (text, set) = carried(alloc, &even, &[2, 0, 4, 3], &[2])?;
+    assert!(&rt; text.as_str() == "[2,4]" && set.len() == 2);
+    let sum = SummingLong::<i64, Itself>::new(Itself);
+    let twice = CollectingAndThen::new(sum, Times(2));
+    let facts = Teeing::new(
+        First::<i64>::new(),
+        Summarizing::<i64, Itself>::new(Itself),
+        Both,
+    );
+    let all = Teeing::new(twice, facts, Both);
+    let (text, (twice, (first, summary))) = carried(alloc, &all, &FRONT, &REST)?;
+    assert!(&rt; text.as_str() == "[14,[[5],[[3,14],[[2],[7]]]]]");
+    assert!(&rt; twice == 46 && first == Some(5) && summary.greatest == Some(7));
     Ok(())
 }
 
