@@ -1,6 +1,6 @@
 -- Parts one behind another.
-use Rattle.std.specs.Prelude.{◌≡◌, ◌≤◌, ◌++◌, ℕ, List}
-use Rattle.std.proofs.Common.{sym, ap, subst, ◌∙◌}
+use Rattle.std.specs.Prelude.{◌≤◌, ◌++◌, ℕ, List}
+use Rattle.std.proofs.Common.{subst}
 use Rattle.placed_containers.specs.Parts.{Joins}
 
 -- what holds of the lists of two neighbours, the one behind the other, holds of that between the outer places

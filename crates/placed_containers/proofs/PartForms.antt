@@ -1,10 +1,9 @@
 -- The forms of parts: how deep they nest, and that they have no float.
-use Rattle.std.specs.Prelude.{◌≡◌, ◌≤◌, ◌||◌, ◌++◌, ◌∷◌, [], ℕ, List, Some, false}
+use Rattle.std.specs.Prelude.{◌≡◌, ◌≤◌, ◌||◌, ℕ, List, Some, false}
 use Rattle.std.proofs.Common.{ap, arith}
-use Rattle.serde_json.specs.Data.{Data, depth, array}
-use Rattle.serde_json.specs.View.{items_of}
-use Rattle.serde_json.specs.Written.{has_float, items_have_float}
-use Rattle.placed_containers.specs.Parts.{part_form, header_form}
+use Rattle.serde_json.specs.Data.{Data, depth}
+use Rattle.serde_json.specs.Written.{has_float}
+use Rattle.placed_containers.specs.Parts.{part_form}
 
 pub part_form-shallow : (job : List ℕ) (from to of : ℕ) (d : Data) → depth d ≤ 126 → depth (part_form job from to of d) ≤ 127
 part_form-shallow job from to of d h = omega (arith, h)

@@ -1,5 +1,5 @@
 //! A job over the parts of a list.
-ghost use Rattle.std.specs.Prelude.{◌≡◌, ◌≤◌, ◌⊎◌, ℕ, List, All, map, Some, IfOk, IfErr, IsTrue, string_bytes};
+ghost use Rattle.std.specs.Prelude.{◌≡◌, ◌≤◌, ℕ, List, All, Some, IfOk, IfErr, IsTrue, string_bytes};
 ghost use Rattle.collectors.specs.Laws.{IsContainerOf};
 ghost use Rattle.wire_form.specs.Forms.{IsFormOf};
 ghost use Rattle.placed_containers.specs.OneLine.{is_one_line};

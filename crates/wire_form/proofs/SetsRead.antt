@@ -4,7 +4,7 @@ use Rattle.std.specs.List.{list_any}
 use Rattle.std.proofs.Common.{ap, subst, sym, arith, append_assoc}
 use Rattle.spliterator.specs.Values.{DecidesEquality}
 use Rattle.stages.specs.Tests.{either}
-use Rattle.stages.specs.Distinct.{distinct, distinct_after, AllApart}
+use Rattle.stages.specs.Distinct.{distinct_after, AllApart}
 use Rattle.wire_form.proofs.EntriesRead.{apart-before}
 
 module _ {K : Type 0} (same : K → K → Bool) where

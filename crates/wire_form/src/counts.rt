@@ -1,5 +1,4 @@
 //! Counts and sums as JSON: numbers.
-ghost use Rattle.std.specs.Prelude.{◌≡◌};
 ghost use Rattle.std.proofs.Common.{zero-le};
 ghost use Rattle.wire_form.specs.Forms.{number_form};
 ghost use Rattle.wire_form.specs.FormLaws.{number_form-pinned, number_form-plain};

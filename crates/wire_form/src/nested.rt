@@ -1,5 +1,5 @@
 //! Two collectors at once, and the two sides of a test, as JSON: pairs.
-ghost use Rattle.std.specs.Prelude.{◌≡◌, ◌+◌, max};
+ghost use Rattle.std.specs.Prelude.{◌+◌, max};
 ghost use Rattle.std.proofs.Common.{ap₂};
 ghost use Rattle.wire_form.specs.Forms.{pair_form};
 ghost use Rattle.wire_form.specs.FormLaws.{pair-first, pair-second, pair_form-plain, pair_form-shallow, sides-shallow};

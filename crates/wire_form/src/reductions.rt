@@ -1,5 +1,5 @@
 //! Reductions and joined texts as JSON: null, or what was joined.
-ghost use Rattle.std.specs.Prelude.{◌≡◌, ◌+◌, option_map, string_bytes};
+ghost use Rattle.std.specs.Prelude.{◌+◌, option_map, string_bytes};
 ghost use Rattle.wire_form.specs.Forms.{option_form, text_form};
 ghost use Rattle.wire_form.specs.FormLaws.{option_form-pinned, option_form-plain, option_form-shallow, text_form-pinned, text_form-plain, text_form-shallow};
 

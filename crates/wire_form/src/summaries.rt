@@ -1,5 +1,4 @@
 //! Summaries of numbers as JSON: a pair of the count and the sum, and a pair of the least and the greatest number.
-ghost use Rattle.std.specs.Prelude.{◌≡◌, ◌≤◌, refl};
 ghost use Rattle.derived_collectors.specs.Summaries.{told};
 ghost use Rattle.wire_form.specs.Forms.{facts_form};
 ghost use Rattle.wire_form.specs.FormLaws.{facts_form-pinned, facts_form-plain, facts_form-shallow};

@@ -1,5 +1,5 @@
 //! Values that are written as JSON, and read again.
-ghost use Rattle.std.specs.Prelude.{◌≡◌, ◌≤◌, ℕ, ℤ, false, IfOk, IfErr, IfSome, IsSome, string_bytes, refl};
+ghost use Rattle.std.specs.Prelude.{◌≡◌, ◌≤◌, ℕ, ℤ, false, IfOk, IfErr, IfSome, IsSome, refl};
 ghost use Rattle.serde_json.specs.Data.{Data, string, depth};
 ghost use Rattle.serde_json.specs.View.{view};
 ghost use Rattle.serde_json.specs.Written.{has_float};

@@ -1,4 +1,4 @@
-use Rattle.std.proofs.Common.{◌≡◌, ◌≤◌, ℕ, List, All, IsTrue, rules, sym, subst}
+use Rattle.std.proofs.Common.{◌≤◌, All, IsTrue, rules, sym, subst}
 use Rattle.std.specs.Prelude.{string_bytes}
 use Rattle.std.proofs.lemmas.List.Elements.{All-head, All-tail, All-push}
 use Rattle.collectors.specs.Laws.{IsContainerOf}

@@ -1,4 +1,4 @@
-use Rattle.std.proofs.Common.{◌≡◌, ◌∙◌, ◌++◌, ◌∷◌, [], IsSome, map, rules, ap, sym}
+use Rattle.std.proofs.Common.{◌∙◌, ◌++◌, ◌∷◌, [], IsSome, map, rules, ap, sym}
 use Rattle.serde_json.specs.View.{view}
 use Rattle.wire_form.proofs.Known.{array-items, items_of-same}
 use Rattle.placed_containers.specs.Parts.{header_form}

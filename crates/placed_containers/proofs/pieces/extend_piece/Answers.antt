@@ -1,4 +1,4 @@
-use Rattle.std.proofs.Common.{◌≡◌, ◌≤◌, ◌++◌, ◌∙◌, ℕ, List, rules, sym, ap, subst, arith}
+use Rattle.std.proofs.Common.{◌≡◌, ◌≤◌, List, subst, arith}
 use Rattle.collectors.specs.Laws.{IsContainerOf}
 use Rattle.placed_containers.proofs.Joined.{between-joined}
 use Rattle.placed_containers.proofs.pieces.extend_piece.Goals as goal

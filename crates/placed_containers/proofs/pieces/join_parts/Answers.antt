@@ -1,8 +1,8 @@
-use Rattle.std.proofs.Common.{◌≡◌, ◌∙◌, ◌∷◌, ℕ, List, All, rules, sym, ap, subst}
+use Rattle.std.proofs.Common.{◌≡◌, All, rules, subst}
 use Rattle.std.proofs.lemmas.List.Elements.{All-head, All-tail}
 use Rattle.std.proofs.lemmas.List.Sorted.{All-permutation}
 use Rattle.collectors.specs.Laws.{IsContainerOf}
-use Rattle.placed_containers.specs.Parts.{Joins, IsPart}
+use Rattle.placed_containers.specs.Parts.{IsPart}
 use Rattle.placed_containers.proofs.pieces.join_parts.Goals as goal
 
 pub loop-part-preserved : goal.loop-part-preserved

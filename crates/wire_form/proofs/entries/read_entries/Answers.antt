@@ -1,8 +1,4 @@
-use Rattle.std.proofs.Common.{◌≡◌, ◌∙◌, List, [], rules, map, sym, ap, subst}
-use Rattle.std.proofs.lemmas.Result.{IfOk-weaker}
-use Rattle.serde_json.specs.Data.{array}
-use Rattle.serde_json.specs.View.{view, items_of}
-use Rattle.wire_form.specs.Forms.{entry_form}
+use Rattle.std.proofs.Common.{◌∙◌, List, map, sym, ap, subst}
 use Rattle.wire_form.specs.KnownEntries.{AreKnownEntries}
 use Rattle.wire_form.proofs.Known.{array-items, items_of-same}
 use Rattle.wire_form.proofs.entries.read_entries.Goals as goal

@@ -1,7 +1,6 @@
-use Rattle.std.proofs.Common.{◌≡◌, ◌≤◌, ◌∙◌, ℕ, List, IsTrue, false, rules, ap, sym, subst, arith}
-use Rattle.std.specs.Prelude.{Some, string_bytes}
+use Rattle.std.proofs.Common.{◌≡◌, ◌≤◌, ◌∙◌, false, rules, ap, sym, subst, arith}
+use Rattle.std.specs.Prelude.{Some}
 use Rattle.serde_json.specs.Data.{depth}
-use Rattle.serde_json.specs.Read.{read}
 use Rattle.serde_json.specs.View.{view}
 use Rattle.serde_json.specs.Written.{has_float}
 use Rattle.placed_containers.specs.OneLine.{is_one_line}

@@ -1,6 +1,6 @@
-use Rattle.std.proofs.Common.{◌≡◌, ◌∙◌, List, [], rules, map, sym, ap}
+use Rattle.std.proofs.Common.{◌∙◌, rules, map, ap}
 use Rattle.serde_json.specs.Data.{array}
-use Rattle.serde_json.specs.View.{view, items_of}
+use Rattle.serde_json.specs.View.{items_of}
 use Rattle.wire_form.specs.Forms.{entry_form}
 use Rattle.wire_form.proofs.Members.{map-map}
 use Rattle.wire_form.proofs.EntriesRead.{known-map}

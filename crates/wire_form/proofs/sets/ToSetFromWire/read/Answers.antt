@@ -1,4 +1,4 @@
-use Rattle.std.proofs.Common.{◌≡◌, ◌≤◌, ◌<◌, ◌∙◌, List, All, [], rules, length, map, fold, sym, ap, subst, arith}
+use Rattle.std.proofs.Common.{◌≡◌, ◌≤◌, ◌<◌, ◌∙◌, All, [], rules, length, map, fold, sym, ap, subst, arith}
 use Rattle.std.proofs.lemmas.List.{length-map}
 use Rattle.stages.specs.Distinct.{distinct, AllApart}
 use Rattle.stages.specs.DistinctLaws.{distinct-apart}
