@@ -11,7 +11,7 @@ use thiserror::Error;
 pub enum PartsError {
     #[error("out of memory")]
     NoMemory,
-    #[error("{0} are no places of a part: a part goes from one place to the same or a later one of the whole")]
+    #[error("{0} are no places of a part: give two of the whole, the earlier first")]
     Misplaced(Places),
     #[error("line {line} is no JSON: hand in each line as it was written")]
     NoJson { line: usize },

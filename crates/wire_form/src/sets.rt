@@ -19,7 +19,8 @@ impl<T: WireValue + EqualValue + Clone + Hash + Drop, S: BuildHasher + Copy> Wir
 
     ghost levels = { λ _. T.levels + 1 };
 
-    ghost pinned = { λ _ a b. keys-pinned T.form T.pinned (map T.content a.keys) (map T.content b.keys) };
+    ghost pinned = { λ _ a b. keys-pinned T.form T.pinned
+        (map T.content a.keys) (map T.content b.keys) };
 
     ghost shallow = { λ _ a. list_form-shallow T.form T.levels T.shallow (map T.content a.keys) };
 
