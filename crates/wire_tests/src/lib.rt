@@ -2,8 +2,6 @@
 #![tactic(auto)]
 
 #[cfg(test)]
-mod functions;
-#[cfg(test)]
 mod of_placed_containers;
 #[cfg(test)]
 mod of_wire_form;
