@@ -25,7 +25,7 @@ use std::hash::{BuildHasher, BuildHasherDefault, FoldHasher, Hash};
 pub struct GroupingBy<K, D, S = BuildHasherDefault<FoldHasher>> {
     alloc: Global,
     key: K,
-    downstream: D,
+    pub downstream: D,
     hash_builder: S,
 }
 

@@ -11,7 +11,7 @@ use std::hash::{BuildHasher, Hash};
 /// What is kept for each key, where the last item's group stands, and where the next one's is expected.
 #[derive(Drop)]
 pub struct Groups<K: Eq + Hash, A, S: BuildHasher> {
-    pub(crate) entries: IndexMap<K, A, S>,
+    pub entries: IndexMap<K, A, S>,
     // No result depends on these two.
     pub(crate) last: usize,
     pub(crate) expected: usize,

@@ -1,0 +1,20 @@
+use Rattle.std.proofs.Common.{◌∙◌, rules, map, ap}
+use Rattle.serde_json.specs.Data.{array}
+use Rattle.serde_json.specs.View.{items_of}
+use Rattle.wire_form.specs.Forms.{entry_form}
+use Rattle.wire_form.proofs.Members.{map-map}
+use Rattle.wire_form.proofs.EntriesRead.{known-map}
+use Rattle.wire_form.proofs.maps.ToMapFromWire.read.Goals as goal
+
+pub returns-in_err-read_entries-clause-known : goal.returns-in_err-read_entries-clause-known
+returns-in_err-read_entries-clause-known g c = λ l h.
+    let it = c.args.self.now in
+    let of = g.K.Out.Value.content in
+    let told = entry_form g.K.Out.WireValue.form (λ (x : g.row.U.Denot). g.U.WireValue.form (g.U.Value.content x)) in
+    let seen : g.row.K-Out.Denot × g.row.U.Denot → g.row.K-Out-Content.Denot × g.row.U.Denot = λ e. (of e.0, e.1) in
+    let entries = h.0.entries.entries in
+    let known = known-map g.K.Out.Value.same g.met.K.Out.Value.same_decides g.K.Out.Value.is_value g.U.Value.is_value of g.U.Value.content
+    (g.V.Mapping.image it.value) (g.M.Operator.join it.merge) g.T.Value.is_value (g.K.Mapping.image it.key) (g.met.K.Mapping.images_are_values it.key)
+    (g.met.V.Mapping.images_are_values it.value) (g.met.M.Operator.joins_are_values it.merge) entries l h.1.0 h.1.1 in
+    let memory = c.in_err-read_entries.ensures.known (map seen entries) known (ap (λ ds. array (items_of ds)) (map-map told seen entries) ∙ h.2) in
+    search rules

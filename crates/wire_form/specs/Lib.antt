@@ -1,0 +1,3 @@
+pub mod FormLaws
+pub mod Forms
+pub mod KnownEntries
