@@ -1,18 +1,19 @@
 #!/usr/bin/env bash
-# Copies the library into another repository: the crate mohairjade, those that it stands on, and their lines of crates.txt. Where they are there, they
-# are replaced. Nothing else of the repository is touched.
-# Words: checks/vendor.sh FOLDER
+# Copies the library into another repository: the crate mohairjade and those that are named, all that they stand on, and their lines of crates.txt. Where
+# they are there, they are replaced. Nothing else of the repository is touched.
+# Words: checks/vendor.sh FOLDER [CRATE..]
 set -eu
 from=$(cd "$(dirname "$0")/.." && pwd)
 to=${1:?the folder of a repository}
+shift
 mkdir -p "$to/crates"
 lines=$to/crates.txt
 touch "$lines"
 [ -e "$to/HANDLES" ] || cp "$from/HANDLES" "$to/HANDLES"
 
 # a crate stands on those before it, so from the last line on each is known to be needed before its own line comes
-names=$(tac "$from/crates.txt" | awk '
-    BEGIN { needed["mohairjade"] }
+names=$(tac "$from/crates.txt" | awk -v named="mohairjade $*" '
+    BEGIN { count = split(named, crates, " "); while (count) needed[crates[count--]] }
     !/^#/ && split($0, part, ": ?") && part[1] in needed { count = split(part[2], crates, " "); while (count) needed[crates[count--]]; print part[1] }' | tac)
 kept=$(mktemp)
 trap 'rm -f "$kept"' EXIT
