@@ -5,7 +5,7 @@ use Rattle.line_blocks.specs.Blocks.{IsFolded, TakesBlock}
 use Rattle.line_blocks.specs.Faults.{StandsAt}
 use Rattle.line_readers.specs.Flights.{IsFlying}
 use Rattle.line_readers.specs.Values.{values_of}
-use Rattle.core.specs.declared.thread.PromisedHandle.{PromisedHandle}
+use Rattle.std.specs.declared.thread.PromisedHandle.{PromisedHandle}
 use Rattle.spliterator.specs.declared.no_memory.NoMemory.{NoMemory}
 use Rattle.line_readers.specs.declared.flight.Owed.{Owed}
 use Rattle.line_readers.specs.declared.flight.Passing.{Passing}
