@@ -15,10 +15,12 @@ use wire_form::{FromWire, WireError, WireForm};
 
 /// A job over the parts of a list: the name that each of its lines bears, and the collector that folds each part.
 ///
-///     let job = Job { name: "words", collector: &counts };
-///     let line = job.part_line(alloc, places, container)?;    // where a part is folded
-///     let fewer = job.combine_parts(alloc, &lines)?;          // on the way, as often as you like
-///     let result = job.finish_parts(alloc, &lines)?;          // at the end
+/// ```text
+/// let job = Job { name: "words", collector: &counts };
+/// let line = job.part_line(alloc, places, container)?;    // where a part is folded
+/// let fewer = job.combine_parts(alloc, &lines)?;          // on the way, as often as you like
+/// let result = job.finish_parts(alloc, &lines)?;          // at the end
+/// ```
 #[derive(Drop)]
 pub struct Job<'a, C> {
     pub name: &'a str,
@@ -209,6 +211,7 @@ impl<'a, C: FromWire> Job<'a, C> {
         let pieces = self.pieces(alloc, lines)?;
         finish_pieces(alloc, self.collector, pieces)
     }
+
     /// The lines of the parts, neighbours joined, from lines that tell of parts, in any order.
     ///
     /// A part that is told already is left out. Any other line than one of this job's parts is an error.
