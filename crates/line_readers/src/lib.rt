@@ -10,8 +10,6 @@
 mod barred;
 mod between;
 mod ending;
-mod flight;
-mod lane;
 mod line_function;
 mod lines;
 mod linked;
@@ -23,7 +21,7 @@ mod stream;
 pub use barred::BarredLines;
 pub use between::{Between, NoBarrier};
 pub use line_function::{LineFunction, OfLine, OwnLine};
-pub use lines::{BLOCK, LONGEST, LinesOf, ReadLines, lines_of};
+pub use lines::{BLOCK, LinesOf, ReadLines, lines_of};
 pub use linked::{Linked, LinkedState};
 pub use steps::{LineParts, LineSteps};
 pub use stream::LineStream;

@@ -8,10 +8,7 @@ use stages::{Filter, FlatMap, ListValue, Map, Mapping, Nothing, Stage, Test, The
 use std::io::Read;
 
 /// How many bytes a block has, where nothing else is said.
-pub const BLOCK: usize = 2_097_152;
-
-/// The length in bytes that every line has to fall short of, where nothing else is said.
-pub const LONGEST: usize = 8_388_608;
+pub const BLOCK: usize = 8_388_608;
 
 /// The lines of a reader, in blocks of text.
 #[derive(Drop)]
@@ -31,12 +28,12 @@ pub struct LinesOf<I> {
 pub fn lines_of<I: Read>(reader: I) -> LinesOf<I>
     ensures reader { result.reader ≡ reader }
     ensures size { result.size ≡ BLOCK }
-    ensures longest { result.longest ≡ LONGEST }
+    ensures longest { result.longest ≡ BLOCK }
 {
     LinesOf {
         reader,
         size: BLOCK,
-        longest: LONGEST,
+        longest: BLOCK,
     }
 }
 

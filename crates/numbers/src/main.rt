@@ -13,7 +13,6 @@ use std::hash::RandomState;
 use std::io::{IsTerminal, Read};
 use std::process::ExitCode;
 use std::rt::Files;
-use std::sync::Wait;
 use std::thread::Threads;
 use std::time::Clock;
 
@@ -49,7 +48,7 @@ fn main(rt: HostRuntime) -> ExitCode {
 }
 
 /// The answer to the words of the command line.
-fn command<R: Host + Files + Input + Threads + Clock + Wait + Sync>(
+fn command<R: Host + Files + Input + Threads + Clock + Sync>(
     rt: &R,
     is_terminal: bool,
 ) -> Result<Answer, Failure>
@@ -64,7 +63,7 @@ where
     watch.end(answer)
 }
 
-fn answer<R: Host + Files + Input + Threads + Clock + Wait + Sync>(
+fn answer<R: Host + Files + Input + Threads + Clock + Sync>(
     task: &Task<'_, '_, R>,
 ) -> Result<Answer, Failure>
 where
@@ -84,7 +83,7 @@ where
 
 /// The text of the seven answers, of one pass over the numbers; or a line that is no number.
 fn answers(
-    engine: &Engine<'_, impl Threads + Clock + Wait + Sync, impl Gate + Sync>,
+    engine: &Engine<'_, impl Threads + Clock + Sync, impl Gate + Sync>,
     reader: Option<impl Read + Send + Drop>,
     hashes: RandomState,
 ) -> Result<Result<String, String>, LinesError> {
@@ -126,7 +125,7 @@ by last digit: {digits:?}
 
 /// The result of a collector on the numbers of a reader, or on those that are made; or a line that is no number.
 fn collected<C: Collector<Item = i64> + Sync + Drop>(
-    engine: &Engine<'_, impl Threads + Clock + Wait + Sync, impl Gate + Sync>,
+    engine: &Engine<'_, impl Threads + Clock + Sync, impl Gate + Sync>,
     reader: Option<impl Read + Send + Drop>,
     questions: C,
 ) -> Result<Result<C::Out, String>, LinesError>

@@ -13,7 +13,6 @@ use spliterator::NoMemory;
 use stages::{Nothing, Sink};
 use std::alloc::Global;
 use std::process::Abort;
-use std::sync::Wait;
 use std::thread::Threads;
 use std::time::Clock;
 use stealing_pool::NoGate;
@@ -69,7 +68,7 @@ fn are(texts: &[String], lines: &[&str]) -> bool {
             .all(|(text, line)| text.as_str() == *line)
 }
 
-fn rows<R: Threads + Clock + Wait + Abort + Alloc<A = Global> + Sync>(
+fn rows<R: Threads + Clock + Abort + Alloc<A = Global> + Sync>(
     engine: &Engine<'_, R, NoGate>,
 ) -> Result<(), LinesError> {
     let rt = engine.rt;
@@ -244,7 +243,7 @@ static TRIED: [(&[u8], &[&str], bool); 5] = [
 ];
 
 /// Hands lines over, in blocks of four bytes, up to the first that has failed.
-fn hand_tried<R: Threads + Clock + Wait + Alloc<A = Global> + Sync>(
+fn hand_tried<R: Threads + Clock + Alloc<A = Global> + Sync>(
     engine: &Engine<'_, R, NoGate>,
     bytes: &[u8],
     tried: &mut UpToError<'_, Vec<String>, String>,
@@ -257,7 +256,7 @@ fn hand_tried<R: Threads + Clock + Wait + Alloc<A = Global> + Sync>(
 }
 
 /// Whether a line has failed. Once one has, nothing more is read.
-fn hand_over<R: Threads + Clock + Wait + Alloc<A = Global> + Sync>(
+fn hand_over<R: Threads + Clock + Alloc<A = Global> + Sync>(
     engine: &Engine<'_, R, NoGate>,
     bytes: &[u8],
     texts: &mut Vec<String>,
@@ -299,7 +298,7 @@ fn short_blocks(
     lines.map_lines(OwnLine { alloc })
 }
 
-fn matched<R: Threads + Clock + Wait + Sync, L: LineStream<Item = String> + Drop>(
+fn matched<R: Threads + Clock + Sync, L: LineStream<Item = String> + Drop>(
     engine: &Engine<'_, R, NoGate>,
     some: L,
     each: L,
@@ -336,10 +335,11 @@ const SEVEN: &[u8] = b"a\nbb\na\nccc\n\nbb\nd\n";
 /// Longer than nothing.
 const SOME: Composed<Length, Above> = Composed(Length, Above(0));
 
-fn leave<
-    R: Threads + Clock + Wait + Abort + Alloc<A = Global> + Sync,
-    L: LineStream<Item = String>,
->(engine: &Engine<'_, R, NoGate>, lines: L, wanted: &[&str]) -> Result<(), LinesError>
+fn leave<R: Threads + Clock + Abort + Alloc<A = Global> + Sync, L: LineStream<Item = String>>(
+    engine: &Engine<'_, R, NoGate>,
+    lines: L,
+    wanted: &[&str],
+) -> Result<(), LinesError>
     requires { L.ready lines }
 {
     let texts = lines.collect_on(engine, &ToList::<String>::new(engine.alloc))?;
@@ -349,10 +349,12 @@ fn leave<
 
 // The front that is so long, what follows so many, and the front of the lines that differ, over any lines: each call that names a stream's type costs a
 // check as much as several such functions.
-fn leave_front<
-    R: Threads + Clock + Wait + Abort + Alloc<A = Global> + Sync,
-    L: LineStream<Item = String>,
->(engine: &Engine<'_, R, NoGate>, lines: L, most: u32, wanted: &[&str]) -> Result<(), LinesError>
+fn leave_front<R: Threads + Clock + Abort + Alloc<A = Global> + Sync, L: LineStream<Item = String>>(
+    engine: &Engine<'_, R, NoGate>,
+    lines: L,
+    most: u32,
+    wanted: &[&str],
+) -> Result<(), LinesError>
     requires lines { L.ready lines }
     requires lead { ClonesAlike L.Lead.is_clone L.Lead.content }
 {
@@ -360,7 +362,7 @@ fn leave_front<
 }
 
 fn leave_behind<
-    R: Threads + Clock + Wait + Abort + Alloc<A = Global> + Sync,
+    R: Threads + Clock + Abort + Alloc<A = Global> + Sync,
     L: LineStream<Item = String>,
 >(engine: &Engine<'_, R, NoGate>, lines: L, number: u32, wanted: &[&str]) -> Result<(), LinesError>
     requires lines { L.ready lines }
@@ -370,7 +372,7 @@ fn leave_behind<
 }
 
 fn leave_front_apart<
-    R: Threads + Clock + Wait + Abort + Alloc<A = Global> + Sync,
+    R: Threads + Clock + Abort + Alloc<A = Global> + Sync,
     L: LineStream<Item = String>,
 >(engine: &Engine<'_, R, NoGate>, lines: L, most: u32, wanted: &[&str]) -> Result<(), LinesError>
     requires lines { L.ready lines }
@@ -387,7 +389,7 @@ fn seven(alloc: Global, size: usize) -> ReadLines<ThreeBytes<'static>, OwnLine, 
     lines.map_lines(OwnLine { alloc })
 }
 
-fn one_skips<R: Threads + Clock + Wait + Abort + Alloc<A = Global> + Sync>(
+fn one_skips<R: Threads + Clock + Abort + Alloc<A = Global> + Sync>(
     engine: &Engine<'_, R, NoGate>,
     size: usize,
 ) -> Result<(), LinesError>
@@ -400,7 +402,7 @@ fn one_skips<R: Threads + Clock + Wait + Abort + Alloc<A = Global> + Sync>(
 /// The longest fronts that are wanted, and these.
 static FRONTS: [(u32, &[&str]); 2] = [(3, &["a", "bb", "a"]), (0, &[])];
 
-fn one_limits<R: Threads + Clock + Wait + Abort + Alloc<A = Global> + Sync>(
+fn one_limits<R: Threads + Clock + Abort + Alloc<A = Global> + Sync>(
     engine: &Engine<'_, R, NoGate>,
     size: usize,
 ) -> Result<(), LinesError>
@@ -412,7 +414,7 @@ fn one_limits<R: Threads + Clock + Wait + Abort + Alloc<A = Global> + Sync>(
     Ok(())
 }
 
-fn differing_stay<R: Threads + Clock + Wait + Abort + Alloc<A = Global> + Sync>(
+fn differing_stay<R: Threads + Clock + Abort + Alloc<A = Global> + Sync>(
     engine: &Engine<'_, R, NoGate>,
     size: usize,
 ) -> Result<(), LinesError>
@@ -425,7 +427,7 @@ fn differing_stay<R: Threads + Clock + Wait + Abort + Alloc<A = Global> + Sync>(
     )
 }
 
-fn one_takes_while<R: Threads + Clock + Wait + Abort + Alloc<A = Global> + Sync>(
+fn one_takes_while<R: Threads + Clock + Abort + Alloc<A = Global> + Sync>(
     engine: &Engine<'_, R, NoGate>,
     size: usize,
 ) -> Result<(), LinesError>
@@ -438,7 +440,7 @@ fn one_takes_while<R: Threads + Clock + Wait + Abort + Alloc<A = Global> + Sync>
     )
 }
 
-fn one_drops_while<R: Threads + Clock + Wait + Abort + Alloc<A = Global> + Sync>(
+fn one_drops_while<R: Threads + Clock + Abort + Alloc<A = Global> + Sync>(
     engine: &Engine<'_, R, NoGate>,
     size: usize,
 ) -> Result<(), LinesError>
@@ -451,7 +453,7 @@ fn one_drops_while<R: Threads + Clock + Wait + Abort + Alloc<A = Global> + Sync>
     )
 }
 
-fn two_leave_the_third<R: Threads + Clock + Wait + Abort + Alloc<A = Global> + Sync>(
+fn two_leave_the_third<R: Threads + Clock + Abort + Alloc<A = Global> + Sync>(
     engine: &Engine<'_, R, NoGate>,
     size: usize,
 ) -> Result<(), LinesError>
@@ -461,7 +463,7 @@ fn two_leave_the_third<R: Threads + Clock + Wait + Abort + Alloc<A = Global> + S
     leave_front(engine, behind_two, 1, &["a"])
 }
 
-fn three_leave_the_first_that_differ<R: Threads + Clock + Wait + Abort + Alloc<A = Global> + Sync>(
+fn three_leave_the_first_that_differ<R: Threads + Clock + Abort + Alloc<A = Global> + Sync>(
     engine: &Engine<'_, R, NoGate>,
     size: usize,
 ) -> Result<(), LinesError>
@@ -471,7 +473,7 @@ fn three_leave_the_first_that_differ<R: Threads + Clock + Wait + Abort + Alloc<A
     leave_front_apart(engine, behind_one, 3, &["bb", "a", "ccc"])
 }
 
-fn two_leave_the_last<R: Threads + Clock + Wait + Abort + Alloc<A = Global> + Sync>(
+fn two_leave_the_last<R: Threads + Clock + Abort + Alloc<A = Global> + Sync>(
     engine: &Engine<'_, R, NoGate>,
     size: usize,
 ) -> Result<(), LinesError>
@@ -506,7 +508,7 @@ fn spoilt(alloc: Global) -> ReadLines<ThreeBytes<'static>, OwnLine, Nothing<Stri
 }
 
 // How many lines the front has that is so long at most.
-fn count_front<R: Threads + Clock + Wait + Sync, L: LineStream>(
+fn count_front<R: Threads + Clock + Sync, L: LineStream>(
     engine: &Engine<'_, R, NoGate>,
     lines: L,
     most: u32,

@@ -6,7 +6,6 @@ use program_frame::Both;
 use std::fmt::{self, Display, Formatter, Write};
 use std::hash::RandomState;
 use std::io::Read;
-use std::sync::Wait;
 use std::thread::Threads;
 use std::time::Clock;
 
@@ -73,7 +72,7 @@ impl Display for Answers {
 
 /// What five collectors make of one pass over the lines of a reader.
 fn pass<L: LineStream, A, P, C, H, F>(
-    engine: &Engine<'_, impl Threads + Clock + Wait + Sync, impl Gate + Sync>,
+    engine: &Engine<'_, impl Threads + Clock + Sync, impl Gate + Sync>,
     log: L,
     lines: A,
     paths: P,
@@ -111,7 +110,7 @@ where
 
 /// What one pass over the log finds. Strangers choose what is hashed, so the hasher is a random one.
 fn find(
-    engine: &Engine<'_, impl Threads + Clock + Wait + Sync, impl Gate + Sync>,
+    engine: &Engine<'_, impl Threads + Clock + Sync, impl Gate + Sync>,
     reader: impl Read + Send + Drop,
     hashes: RandomState,
 ) -> Result<(Lines, Asked), LinesError> {
@@ -137,7 +136,7 @@ fn find(
 
 /// The answers to the log that a reader gives.
 pub fn answer(
-    engine: &Engine<'_, impl Threads + Clock + Wait + Sync, impl Gate + Sync>,
+    engine: &Engine<'_, impl Threads + Clock + Sync, impl Gate + Sync>,
     reader: impl Read + Send + Drop,
     hashes: RandomState,
 ) -> Result<Answers, LinesError> {

@@ -9,7 +9,6 @@ use program_frame::{Answer, Failure, Host, Task, Watch, Words, ended, given_word
 use std::io::IsTerminal;
 use std::process::ExitCode;
 use std::rt::Files;
-use std::sync::Wait;
 use std::thread::Threads;
 use std::time::Clock;
 
@@ -25,7 +24,7 @@ fn main(rt: HostRuntime) -> ExitCode {
 }
 
 /// The answers to the log that the command line names.
-fn command<R: Host + Files + Input + Threads + Clock + Wait + Sync>(
+fn command<R: Host + Files + Input + Threads + Clock + Sync>(
     rt: &R,
     is_terminal: bool,
 ) -> Result<Answer, Failure>
@@ -41,7 +40,7 @@ where
 }
 
 /// The answers, and the lines that are bad as what is wrong with the data.
-fn text<R: Host + Files + Input + Threads + Clock + Wait + Sync>(
+fn text<R: Host + Files + Input + Threads + Clock + Sync>(
     task: &Task<'_, '_, R>,
 ) -> Result<Answer, Failure>
 where

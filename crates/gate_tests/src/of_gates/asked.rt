@@ -10,7 +10,6 @@ use sources::RangeSplit;
 use spliterator::NoMemory;
 use stages::WrapAdd;
 use std::process::Abort;
-use std::sync::Wait;
 use std::test::Fail;
 use std::thread::Threads;
 use std::time::{Clock, Duration, Instant};
@@ -128,7 +127,7 @@ static ASKED_OF_LINES: [(bool, bool, &str); 4] = [
     (true, true, "rllfprllcf"),
 ];
 
-fn number_of<R: Threads + Clock + Wait + Sync, H: Gate + Sync, L: LineStream<Item = String>>(
+fn number_of<R: Threads + Clock + Sync, H: Gate + Sync, L: LineStream<Item = String>>(
     engine: &Engine<'_, R, H>,
     lines: L,
     is_handed: bool,
