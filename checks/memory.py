@@ -19,7 +19,7 @@ TESTS = ROOT / "crates/run_tests/out/run_tests_tests"
 # how many items, by how many workers; what keeps no list takes no more of many items
 SHAPES, MANY = [(400_000, 1), (400_000, 4)], (10_000_000, 3)
 # bytes and requests of any run, and bytes of a worker; the program's have room for the largest file
-OF_PROGRAM, OF_TEST = (1_063_400, 10_000, 42), (1_000, 1_500, 8)
+OF_PROGRAM, OF_TEST = (1_063_400, 10_000, 42), (1_000, 2_000, 8)
 # what a thread keeps for the one that comes next, and how many threads more sort at least where there are several processors
 OF_THREAD, SORTING = 600, int(os.cpu_count() > 1)
 
@@ -58,9 +58,9 @@ def room(number, doublings=1):
     return 1 << -(-(number - 1).bit_length() // doublings) * doublings
 
 
-def entries(number, doublings=1):
+def entries(number):
     """A map or a set of all items, with so many bytes for each entry that has room."""
-    return lambda at: number * room(at.items, doublings)
+    return lambda at: number * room(at.items)
 
 
 def texts(image):
@@ -126,7 +126,8 @@ PIPELINES = [
     Row("filter divisible 2\nlimit HALF\nmax", lambda n: f"Optional[{n - 2}]", 28, 0, lambda at: of_segment(at) * 5 // 8, 2, 1, segmented=True),
     Row("filter divisible 2\nskip 9\nmin", lambda n: "Optional[18]", 28, 0, of_first, segmented=True),
     Row("takewhile less HALF\nmap mod 10\nsum", lambda n: 9 * n // 4, 28, 2_500, before_half, 1.2, segmented=True),
-    Row("dropwhile less HALF\nmap mod 10\nsum", lambda n: 9 * n // 4, 28, 0, of_segment, 1.2, segmented=True),
+    # (what came is dropped leaf by leaf, so that its lists go before the one that is left is whole)
+    Row("dropwhile less HALF\nmap mod 10\nsum", lambda n: 9 * n // 4, 28, 0, lambda at: of_segment(at) * 9 // 10, 1.2, segmented=True),
     # (what came is dropped leaf by leaf; a segment that passes, or of which little is left, has one run with several workers)
     Row("map mod 1000\ndistinct\nsum", lambda n: 499_500, 28, 0, of_leaves, 1.2, segmented=True),
     Row("groupby mod 10 counting", lambda n: counted([n // 10] * 10), 18, 700),
@@ -168,8 +169,8 @@ TERMINALS = [
     *[Row(name, None, 16, 0, lambda at: of_first(at) * 9 // 10, segmented=True) for name in ("skip", "drop_while")],
     # (a while's lists grow as items come)
     Row("take_while", None, 28, 0, lambda at: of_segment(at) * 9 // 8, 2, 1, segmented=True),
-    # (the set grows by four)
-    Row("distinct", None, 28, 0, lambda at: entries(24, 2)(at) + of_segment(at), 2, 1, segmented=True),
+    # (the set grows by four, up to twice a power of four)
+    Row("distinct", None, 28, 0, lambda at: 12 * room(2 * at.items, 2) + of_segment(at), 2, 1, segmented=True),
 ]
 
 

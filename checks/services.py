@@ -25,8 +25,10 @@ from built import ROOT, conclude
 
 ORDERS, NUMBERS = 1_000_000, 3_000_000
 BOUND = 2**31
-# what `numbers` may use of addresses, less than its file has bytes: with one worker
+# what `orders` and `numbers` may use of addresses, less than their files have bytes: with one worker
 LIMIT = 48 << 20
+# so often the orders stand in a file of more bytes
+AGAIN = 4
 TABLE = 'all "orders"'
 QUOTED = '"' + TABLE.replace('"', '""') + '"'
 
@@ -70,8 +72,13 @@ def answers(numbers):
     )
 
 
+def folded(orders):
+    """Orders of customers whose names have line feeds."""
+    return [(f"{customer}\n\r\n{customer}", cents) for customer, cents in orders[:100_000]]
+
+
 def write_orders(folder, orders):
-    """The orders as a text and as a table, and each with a bad row in its middle."""
+    """The orders as a text and as a table, and each with a bad row in its middle; and some of customers whose names have line feeds."""
     for name in ["orders.csv", "bad.csv"]:
         with (folder / name).open("w", newline="") as file:
             rows = csv.writer(file, lineterminator="\n")
@@ -80,6 +87,11 @@ def write_orders(folder, orders):
             if name == "bad.csv":
                 rows.writerow(["Ann", "12.50"])
             rows.writerows(orders[ORDERS // 2 :])
+    text = (folder / "orders.csv").read_text()
+    header, rows = text.split("\n", 1)
+    (folder / "many.csv").write_text(f"{header}\n{rows * AGAIN}")
+    with (folder / "folded.csv").open("w", newline="") as file:
+        csv.writer(file).writerows([("customer", "cents"), *folded(orders)])
     with contextlib.closing(sqlite3.connect(folder / "orders.db")) as database, database:
         database.execute(f"CREATE TABLE {QUOTED} (place INTEGER PRIMARY KEY, cents INTEGER, customer TEXT)")
         database.executemany(f"INSERT INTO {QUOTED} (customer, cents) VALUES (?, ?)", orders)
@@ -98,6 +110,12 @@ def of_orders(folder, orders):
         yield "orders of a pipe", run("orders", stdin=pipe.stdout), wanted
     with subprocess.Popen(["cat", database], stdout=subprocess.PIPE) as pipe:
         yield "orders of a table of a pipe", run("orders", "--table", TABLE, stdin=pipe.stdout), wanted
+    many = folder / "many.csv"
+    wanted_of_many = (0, spent_most(orders * AGAIN), "")
+    held = run("orders", many, "--workers", "1", limit=LIMIT)
+    yield "orders of fewer bytes than the file", (LIMIT < many.stat().st_size, held), (True, wanted_of_many)
+    yield "orders of many batches, 4 workers", run("orders", many), wanted_of_many
+    yield "orders with line feeds in quotes", run("orders", folder / "folded.csv"), (0, spent_most(folded(orders)), "")
     watched = run("orders", text, "--progress")
     yield "orders with progress", (watched[:2], "\n100%, " in watched[2]), (wanted[:2], True)
     with contextlib.closing(sqlite3.connect(folder / "logged.db")) as logged:

@@ -114,13 +114,14 @@ def last_line(lines, first, indent):
     return first
 
 
-def camel(type_text):
-    """A type as the names of its impls spell it: `&str` is RefStr, `Vec<T>` is Vec."""
+def camel(type_text, parameters=()):
+    """A type as the names of its impls spell it: `&str` is RefStr, `Vec<T>` is Vec, and of a parameter T `&T` is Ref and `&[T]` RefSlice."""
     if type_text.strip().startswith("("):
         return f"Tuple{type_text.count(',') + 1}"
     plain = re.sub(r"'\w+ |\bmut |<.*", "", type_text.strip())
-    words = re.findall(r"&|\w+", plain.rpartition("::")[2] if "&" not in plain else plain)
-    return "".join("Ref" if word == "&" else word[0].upper() + word[1:] for word in words)
+    words = re.findall(r"&|\[|\w+", plain.rpartition("::")[2] if "&" not in plain else plain)
+    spelled = {"&": "Ref", "[": "Slice"}
+    return "".join(spelled.get(word) or word[0].upper() + word[1:] for word in words if word not in parameters or len(words) == 1)
 
 
 def split_impl(owner):
@@ -145,13 +146,14 @@ def owner_name(owner, with_arguments=False):
         return owner.partition("trait ")[2].split("<")[0].split(":")[0].split(" ")[0]
     parameters, trait, arguments, of = split_impl(owner)
     of = re.sub(r"^&'\w+ ", "&", of)
-    begins = "Ref" if of.startswith("&") and of[1:] in parameters else camel(of)
-    # (an impl of `Run<'static, NoGate>` by itself is Run+NoGate, one that gives `Keeper<C, C::Acc>` a trait KeeperAcc and the trait)
+    begins = camel(of, parameters)
+    # (an impl of `Until<'static, E, NoGate>` by itself is Until+E+NoGate, one that gives `Keeper<C, C::Acc>` a trait KeeperAcc and the trait)
     if trait:
         at = [it for base, it in re.findall(r"(\w+)::(\w+)(?=[,>])", of) if base in parameters]
     else:
-        at = [f"+{it}" for it in re.findall(r"[<,] ?(\w+)(?=[,>])", of) if it not in parameters]
-    own = [camel(it) for it in arguments if with_arguments and it and it not in parameters]
+        types = re.findall(r"[<,] ?(\w+)(?=[,>])", of)
+        at = [f"+{it}" for it in types] if set(types) - set(parameters) else []
+    own = [camel(it, parameters) for it in arguments if with_arguments and it and it not in parameters]
     return "".join([begins, *at, camel(trait) if trait and trait != "Drop" else "", *own])
 
 

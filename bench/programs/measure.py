@@ -26,8 +26,10 @@ def commands(folder, name):
     for workers in ("1", "4"):
         yield "ours", workers, [ROOT / "crates" / name / "out" / name, "--workers", workers], {}
         yield "rayon", workers, [folder / "by_rayon/target/release" / name], {"RAYON_NUM_THREADS": workers}
-        yield "Java", workers, ["java", "-cp", folder, name.capitalize(), "--workers", workers], {}
+        # (the twin of orders reads no quotes, since Java has no reader of CSV)
         if name == "weblog":
+            yield "Java", workers, ["java", "-cp", folder, "Weblog", "--workers", workers], {}
+            yield "rayon over lines", workers, [folder / "by_rayon/target/release/weblog_lines"], {"RAYON_NUM_THREADS": workers}
             yield "blocks by hand", workers, [folder / "by_rayon/target/release/weblog_blocks"], {"RAYON_NUM_THREADS": workers}
 
 

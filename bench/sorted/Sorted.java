@@ -31,7 +31,8 @@ class Sorted {
         long[] numbers = scattered(count);
         long start = System.nanoTime();
         LongStream stream = LongStream.of(numbers);
-        long[] list = (workers == 1 ? stream : stream.parallel()).sorted().toArray();
+        stream = (workers == 1 ? stream : stream.parallel()).sorted();
+        long[] list = (work.equals("first") ? stream.limit(100) : stream).toArray();
         tell(work, workers, count, System.nanoTime() - start, mixed(LongStream.of(list)));
     }
 
@@ -41,7 +42,7 @@ class Sorted {
         Stream<Long> stream = workers == 1 ? Arrays.stream(numbers) : Arrays.stream(numbers).parallel();
         boolean isByKey = work.equals("by_key");
         Stream<Long> sorted = isByKey ? stream.sorted(Comparator.comparingLong(x -> Math.floorMod(x, 1000L))) : stream.sorted();
-        Object[] list = sorted.toArray();
+        Object[] list = (work.equals("first") ? sorted.limit(100) : sorted).toArray();
         long time = System.nanoTime() - start;
         LongStream told = Arrays.stream(list).mapToLong(x -> (Long) x);
         // the keys alone: of equal ones Java 17's parallel sort was seen to change the order

@@ -1,5 +1,6 @@
 //! The same by std's stable sort, of which threads by hand each sort a part: two halves at a time are sorted and merged, and a merge is cut in two at
 //! the middle of its longer side, until each thread has one piece of the work.
+use std::collections::BinaryHeap;
 use std::io::{self, BufRead};
 use std::thread;
 use std::time::Instant;
@@ -78,6 +79,28 @@ fn sorted<K: Fn(&i64) -> i64 + Sync>(key: K, threads: usize, numbers: &[i64]) ->
     list
 }
 
+/// The hundred least, of which each thread keeps its own in a heap.
+fn first(threads: usize, numbers: &[i64]) -> Vec<i64> {
+    let least = |part: &[i64]| {
+        let mut heap = BinaryHeap::new();
+        for &number in part {
+            if heap.len() < 100 {
+                heap.push(number);
+            } else if heap.peek().is_some_and(|&greatest| number < greatest) {
+                *heap.peek_mut().unwrap() = number;
+            }
+        }
+        heap.into_vec()
+    };
+    let mut all: Vec<i64> = thread::scope(|scope| {
+        let parts: Vec<_> = numbers.chunks(numbers.len().div_ceil(threads)).map(|part| scope.spawn(move || least(part))).collect();
+        parts.into_iter().flat_map(|part| part.join().unwrap()).collect()
+    });
+    all.sort();
+    all.truncate(100);
+    all
+}
+
 fn main() {
     for line in io::stdin().lock().lines() {
         let line = line.unwrap();
@@ -86,7 +109,11 @@ fn main() {
         let numbers = scattered(count);
         let start = Instant::now();
         let is_by_key = words[0] == "by_key";
-        let list = if is_by_key { sorted(|x| x.rem_euclid(1000), workers, &numbers) } else { sorted(|x| *x, workers, &numbers) };
+        let list = match words[0] {
+            "by_key" => sorted(|x| x.rem_euclid(1000), workers, &numbers),
+            "first" => first(workers, &numbers),
+            _ => sorted(|x| *x, workers, &numbers),
+        };
         let time = start.elapsed().as_nanos();
         let mixed = mixed(list.into_iter().map(|x| if is_by_key { x.rem_euclid(1000) } else { x }));
         println!("{}-{workers}x{count} {time} {mixed}", words[0]);

@@ -37,10 +37,20 @@ while [ "$part" -lt "$parts" ]; do
 done >"$folder/parts"
 parallel -k -j 25% --halt now,fail=1 "$@" pstream <"$folder/parts" >"$folder/answers"
 
-if [ -s "$folder/rest" ]; then
+# the second pipeline, which makes one answer of the parts'
+{
     echo "$version"
-    echo numbers $(tr -cs '0-9-' ' ' <"$folder/answers")
-    cat "$folder/rest"
-else
-    "$(dirname "$0")/combine.sh" whole "$(sed -n '$p' "$folder/each")" <"$folder/answers"
-fi | pstream /dev/stdin
+    terminal=$(sed -n '$p' "$folder/each")
+    case $terminal in
+    allmatch\ * | nonematch\ * | anymatch\ *)
+        echo lines $(wc -l <"$folder/answers")
+        cat "$folder/answers"
+        echo "$(echo "${terminal%% *}" | sed 's/nonematch/allmatch/') starts true"
+        ;;
+    *)
+        # what `Optional[ ]` and `[ ]` hold; `Optional.empty` has no number
+        echo numbers $(tr -cs '0-9-' ' ' <"$folder/answers")
+        if [ -s "$folder/rest" ]; then cat "$folder/rest"; else echo "$terminal" | sed 's/^count$/sum/'; fi
+        ;;
+    esac
+} | pstream /dev/stdin

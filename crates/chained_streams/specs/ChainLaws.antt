@@ -4,7 +4,8 @@ use Rattle.std.proofs.Common.{sym, ap, ◌∙◌, subst, arith, true≢false, ap
 use Rattle.std.specs.declared.cmp.Ordering.{Ordering}
 use Rattle.std.proofs.lemmas.List.{length-map}
 use Rattle.spliterator.specs.Scalars.{nat_eq-decides}
-use Rattle.stages.specs.Flags.{IsSound, flags_of}
+use Rattle.stages.specs.Flags.{IsSound, KeepsSound, after}
+use Rattle.stages.specs.declared.{flags.Operation.Operation, flags.StreamFlags.StreamFlags}
 use Rattle.stealing_pool.specs.Jobs.{Work}
 use Rattle.stealing_pool.specs.Spans.{joined}
 use Rattle.parallel_streams.specs.Cuts.{cut_at, cut_at-map, length-cut_at}
@@ -13,16 +14,18 @@ use Rattle.parallel_streams.specs.Progress.{HoldsListed, barred_work, next_leave
 use Rattle.parallel_streams.specs.LeafLaws.{get-mapped, left-through, map-both}
 use Rattle.parallel_streams.specs.ProgressLaws.{joined-listed}
 use Rattle.parallel_streams.specs.declared.kept.Listed.{Listed}
-use Rattle.chained_streams.specs.Chains.{AreFresh, HoldsChain, IsFirstRun, IsPlannedChain, behind_links, first_lists, is_own_turn, left_by, left_of_chain, lists_of, no_images, through_links}
+use Rattle.chained_streams.specs.Chains.{AreFresh, HoldsChain, IsFirstRun, IsPlannedChain, behind_links, first_lists, is_own_turn, left_by, left_of_chain, link_value, lists_of, no_images, through_links, told_through}
+use Rattle.chained_streams.specs.declared.chain.Link.{Link}
 
--- nothing is told of a chain's items
-pub IsSound-unknown : {C : Type 0} (order : C → C → Ordering) (items : List C) → IsSound order (flags_of 0) None items
-IsSound-unknown order items = record {
-  distinct = λ h. absurd (true≢false (sym h));
-  sorted = λ h. absurd (true≢false (sym h));
-  sized = refl;
-  at_most = tt;
-}
+-- What is told of a stream's items tells what is behind links, a link's stage and its barrier one after the other.
+module _ {A B C : Type 0} (order : C → C → Ordering) (expand : A → C → List C) (value : B → List C → List C) (row : A → Operation) (size : A → Option ℕ → Option ℕ) (barrier_row : B → Operation) (barrier_size : B → Option ℕ → Option ℕ)
+    (stage_law : (a : A) → KeepsSound order order (row a) (size a) (flat_map (expand a))) (barrier_law : (b : B) → KeepsSound order order (barrier_row b) (barrier_size b) (value b)) where
+  pub KeepsSound-links : (links : List (Link A B)) (flags : StreamFlags) (known : Option ℕ) (items : List C) → IsSound order flags known items
+      → IsSound order (told_through (λ link flags. after (after flags (row link.stage)) (barrier_row link.barrier)) links flags)
+      (told_through (λ link known. barrier_size link.barrier (size link.stage known)) links known) (through_links (link_value expand value) links items)
+  KeepsSound-links [] flags known items sound = sound
+  KeepsSound-links (link ∷ links) flags known items sound =
+      KeepsSound-links links _ _ _ (barrier_law link.barrier _ _ _ (stage_law link.stage flags known items sound))
 
 pub both-true : (a b : Bool) → (a && b) ≡ true → (a ≡ true) × (b ≡ true)
 both-true true b is = (refl, is)

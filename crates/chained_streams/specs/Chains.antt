@@ -22,6 +22,11 @@ abbrev pub through_links : {L C : Type 0} → (L → List C → List C) → List
 through_links value [] items = items
 through_links value (link ∷ links) items = through_links value links (value link items)
 
+-- what is told of items, behind links that change it one after another
+abbrev pub told_through : {L T : Type 0} → (L → T → T) → List L → T → T
+told_through after [] told = told
+told_through after (link ∷ links) told = told_through after links (after link told)
+
 -- what links in their states make of what is still to come
 abbrev pub behind_links : {L S C : Type 0} → (L → S → List C → List C) → List L → List S → List C → List C
 behind_links step [] states items = items

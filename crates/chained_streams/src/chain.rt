@@ -6,27 +6,26 @@ ghost use Rattle.leaf_reading.specs.Fronts.{folding};
 ghost use Rattle.leaf_reading.specs.declared.leaf_end.LeafEnd.TheVariants.{Done};
 ghost use Rattle.parallel_streams.specs.declared.kept.Kept.TheVariants.{Own};
 ghost use Rattle.spliterator.specs.Clones.{ClonesAlike};
-ghost use Rattle.stages.specs.declared.flags.StreamFlags.{StreamFlags};
-ghost use Rattle.stages.specs.Flags.{flags_of};
+ghost use Rattle.stages.specs.Flags.{after};
 ghost use Rattle.stealing_pool.specs.Jobs.{EndsLeaf};
 ghost use Rattle.stealing_pool.specs.Spans.{work_of};
 ghost use Rattle.parallel_streams.specs.Progress.{barred_work, next_leaves};
-ghost use Rattle.chained_streams.specs.Chains.{AreFresh, HoldsChain, IsFirstRun, IsPlannedChain, behind_links, is_own_turn, left_of_chain, link_behind, link_value, link_work, links_waiting, lists_of, through_links};
+ghost use Rattle.chained_streams.specs.Chains.{AreFresh, HoldsChain, IsFirstRun, IsPlannedChain, behind_links, is_own_turn, left_of_chain, link_behind, link_value, link_work, links_waiting, lists_of, through_links, told_through};
 ghost use Rattle.chained_streams.specs.ChainReading.{EnoughLink, FirstLets, LetsPass, ReadsChain, SomeEnough, StandLinks, StandsLink};
 ghost use Rattle.chained_streams.specs.ChainReadingLaws.{links-read};
-ghost use Rattle.chained_streams.specs.ChainLaws.{IsSound-unknown, chain-leaves, chain-parts, chain-whole, count-lists};
+ghost use Rattle.chained_streams.specs.ChainLaws.{KeepsSound-links, chain-leaves, chain-parts, chain-whole, count-lists};
 
 use barriers::{Barrier, Behind, Demand, Need};
 use collectors::{Collector, ToList};
 use leaf_board::Handout;
-use leaf_reading::{LeafEnd, Portion, Reading, feed_whole, read_leaf};
-use parallel_streams::{Kept, Listed, Places, Plumbing, end_before, end_own};
+use leaf_reading::{LeafEnd, Pause, Portion, Reading, feed_whole, read_leaf};
+use parallel_streams::{Engine, Kept, Listed, Plumbing, end_before, end_own, list_kept};
 use sources::SliceSplit;
 use split_tree::Tree;
 use spliterator::{NoMemory, OrderedValue, Value};
 use stages::{Sink, Stage, StreamFlags, Then};
 use std::alloc::Global;
-use stealing_pool::RunEntry;
+use stealing_pool::{Gate, RunEntry};
 
 /// Stages that look at one item at a time, and the barrier behind them.
 #[derive(Drop)]
@@ -135,6 +134,38 @@ fn first_run<T: OrderedValue, A: Stage<In = T, Out = T>, B: Barrier<T>>(
     }
 }
 
+// The number of items behind links, where it follows from the number before.
+fn size_through<T: OrderedValue, A: Stage<In = T, Out = T>, B: Barrier<T>>(
+    links: &[Link<A, B>],
+    size: Option<u64>,
+) -> Option<u64>
+    ensures { result ≡ told_through (λ link size. B.size_after link.barrier (A.size_after link.stage size)) links.now size }
+{
+    match links.split_first() {
+        None => size,
+        Some((link, later)) => {
+            let size = link.barrier.size_after(link.stage.size_after(size));
+            size_through(later, size)
+        }
+    }
+}
+
+// The flags of items behind links.
+fn flags_through<T: OrderedValue, A: Stage<In = T, Out = T>, B: Barrier<T>>(
+    links: &[Link<A, B>],
+    flags: StreamFlags,
+) -> StreamFlags
+    ensures { result ≡ told_through (λ link flags. after (after flags (A.operation link.stage)) (B.operation link.barrier)) links.now flags }
+{
+    match links.split_first() {
+        None => flags,
+        Some((link, later)) => {
+            let flags = flags.after(link.stage.operation());
+            flags_through(later, flags.after(link.barrier.operation()))
+        }
+    }
+}
+
 // Whether the barriers of the stream before have run.
 fn own_turn<T>(is_through: bool, listed: &Option<Listed<T>>) -> bool
     ensures { result ≡ is_own_turn is_through listed.now }
@@ -158,9 +189,9 @@ where
 
     ghost value = { λ s. through_links (link_value A.expand B.value) s.links.items (U.value s.upstream) };
 
-    ghost size = { λ _. None };
+    ghost size = { λ s. told_through (λ link size. B.size_after link.barrier (A.size_after link.stage size)) s.links.items (U.size s.upstream) };
 
-    ghost told = { λ _. flags_of 0 };
+    ghost told = { λ s. told_through (λ link flags. after (after flags (A.operation link.stage)) (B.operation link.barrier)) s.links.items (U.told s.upstream) };
 
     ghost holds = { λ s p. let holds = HoldsChain (link_behind A.expand B.value_behind) (λ link. A.expand link.stage) in
         U.holds s.upstream p.before × holds s.links.items p.states.items p.run p.listed };
@@ -217,7 +248,9 @@ where
 
     ghost told_so_far = { λ _ _ _ _ _. ⊤ };
 
-    ghost flag_law = { λ s. IsSound-unknown U.Item.order (through_links (link_value A.expand B.value) s.links.items (U.value s.upstream)) };
+    ghost flag_law = { λ s.
+        let links = KeepsSound-links U.Item.order A.expand B.value A.operation A.size_after B.operation B.size_after A.flag_law B.flag_law s.links.items in
+        links (U.told s.upstream) (U.size s.upstream) (U.value s.upstream) (U.flag_law s.upstream) };
 
     ghost work_law = { λ s p unrun.
         let own = link_work (λ link state. B.needed_behind link.barrier state) (λ link. B.Demand.counted link.barrier) (λ link state. B.value_behind link.barrier state) (λ link. A.expand link.stage) in
@@ -253,11 +286,11 @@ where
         count (U.parts s.upstream p.before) (U.leaves_next s.upstream p.before) p.listed done (U.parts_count s.upstream p.before) };
 
     fn known_size(&self) -> Option<u64> {
-        None
+        size_through(&self.links, self.upstream.known_size())
     }
 
     fn flags(&self) -> StreamFlags {
-        StreamFlags::of(0)
+        flags_through(&self.links, self.upstream.flags())
     }
 
     fn has_barrier(&self) -> bool {
@@ -432,37 +465,32 @@ where
         }
     }
 
-    fn make_list(
+    fn make_list<R, H: Gate>(
         &self,
-        alloc: Global,
+        engine: &Engine<'_, R, H>,
         progress: ChainProgress<U::Progress, B::State, U::Item>,
         part: Kept<U::Kept, U::Item>,
         entry: &RunEntry,
-        workers: u32,
-        target: u64,
     ) -> Result<ChainProgress<U::Progress, B::State, U::Item>, NoMemory> {
         let mut progress = progress;
         match part {
             Kept::Before(part) => {
                 let before = progress.before;
-                progress.before = self
-                    .upstream
-                    .make_list(alloc, before, part, entry, workers, target)?;
+                progress.before = self.upstream.make_list(engine, before, part, entry)?;
                 Ok(progress)
             }
             Kept::Own(pieces) => {
                 let run = progress.run;
-                let list = pieces.into_list()?;
-                progress.longest_list = progress.longest_list.max(list.len() as u64);
                 if run >= self.links.len() {
                     return Ok(progress);
                 }
                 progress.listed = None;
                 let barrier = &self.links[run].barrier;
                 let state = &mut progress.states[run];
-                let items = barrier.carry(state, list, entry.cut().is_some())?;
-                let places = Places::cut(alloc, items.as_slice(), workers, target)?;
-                progress.listed = Some(Listed { items, places });
+                let is_cut = entry.cut().is_some();
+                let (listed, number) = list_kept(engine, barrier, state, pieces, is_cut)?;
+                progress.longest_list = progress.longest_list.max(number);
+                progress.listed = Some(listed);
                 progress.run = run + 1;
                 Ok(progress)
             }
@@ -482,9 +510,10 @@ where
         }
     }
 
-    fn feed_last_leaf<G: Stage<In = U::Item>, K: Sink<G::Out>>(
+    fn feed_last_leaf<P: Pause, G: Stage<In = U::Item>, K: Sink<G::Out>>(
         &self,
         alloc: Global,
+        pause: &P,
         progress: &ChainProgress<U::Progress, B::State, U::Item>,
         stage: &G,
         leaf: usize,
@@ -493,16 +522,16 @@ where
         match &progress.listed {
             Some(listed) => {
                 let items = listed.places.part(&listed.items, leaf);
-                feed_whole(alloc, stage, SliceSplit::new(items), sink)
+                feed_whole(alloc, pause, stage, SliceSplit::new(items), sink)
             }
             None if progress.run == 0 => {
                 self.upstream
-                    .feed_last_leaf(alloc, &progress.before, stage, leaf, sink)
+                    .feed_last_leaf(alloc, pause, &progress.before, stage, leaf, sink)
             }
             None => {
                 let fused = Then::new(&self.links[0].stage, stage);
                 self.upstream
-                    .feed_last_leaf(alloc, &progress.before, &fused, leaf, sink)
+                    .feed_last_leaf(alloc, pause, &progress.before, &fused, leaf, sink)
             }
         }
     }

@@ -100,6 +100,15 @@ impl<T: Drop> Pieces<T> {
         self.before.append(&mut before)
     }
 
+    /// The list in pieces, in their order.
+    pub fn into_pieces(self) -> Result<Vec<Vec<T>>, AllocError>
+        ensures { IfOk result (λ pieces. flat_map (λ piece. piece.items) pieces.items ≡ self) }
+    {
+        let Pieces { mut before, last } = self;
+        before.push(last)?;
+        Ok(before)
+    }
+
     /// The list as a whole. One piece is handed on as it stands; else the first one gets room for all, and the others are moved behind it.
     pub fn into_list(self) -> Result<Vec<T>, AllocError>
         ensures { IfOk result (λ list. list.items ≡ self) }

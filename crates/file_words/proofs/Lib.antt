@@ -1,5 +1,2 @@
-mod DigitLemmas
-mod LineLemmas
-mod NearLemmas
+pub mod LineLemmas
 pub mod NumberLemmas
-mod WordLemmas

@@ -1,21 +1,19 @@
 -- Cutting a file into lines.
-use Rattle.std.proofs.Common.{◌≡◌, ◌==◌, ℕ, ◌+◌, ◌<◌, ◌≤◌, Bool, true, false, List, [], ◌∷◌, ◌++◌, length, take, drop, slice_index, get_or, All, le_refl, suc-le-suc, refl, subst, sym, ap, ◌∙◌, arith, add-one}
+use Rattle.std.proofs.Common.{◌≡◌, ◌==◌, ℕ, ◌+◌, ◌<◌, ◌≤◌, Bool, true, false, List, [], ◌∷◌, ◌++◌, length, take, drop, slice_index, get_or, All, le_refl, suc-le-suc, refl, subst, sym, ap, ◌∙◌, arith, add-one, ◌-◌, Some, None, Option, Err, ◌^◌, cond, eqb, map, w64, IsUtf8, IsSome, Result, Ok, not}
 use Rattle.std.specs.List.{slice_split, join_with_byte}
-use Rattle.std.proofs.lemmas.Bool.{false_from_ne_true, eqb-true}
-use Rattle.std.proofs.lemmas.List.{take-append-drop, drop-drop, take_all, length-take, get_or-take, get_or-drop, length-drop}
+use Rattle.std.proofs.lemmas.Bool.{false_from_ne_true, eqb-true, false≢true}
+use Rattle.std.proofs.lemmas.List.{take-append-drop, drop-drop, take_all, length-take, get_or-take, get_or-drop, length-drop, get_or-map, length-map}
 use Rattle.std.proofs.lemmas.List.Elements.{All-cons, All-from_get_or, All-head, All-tail}
-use Rattle.std.proofs.Math.Seq.{drop-cons}
-use Rattle.std.proofs.lemmas.List.Sums.{count_by-le-length}
+use Rattle.std.{proofs.Math.Seq.drop-cons, proofs.lemmas.List.Sums.count_by-le-length, specs.Result.result_ok, specs.Borrow.Bor, specs.Str.IsCharBoundary, specs.Option.is_some, proofs.lemmas.Nat.Bits.bit_at-trailing_zeros, proofs.Math.ListN.get_or-eq_default, proofs.Math.Nat.pow-le-pow_right}
 use Rattle.std.proofs.lemmas.List.Splits.{slice_split_none, slice_split_at, length-slice_split, join_with_byte-slice_split}
-use Rattle.std.specs.Prelude.{IsUtf8, IsSome, Result, Ok, Err}
-use Rattle.std.specs.Result.{result_ok}
-use Rattle.std.specs.Borrow.{Bor}
-use Rattle.std.specs.Str.{IsCharBoundary}
 use Rattle.std.proofs.lemmas.Str.{IsUtf8-append, IsUtf8-drop, IsUtf8-encode, IsUtf8-nil, IsUtf8-take, IsCharBoundary-before_ascii, IsCharBoundary-after_ascii, is_utf8-from_IsUtf8}
-use Rattle.file_words.specs.declared.fault.FileError.{FileError}
-use Rattle.file_words.specs.Pieces.{IsTextOf}
-use Rattle.file_words.specs.Words.{lines_of, without_empty_last, words_of}
-use Rattle.memchr.specs.Find.{Nowhere, NoneBefore, Passes, is_byte}
+use Rattle.file_words.specs.{declared.fault.FileError.FileError, Pieces.IsTextOf, declared.fault.FileError.TheVariants.BadArity}
+use Rattle.file_words.specs.Words.{lines_of, without_empty_last, words_of, words_left}
+use Rattle.memchr.specs.Find.{Nowhere, NoneBefore, Passes, is_byte, IsFirstByte}
+use Rattle.file_words.specs.WordReading.{ended, is_done}
+use Rattle.std.specs.Int.{bit_at, trailing_zeros}
+use Rattle.std.specs.Simd.Lanes.{chunk, mask_l}
+use Rattle.std.proofs.lemmas.Simd.{bit_mask_l, mask_l-lt, get_or-chunk, length-chunk}
 
 abbrev is_end : ℕ → Bool
 is_end b = b == 10
@@ -134,3 +132,73 @@ file_is_text bytes texts = subst IsUtf8 (join_with_byte-slice_split 10 bytes) (j
 pub given_as_text : (bytes : List ℕ) (result : Result (Bor (List ℕ)) FileError) → All IsUtf8 (lines_of bytes) → IsTextOf bytes result → IsSome (result_ok result)
 given_as_text bytes (Ok text) texts told = refl
 given_as_text bytes (Err e) texts told = absurd (let e : true ≡ false = sym (is_utf8-from_IsUtf8 bytes (file_is_text bytes texts)) ∙ told.1 in cc)
+
+-- The words of a line, cut one by one.
+
+-- each line has a word
+pub some_word : (line : List ℕ) → (word : List ℕ) × (words : List (List ℕ)) × (words_of line ≡ word ∷ words)
+some_word line = by_words (words_of line) refl (omega (arith, length-slice_split (λ b. b == 32) line))
+  where
+    by_words : (ws : List (List ℕ)) → words_of line ≡ ws → 0 < length ws → (word : List ℕ) × (words : List (List ℕ)) × (words_of line ≡ word ∷ words)
+    by_words [] e some = absurd (omega arith)
+    by_words (w ∷ ws) e some = (w, ws, e)
+
+-- what tells that no word is left
+pub is_empty : (left : Option (Bor (List ℕ))) (t : Bool) → is_some left ≡ not t → t ≡ is_done (words_left left)
+is_empty None true is = refl
+is_empty None false is = cc
+is_empty (Some line) true is = cc
+is_empty (Some line) false is = sym (ap is_done (some_word line.now).2)
+
+pub left_over : (left : Option (Bor (List ℕ))) (good : Bool) → is_some left ≡ true → Err BadArity ≡ ended (words_left left) good
+left_over None good is = cc
+left_over (Some line) good is = sym (ap (λ ws. ended ws good) (some_word line.now).2)
+
+-- Where a byte stands first among those that are compared at once.
+
+set_tells : (b : Bool) → cond {A = ℕ} b 1 0 ≡ 1 → b ≡ true
+set_tells true is = refl
+set_tells false is = absurd (omega (arith, is))
+
+clear_tells : (b : Bool) → cond {A = ℕ} b 1 0 ≡ 0 → b ≡ false
+clear_tells true is = absurd (omega (arith, is))
+clear_tells false is = refl
+
+inside_of_set : (marks : List Bool) (k : ℕ) → get_or marks k false ≡ true → k < length marks
+inside_of_set marks k set = grind (arith, get_or-eq_default)
+
+module _ (n byte : ℕ) (bytes : List ℕ) (mask : ℕ) (few : n ≤ 32) (room : n ≤ length bytes) (is : mask ≡ mask_l (map (λ b. eqb b byte) (chunk 0 n bytes))) (some : 0 < mask) where
+  abbrev lanes : List Bool
+  lanes = map (λ b. eqb b byte) (chunk 0 n bytes)
+
+  long : length (chunk 0 n bytes) ≡ n
+  long = length-chunk 0 n bytes (omega (arith, room))
+
+  all : length lanes ≡ n
+  all = length-map (chunk 0 n bytes) (λ b. eqb b byte) ∙ long
+
+  fits : mask < 2 ^ 64
+  fits = let low : mask_l lanes < 2 ^ n = subst (λ k. mask_l lanes < 2 ^ k) all (mask_l-lt lanes) in let most : 2 ^ n ≤ 2 ^ 32 = pow-le-pow_right (omega arith) few in omega (arith, is, low, most)
+
+  bit : (k : ℕ) → bit_at mask k ≡ cond (get_or lanes k false) 1 0
+  bit k = ap (λ m. bit_at m k) is ∙ bit_mask_l lanes k
+
+  lane : (k : ℕ) → k < n → get_or lanes k false ≡ eqb (get_or bytes k 0) byte
+  lane k less =
+      let first : 0 + k ≡ k = omega arith in
+      get_or-map (λ b. eqb b byte) (chunk 0 n bytes) k 0 false (omega (arith, long, less))
+      ∙ ap (λ b. eqb b byte) (get_or-chunk 0 n bytes k 0 less ∙ ap (λ j. get_or bytes j 0) first)
+
+  pub near_found : IsFirstByte (is_byte byte) bytes (Some (trailing_zeros w64 mask))
+  near_found =
+      let lowest = bit_at-trailing_zeros w64 mask some fits in
+      let at : ℕ = trailing_zeros w64 mask in
+      let set : get_or lanes at false ≡ true = set_tells _ (sym (bit at) ∙ lowest.1) in
+      let less : at < n = omega (arith, inside_of_set lanes at set, all) in (
+        record {
+          low = omega arith;
+          high = omega (arith, less, room);
+          before = λ k low before is. false≢true (sym (sym (lane k (omega (arith, before, less))) ∙ clear_tells _ (sym (bit k) ∙ lowest.2 k before)) ∙ is);
+        },
+        sym (lane at less) ∙ set,
+      )

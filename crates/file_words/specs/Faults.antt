@@ -1,12 +1,9 @@
 -- The names of faults, what is told of a file, and the errors of a line as those of a file.
 use Rattle.std.specs.Prelude.{ℕ, List, ◌++◌, codes}
 use Rattle.std.specs.Fmt.{decimal}
-use Rattle.file_words.specs.declared.fault.FileError.{FileError}
+use Rattle.file_words.specs.declared.fault.{FileError.FileError, FileFault.FileFault, LineError.LineError, ReadError.ReadError}
 use Rattle.file_words.specs.declared.fault.FileError.TheVariants.{BadText, TooLarge, BadVersion, UnknownWord, BadArity, BadNumber, WrongKind, RangeTooLong, MissingTerminal, AfterTerminal, TooManyStages}
-use Rattle.file_words.specs.declared.fault.FileFault.{FileFault}
-use Rattle.file_words.specs.declared.fault.LineError.{LineError}
 use Rattle.file_words.specs.declared.fault.LineError.TheVariants.{Fault, NoMemory}
-use Rattle.file_words.specs.declared.fault.ReadError.{ReadError}
 use Rattle.file_words.specs.declared.fault.ReadError.TheVariants as read
 
 abbrev pub fault_name : FileError → List ℕ

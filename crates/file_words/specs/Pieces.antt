@@ -1,12 +1,8 @@
 -- A piece of a file, by its bytes and as text, and the lines that pieces are cut into.
 use Rattle.std.specs.Prelude.{◌≡◌, ℕ, List, [], ◌∷◌, true, false, Option, Result, MatchOption, MatchResult}
-use Rattle.std.specs.Borrow.{Bor}
-use Rattle.std.specs.Str.{is_utf8}
-use Rattle.file_words.specs.declared.fault.FileError.{FileError}
-use Rattle.file_words.specs.declared.fault.FileError.TheVariants.{BadText}
-use Rattle.file_words.specs.declared.lines.Piece.{Piece}
+use Rattle.std.specs.{Borrow.Bor, Str.is_utf8}
+use Rattle.file_words.specs.{declared.fault.FileError.FileError, declared.fault.FileError.TheVariants.BadText, declared.lines.Piece.Piece, Words.lines_of}
 use Rattle.file_words.specs.declared.lines.Piece.TheVariants as pieces
-use Rattle.file_words.specs.Words.{lines_of}
 
 abbrev pub piece_bytes : Piece → List ℕ
 piece_bytes (pieces.Text text) = text.now

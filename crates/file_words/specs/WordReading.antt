@@ -1,9 +1,6 @@
 -- Numbers and words of a line, read one by one.
-use Rattle.std.specs.Prelude.{◌≡◌, ℕ, ℤ, pos, negsuc, Bool, true, false, ◌&&◌, List, [], ◌∷◌, ◌++◌, take, slice_index, nat_lt, int_le, unsigned_abs, Option, Some, None, Result, Ok, Err, if◌then◌else◌}
-use Rattle.std.specs.Borrow.{Bor}
-use Rattle.std.specs.Str.{bytes_eq}
-use Rattle.std.specs.Str.Parse.{signed_digits_value}
-use Rattle.std.specs.Fmt.{signed_decimal}
+use Rattle.std.specs.Prelude.{◌≡◌, ℕ, ℤ, pos, negsuc, Bool, true, false, ◌&&◌, List, [], ◌∷◌, ◌++◌, nat_lt, int_le, unsigned_abs, Option, Some, None, Result, Ok, Err, if◌then◌else◌}
+use Rattle.std.specs.{Borrow.Bor, Str.bytes_eq, Str.Parse.signed_digits_value, Fmt.signed_decimal}
 use Rattle.file_words.specs.declared.fault.FileError.{FileError}
 use Rattle.file_words.specs.declared.fault.FileError.TheVariants.{BadArity, BadNumber}
 use Rattle.file_words.specs.Words.{lowest, words_of, words_left}
@@ -25,10 +22,6 @@ number_of word = let n = signed_digits_value 10 word in if fits_signed n && byte
 -- The first word of a line and what is left behind it, by the number that the word is.
 abbrev pub ReadsNumber : List ℕ → Option ℤ → Option (Bor (List ℕ)) → Type 0
 ReadsNumber line number left = (word : List ℕ) × (words_of line ≡ word ∷ words_left left) × (number ≡ number_of word)
-
--- No number begins with the first n bytes and the one behind them.
-abbrev pub NoLonger : ℕ → List ℕ → Type 0
-NoLonger n line = (more : List ℕ) → number_of (take n line ++ slice_index line n ∷ more) ≡ None
 
 -- What is left of a line, and whether each number before it is one and in its range.
 pub record Left : Type 0 where

@@ -1,9 +1,6 @@
 -- Lines of a file, words of a line, and numbers as words.
 use Rattle.std.specs.Prelude.{◌≡◌, ℕ, ℤ, pos, negsuc, List, [], ◌∷◌, ◌==◌, Option, Some, None, FitsSigned}
-use Rattle.std.specs.Borrow.{Bor}
-use Rattle.std.specs.Int.{w64}
-use Rattle.std.specs.List.{slice_split}
-use Rattle.std.specs.Fmt.{signed_decimal}
+use Rattle.std.specs.{Borrow.Bor, Int.w64, List.slice_split, Fmt.signed_decimal}
 
 -- The pieces between line ends. What follows the last line end is a line where it isn't empty.
 abbrev pub without_empty_last : List (List ℕ) → List (List ℕ)

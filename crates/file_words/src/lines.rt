@@ -183,14 +183,12 @@ pub(crate) fn first_word(line: &str) -> (&str, Option<&str>)
     }
 }
 
-/// What stands behind the first word of a line. It is called where a word is no number, out of the way of those that are.
-#[cold]
-#[inline(never)]
-pub(crate) fn behind_word(line: &[u8]) -> Option<&[u8]>
-    ensures { (word : List ℕ) × (words_of line.now ≡ word ∷ words_left result) }
+/// The same of bytes.
+pub(crate) fn first_word_bytes(line: &[u8]) -> (&[u8], Option<&[u8]>)
+    ensures { words_of line.now ≡ result.0.now ∷ words_left result.1 }
 {
-    match memchr(b' ', line) {
-        Some(end) => Some(&line[end + 1..]),
-        None => None,
+    match first_near(b' ', line) {
+        Some(end) => (&line[..end], Some(&line[end + 1..])),
+        None => (line, None),
     }
 }

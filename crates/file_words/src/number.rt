@@ -1,11 +1,9 @@
 //! Numbers as words of a file.
 
-ghost use Rattle.std.specs.Prelude.{◌≡◌, ◌^◌, ◌<◌, ◌≤◌, ◌==◌, pos, neg_ℤ, false, length, take, slice_index, nat_lt, nat_le, All, IfSome, Some, None, if◌then◌else◌};
-ghost use Rattle.std.specs.Int.{IsInRange};
-ghost use Rattle.std.specs.Str.Parse.{AllDigits, digits_value};
-ghost use Rattle.file_words.specs.WordReading.{NoLonger, ReadsNumber, number_of};
+ghost use Rattle.std.specs.Prelude.{◌≡◌, ◌^◌, ◌<◌, ◌==◌, ◌&&◌, pos, neg_ℤ, slice_index, nat_lt, nat_le, IfSome, Some, None, if◌then◌else◌};
+ghost use Rattle.memchr.specs.Find.{IsFirstByte, is_byte};
+ghost use Rattle.file_words.specs.WordReading.{ReadsNumber, number_of};
 
-use crate::lines::behind_word;
 use core::dec2flt::read_digits;
 use std::simd::prelude::*;
 
@@ -19,31 +17,35 @@ const WORD: usize = 8;
 const NEAR: usize = 16;
 
 /// The number that a word writes. Each number has one text: no sign but a `-`, no leading 0.
-pub(crate) fn parse_number(word: &str) -> Option<i64>
+pub(crate) fn parse_number(word: &[u8]) -> Option<i64>
     ensures { result ≡ number_of word.now }
 {
-    let (number, end) = front_number(word.as_bytes());
-    if end == word.len() { number } else { None }
+    let sign = sign_len(word);
+    let digits = &word[sign..];
+    if !has_leading_digit(digits) {
+        return if word == b"0".as_slice() {
+            Some(0)
+        } else {
+            None
+        };
+    }
+    if digits.len() > MOST_DIGITS {
+        return None;
+    }
+    let (count, value) = read_digits(digits, 0, 0);
+    if count == digits.len() {
+        signed(sign, value)
+    } else {
+        None
+    }
 }
 
-/// The number that some bytes write in front, where they do, and how many bytes a number can have in common with them.
+/// Whether a digit stands in front that isn't 0.
 #[inline(always)]
-fn front_number(line: &[u8]) -> (Option<i64>, usize)
-    ensures within { result.1 ≤ length line.now }
-    ensures solid { All (λ b. (b == 32) ≡ false) (take result.1 line.now) }
-    ensures number { result.0 ≡ number_of (take result.1 line.now) }
-    ensures past { NoLonger result.1 line.now }
+fn has_leading_digit(bytes: &[u8]) -> bool
+    ensures { result ≡ (nat_le 49 (slice_index bytes.now 0) && nat_le (slice_index bytes.now 0) 57) }
 {
-    let sign = sign_len(line);
-    let digits = &line[sign..];
-    match digits {
-        [b'1'..=b'9', ..] => {
-            let (value, end) = front_digits(digits);
-            (signed(sign, value), sign + end)
-        }
-        [b'0', ..] if sign == 0 => (Some(0), 1),
-        _ => (None, sign),
-    }
+    matches!(bytes, [b'1'..=b'9', ..])
 }
 
 /// How many bytes the sign takes: no branch is guessed wrong where signs come by chance.
@@ -55,37 +57,6 @@ fn sign_len(line: &[u8]) -> usize
         [first, ..] => usize::from(*first == b'-'),
         [] => 0,
     }
-}
-
-/// The value of the digits in front, of which the first isn't 0, and how many they are, up to one that is too many for a number.
-#[inline(always)]
-fn front_digits(bytes: &[u8]) -> (u64, usize)
-    requires first { 49 ≤ slice_index bytes.now 0 }
-    ensures within { result.1 ≤ length bytes.now }
-    ensures digits { AllDigits 10 (take result.1 bytes.now) }
-    ensures value { result.0 ≡ digits_value 10 (take result.1 bytes.now) }
-    ensures end { IsInRange 48 57 (slice_index bytes.now result.1) → 922337203685477580 < result.0 }
-{
-    if bytes.len() >= WORD {
-        let (end, value) = read_digits(&bytes[..WORD], 0, 0);
-        if end < WORD {
-            return (value, end);
-        }
-    }
-    many_digits(bytes)
-}
-
-/// The same of digits that don't end in one word.
-#[inline(never)]
-fn many_digits(bytes: &[u8]) -> (u64, usize)
-    requires first { 49 ≤ slice_index bytes.now 0 }
-    ensures within { result.1 ≤ length bytes.now }
-    ensures digits { AllDigits 10 (take result.1 bytes.now) }
-    ensures value { result.0 ≡ digits_value 10 (take result.1 bytes.now) }
-    ensures end { IsInRange 48 57 (slice_index bytes.now result.1) → 922337203685477580 < result.0 }
-{
-    let (end, value) = read_digits(&bytes[..bytes.len().min(MOST_DIGITS)], 0, 0);
-    (value, end)
 }
 
 /// The number of that value, which is negative where a sign stands before it.
@@ -107,8 +78,7 @@ fn signed(sign: usize, value: u64) -> Option<i64>
 /// Where the first space stands, where that is near by.
 #[inline(always)]
 fn near_space(line: &[u8]) -> Option<usize>
-    ensures within { IfSome result (λ end. end < length line.now) }
-    ensures space { IfSome result (λ end. slice_index line.now end ≡ 32) }
+    ensures { IfSome result (λ end. IsFirstByte (is_byte 32) line.now (Some end)) }
 {
     if line.len() < NEAR {
         return None;
@@ -132,27 +102,16 @@ pub(crate) fn near_number(line: &[u8]) -> Option<(Option<i64>, &[u8])>
     let end = near_space(line)?;
     let sign = sign_len(line);
     let digits = &line[sign..];
-    match digits {
-        [b'1'..=b'9', ..] if digits.len() >= WORD => {
-            let (count, value) = read_digits(&digits[..WORD], 0, 0);
-            if sign + count == end {
-                Some((signed(sign, value), &line[end + 1..]))
-            } else {
-                None
-            }
-        }
-        _ => None,
+    if digits.len() < WORD {
+        return None;
     }
-}
-
-/// The number that the first word of a line is, and what stands behind the word, where anything does.
-pub(crate) fn first_number(line: &[u8]) -> (Option<i64>, Option<&[u8]>)
-    ensures { ReadsNumber line.now result.0 result.1 }
-{
-    let (number, end) = front_number(line);
-    match &line[end..] {
-        [] => (number, None),
-        [b' ', left @ ..] => (number, Some(left)),
-        rest => (None, behind_word(rest)),
+    if !has_leading_digit(digits) {
+        return None;
+    }
+    let (count, value) = read_digits(&digits[..WORD], 0, 0);
+    if sign + count == end {
+        Some((signed(sign, value), &line[end + 1..]))
+    } else {
+        None
     }
 }

@@ -5,8 +5,8 @@ ghost use Rattle.file_words.specs.WordReading.{Left, Gets, behind, GetsAs, next_
 ghost use Rattle.file_words.specs.Words.{words_left, words_of};
 
 use crate::fault::FileError;
-use crate::lines::first_word;
-use crate::number::{first_number, near_number, parse_number};
+use crate::lines::{first_word, first_word_bytes};
+use crate::number::{near_number, parse_number};
 use std::alloc::{AllocError, Global};
 use std::marker::Model;
 
@@ -54,7 +54,7 @@ impl<'a> Words<'a> {
         ensures least { IfOk result (λ n. low ≤ℤ n) }
     {
         let word = self.any()?;
-        match parse_number(word) {
+        match parse_number(word.as_bytes()) {
             Some(n) if low <= n && n <= high => Ok(n),
             _ => {
                 self.good = false;
@@ -137,8 +137,8 @@ fn numbers_of<'a>(
     let mut left = Some(line);
     while let Some(rest) = left {
         let rest = near_numbers(&mut numbers, rest)?;
-        let (number, behind) = first_number(rest);
-        match number {
+        let (word, behind) = first_word_bytes(rest);
+        match parse_number(word) {
             Some(n) => numbers.push(n)?,
             None => {
                 good = false;

@@ -11,4 +11,4 @@ pub use keeper::is_enough;
 pub use leaf::read_leaf;
 pub use leaf_end::{LeafEnd, Portion};
 pub use reading::Reading;
-pub use stretch::feed_whole;
+pub use stretch::{Pause, feed_whole};

@@ -292,9 +292,16 @@ pub(crate) fn feed_until_cut<B: Handout, S: Spliterator, G: Stage<In = S::Item>,
     }
 }
 
+/// What happens between two stretches of a leaf.
+pub trait Pause {
+    /// Refuses to go on where the reading is to end, as if memory were refused.
+    fn goes_on(&self) -> Result<(), NoMemory>;
+}
+
 /// Feeds all that a source covers through a stage to a sink, as far as it makes a difference.
-pub fn feed_whole<S: Spliterator, G: Stage<In = S::Item>, K: Sink<G::Out>>(
+pub fn feed_whole<P: Pause, S: Spliterator, G: Stage<In = S::Item>, K: Sink<G::Out>>(
     alloc: Global,
+    pause: &P,
     stage: &G,
     source: S,
     sink: &mut K,
@@ -309,5 +316,6 @@ pub fn feed_whole<S: Spliterator, G: Stage<In = S::Item>, K: Sink<G::Out>>(
         if !feed_stretch(stage, &mut source, false, &mut room, sink)? {
             return Ok(());
         }
+        pause.goes_on()?;
     }
 }

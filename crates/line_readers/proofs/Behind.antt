@@ -7,6 +7,8 @@ use Rattle.std.specs.Io.KnownBytes.{IsAtEnd, prepend_known}
 use Rattle.sources.specs.Lines.{text_lines}
 use Rattle.line_blocks.specs.Blocks.{IsFolded, TakesBlock}
 use Rattle.line_blocks.proofs.Cuts.{folded-all, folded-more, folded-none}
+use Rattle.stages.specs.Passing.{flat_map-flat_map}
+use Rattle.line_readers.specs.Flights.{Settles}
 use Rattle.line_readers.specs.Values.{values_of, line_values, GoesOn, IsTaken}
 
 one-image : {X Y : Type 0} (f : X → Y) (l : List X) → flat_map (λ x. f x ∷ []) l ≡ map f l
@@ -47,6 +49,13 @@ taken-more image first {made = made} {last = last} {whole = whole} {behind = beh
           ap (λ xs. whole (xs ++ rest)) (values-append image first l lines) ∙ ap whole (append_assoc items more rest) ∙ is.on (more ++ rest)
           ∙ ap (λ l. is.kept ++ l) (goes_on rest) ∙ sym (append_assoc is.kept new (behind later rest));
     }
+
+-- stages one behind another as one
+pub through : {Y X W Z : Type 0} (image : List ℕ → Y) (first : Y → List X) (between : X → List W) (last : W → List Z) (lines : List (List ℕ))
+    → values_of image (λ y. flat_map last (flat_map between (first y))) lines ≡ flat_map last (flat_map between (values_of image first lines))
+through image first between last lines =
+    let items = map image lines in
+    sym (ap (flat_map last) (flat_map-flat_map first between items) ∙ flat_map-flat_map (λ x. flat_map between (first x)) last items)
 
 -- what lines go through: a function, a stage, operations that look at many items, from the first item on and behind a state, and a stage behind them
 pub record Way (Y X W Z S : Type 0) : Type 0 where
@@ -105,6 +114,22 @@ module _ {Y X W Z S C : Type 0} (way : Way Y X W Z S) (made : List Z → C → T
         let rest = way.behind taken.1 more in
         subst (λ l. Gives l out) (sym (ap (flat_map way.last) (is.on more) ∙ flat_map-append way.last is.kept rest))
         (decided now (flat_map way.last rest) is.in_acc (finished now is.in_acc)))
+
+  -- where all that is still to come passes through stages, and the container of it is settled behind what was taken
+  pub passing-given : {O : Type 0} (Gives : List Z → O → Type 0) (out : O) (taken : C × S) (whole : C) (stages : X → List W) → ((more : List X) → way.behind taken.1 more ≡ flat_map stages more)
+      → ((l : List Z) → made l whole → Gives l out) → (known left : Option (List ℕ)) → IsFolded taken_of known taken left
+      → ((before : List Z) → made before taken.0 → IfSome left (λ bytes. Settles made Gives (before ++ flat_map way.last (flat_map stages (line_values way.image way.first bytes))) whole))
+      → IfSome known (λ bytes. Gives (flat_map way.last (way.whole (line_values way.image way.first bytes))) out)
+  passing-given Gives out taken whole stages passes finished None left folded settled = tt
+  passing-given Gives out taken whole stages passes finished (Some xs) None folded settled = absurd folded
+  passing-given Gives out taken whole stages passes finished (Some xs) (Some ys) folded settled =
+      let values = values_of way.image way.first in
+      let is = folded.1 in
+      let rest = values (text_lines ys) in
+      let value = ap values folded.2 ∙ values-append way.image way.first folded.0 (text_lines ys) in
+      let same = ap way.whole value ∙ is.on rest ∙ ap (λ l. is.kept ++ l) (passes rest) in
+      let all = ap (flat_map way.last) same ∙ flat_map-append way.last is.kept (flat_map stages rest) in
+      subst (λ l. Gives l out) (sym all) (settled (flat_map way.last is.kept) is.in_acc out finished)
 
 -- what a container that was empty has of one more block
 pub one-block : {Y X W Z S A : Type 0} (way : Way Y X W Z S) {made : List Z → A → Type 0} (state later : S) (begun acc : A) (block : List ℕ) → made [] begun

@@ -1,3 +1,5 @@
+pub mod Ahead
 pub mod Carried
+pub mod Flights
 pub mod Values
 pub mod Meeting

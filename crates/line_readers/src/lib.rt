@@ -7,9 +7,13 @@
 //! ```
 #![tactic(auto)]
 
+mod ahead;
 mod barred;
 mod between;
 mod ending;
+mod flatten;
+mod flight;
+mod lane;
 mod line_function;
 mod lines;
 mod linked;
@@ -18,10 +22,12 @@ mod reading;
 mod steps;
 mod stream;
 
+pub use ahead::fold_ahead;
 pub use barred::BarredLines;
 pub use between::{Between, NoBarrier};
+pub use flatten::Flatten;
 pub use line_function::{LineFunction, OfLine, OwnLine};
-pub use lines::{BLOCK, LinesOf, ReadLines, lines_of};
+pub use lines::{BLOCK, LONGEST, LinesOf, ReadLines, lines_of};
 pub use linked::{Linked, LinkedState};
 pub use steps::{LineParts, LineSteps};
 pub use stream::LineStream;

@@ -1,13 +1,13 @@
 //! Functions of a line.
-ghost use Rattle.std.specs.Prelude.{◌≡◌, ℕ, List, IfOk, length, pos, ⊤};
+ghost use Rattle.std.specs.Prelude.{◌≡◌, ◌==◌, ℕ, List, IfOk, length, map, pos, string_bytes, ⊤};
 ghost use Rattle.spliterator.specs.Bounded.{wrapped-value};
 ghost use Rattle.stages.specs.Wrapping.{wrapped};
-ghost use Rattle.stream_functions.specs.Pieces.{number_in, number_or, number-value};
+ghost use Rattle.stream_functions.specs.Pieces.{pieces, number_in, number_or, number-value};
 
 use spliterator::{NoMemory, OrderedValue};
 use stages::Mapping;
 use std::alloc::Global;
-use stream_functions::{Length, Number, NumberOr, PlainMapping};
+use stream_functions::{Length, Number, NumberOr, Pieces, PlainMapping};
 
 /// What a line is read as: a value that holds nothing of the line, so that one function serves the lines of each block.
 pub trait LineFunction {
@@ -96,5 +96,29 @@ impl LineFunction for NumberOr {
 
     fn read(&self, line: &str) -> Result<i64, NoMemory> {
         Ok(self.image_of(&line))
+    }
+}
+
+/// Each text as one of its own.
+fn owned(alloc: Global, texts: &[&str]) -> Result<Vec<String>, NoMemory>
+    ensures { IfOk result (λ list. map string_bytes list.items ≡ map (λ text. text.now) texts.now) }
+{
+    let mut list = Vec::with_capacity(alloc, texts.len())?;
+    for text in texts {
+        list.push(String::from_str(alloc, text)?)?;
+    }
+    Ok(list)
+}
+
+impl LineFunction for Pieces {
+    type Out = Vec<String>;
+
+    ghost image = { λ p line. pieces (λ b. b == p.separator) line };
+
+    ghost images_are_values = { λ _ _ _ _ _. tt };
+
+    fn read(&self, line: &str) -> Result<Vec<String>, NoMemory> {
+        let texts = self.image(&line)?;
+        owned(self.alloc, texts.as_slice())
     }
 }

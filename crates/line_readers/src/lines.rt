@@ -2,13 +2,16 @@
 ghost use Rattle.std.specs.Prelude.{◌≡◌, ◌<◌};
 ghost use Rattle.line_readers.specs.Values.{line_values};
 
-use crate::{LineFunction, LineParts, LineSteps, LineStream, NoBarrier};
+use crate::{Flatten, LineFunction, LineParts, LineSteps, LineStream, NoBarrier};
 use spliterator::OrderedValue;
 use stages::{Filter, FlatMap, ListValue, Map, Mapping, Nothing, Stage, Test, Then};
 use std::io::Read;
 
 /// How many bytes a block has, where nothing else is said.
-pub const BLOCK: usize = 8_388_608;
+pub const BLOCK: usize = 2_097_152;
+
+/// The length in bytes that every line has to fall short of, where nothing else is said.
+pub const LONGEST: usize = 8_388_608;
 
 /// The lines of a reader, in blocks of text.
 #[derive(Drop)]
@@ -28,12 +31,12 @@ pub struct LinesOf<I> {
 pub fn lines_of<I: Read>(reader: I) -> LinesOf<I>
     ensures reader { result.reader ≡ reader }
     ensures size { result.size ≡ BLOCK }
-    ensures longest { result.longest ≡ BLOCK }
+    ensures longest { result.longest ≡ LONGEST }
 {
     LinesOf {
         reader,
         size: BLOCK,
-        longest: BLOCK,
+        longest: LONGEST,
     }
 }
 
@@ -82,6 +85,29 @@ impl<I: Read> LinesOf<I> {
             longest: self.longest,
             function,
             stage: Nothing::new(),
+        }
+    }
+
+    /// The members of the lists that a function makes of the lines, one line after another. No member is cloned.
+    ///
+    /// ```text
+    /// let pieces = lines_of(File::open(&rt, "text")?).flat_map_lines(Pieces::new(rt.alloc(), ' '));
+    /// let words = pieces.filter(Composed(Length, Above(0))).count_on(&engine)?;
+    /// ```
+    pub fn flat_map_lines<F: LineFunction>(self, function: F) -> ReadLines<I, F, Flatten<F::Out>>
+    where
+        F::Out: ListValue,
+        ensures reader { result.reader ≡ self.reader }
+        ensures size { result.size ≡ self.size }
+        ensures longest { result.longest ≡ self.longest }
+        ensures function { result.function ≡ function }
+    {
+        ReadLines {
+            reader: self.reader,
+            size: self.size,
+            longest: self.longest,
+            function,
+            stage: Flatten::new(),
         }
     }
 }

@@ -6,26 +6,29 @@ ghost use Rattle.spliterator.specs.Clones.{ClonesAlike};
 ghost use Rattle.collectors.specs.Laws.{IsContainerOf};
 ghost use Rattle.collectors.specs.NestedLaws.{push};
 ghost use Rattle.sources.specs.Lines.{text_lines};
-ghost use Rattle.line_blocks.specs.Blocks.{TakesBlock};
+ghost use Rattle.line_blocks.specs.Blocks.{IsFolded, TakesBlock};
 ghost use Rattle.line_blocks.specs.Faults.{StandsAt, IsFault};
+ghost use Rattle.line_readers.specs.Flights.{Settles};
 ghost use Rattle.line_readers.specs.Values.{values_of, line_values, IsTaken};
 
 use crate::ending::Ending;
+use crate::flight::{Passing, fly};
 use crate::steps::work;
 use crate::{Between, LineFunction, LineSteps};
 use collectors::{Collector, Pieces, ToList, new_container};
 use line_blocks::{Block, LineBlocks, LinesError};
 use parallel_streams::{Engine, finish_on};
 use spliterator::{NoMemory, Value};
-use stages::{Sink, Stage};
+use stages::{Sink, Stage, Then};
 use std::alloc::Global;
 use std::io::Read;
+use std::sync::Wait;
 use std::thread::{Threads, join};
 use std::time::Clock;
 use stealing_pool::Gate;
 
 /// The next block, and the reader behind it.
-fn read_ahead<I: Read + Drop>(
+pub(crate) fn read_ahead<I: Read + Drop>(
     blocks: LineBlocks<I>,
     room: Vec<u8>,
 ) -> Result<(LineBlocks<I>, Block), LinesError>
@@ -171,10 +174,128 @@ fn finish_lines<R, H: Gate, C: Collector>(
     Ok(finish_on(engine, collector, acc)?)
 }
 
-/// The result of a collector on what becomes of the lines that a reader has left. While one block is worked on, another thread reads the next one. What
-/// goes wrong in a block is told before what goes wrong behind it, and nothing of that where the reading is over.
+/// The container of what the lines of a block and of all blocks behind it become, behind what is in it, where no operation looks at more than one item.
+fn fly_through<
+    R: Threads + Clock + Wait + Sync,
+    H: Gate + Sync,
+    I: Read + Drop,
+    F: LineFunction + Sync,
+    A: Stage<In = F::Out> + Sync,
+    Q: Between<In = A::Out>,
+    Z: Stage<In = Q::Out> + Sync,
+    C: Collector<Item = Z::Out> + Sync,
+    E: Ending<C>,
+>(
+    engine: &Engine<'_, R, H>,
+    steps: &LineSteps<F, A, Q, Q::Stages, Z>,
+    collector: &C,
+    ending: &E,
+    ahead: (LineBlocks<I>, Block),
+    whole: C::Acc,
+) -> Result<C::Acc, LinesError>
+where
+    A::Out: Clone + Send + Sync,
+    Z::Out: Clone + Send + Sync,
+    C::Acc: Send,
+    C::Out: Send,
+    requires function { F.ready steps.now.function }
+    requires first { A.ready steps.now.first }
+    requires between { Q.Stages.ready steps.now.between }
+    requires last { Z.ready steps.now.last }
+    requires collector { C.ready collector.now }
+    requires ended { let left = prepend_known ahead.0.rest.items (I.remaining ahead.0.reader) in
+        ahead.1.is_last ≡ true → IsAtEnd left }
+    ensures faults { let left = prepend_known ahead.0.rest.items (I.remaining ahead.0.reader) in
+        (all : Option (List ℕ)) → StandsAt all left ahead.0.place
+        → IfErr result (IsFault ahead.0.longest all) }
+    ensures value { let it = collector.now in
+        let own = steps.now in
+        let made = IsContainerOf Z.Out.is_value (C.content it) (C.empty it) (C.add it) in
+        let items = line_values (F.image own.function) (A.expand own.first) in
+        let passed = λ (bytes : List ℕ). flat_map (Q.Stages.expand own.between) (items bytes) in
+        let left = prepend_known ahead.0.rest.items (I.remaining ahead.0.reader) in
+        (before : List Z.Out.Content) → made before whole
+        → (known : Option (List ℕ)) → TakesBlock known (string_bytes ahead.1.text) left
+        → IfOk result (λ acc. IfSome known (λ bytes.
+        Settles made (C.gives it) (before ++ flat_map (Z.expand own.last) (passed bytes)) acc)) }
+{
+    let stage = Then::new(Then::new(&steps.first, &steps.between), &steps.last);
+    let passing = Passing {
+        function: &steps.function,
+        stage: &stage,
+        collector,
+    };
+    fly(engine, &passing, ending, ahead, whole)
+}
+
+/// The result of a collector on what was taken in and on what the lines of a block and of all blocks behind it become, where of these no operation looks at
+/// more than one item.
+fn pass_on<
+    R: Threads + Clock + Wait + Sync,
+    H: Gate + Sync,
+    I: Read + Drop,
+    F: LineFunction + Sync,
+    A: Stage<In = F::Out> + Sync,
+    Q: Between<In = A::Out>,
+    Z: Stage<In = Q::Out> + Sync,
+    C: Collector<Item = Z::Out> + Sync,
+    E: Ending<C>,
+>(
+    engine: &Engine<'_, R, H>,
+    steps: &LineSteps<F, A, Q, Q::Stages, Z>,
+    collector: &C,
+    ending: &E,
+    ahead: (LineBlocks<I>, Block),
+    taken: (C::Acc, Q::State),
+) -> Result<C::Out, LinesError>
+where
+    A::Out: Clone + Send + Sync,
+    Z::Out: Clone + Send + Sync,
+    C::Acc: Send,
+    C::Out: Send,
+    requires function { F.ready steps.now.function }
+    requires first { A.ready steps.now.first }
+    requires between { Q.Stages.ready steps.now.between }
+    requires passes { let own = steps.now in
+        (more : List A.Out.Content) → Q.value_behind own.barriers own.between taken.1 more
+        ≡ flat_map (Q.Stages.expand own.between) more }
+    requires last { Z.ready steps.now.last }
+    requires collector { C.ready collector.now }
+    requires ended { let left = prepend_known ahead.0.rest.items (I.remaining ahead.0.reader) in
+        ahead.1.is_last ≡ true → IsAtEnd left }
+    ensures faults { let left = prepend_known ahead.0.rest.items (I.remaining ahead.0.reader) in
+        (all : Option (List ℕ)) → StandsAt all left ahead.0.place
+        → IfErr result (IsFault ahead.0.longest all) }
+    ensures value { let it = collector.now in
+        let own = steps.now in
+        let made = IsContainerOf Z.Out.is_value (C.content it) (C.empty it) (C.add it) in
+        let behind = Q.value_behind own.barriers own.between in
+        let items = values_of (F.image own.function) (A.expand own.first) in
+        let left = prepend_known ahead.0.rest.items (I.remaining ahead.0.reader) in
+        (whole : List A.Out.Content → List Q.Out.Content) → (all known : Option (List ℕ))
+        → IsFolded (λ lines t. IsTaken made (Z.expand own.last) whole behind (items lines) t) all taken known
+        → TakesBlock known (string_bytes ahead.1.text) left → IfOk result (λ out. IfSome all
+        (λ bytes. C.gives it (flat_map (Z.expand own.last) (whole (items (text_lines bytes)))) out)) }
+{
+    let whole = fly_through(engine, steps, collector, ending, ahead, taken.0)?;
+    finish_lines(engine, collector, whole)
+}
+
+/// Whether a thread is to work on each block that follows: there are to be several, and no operation looks at more than one item of what is still to come.
+fn may_fly<R, H, Q: Between>(engine: &Engine<'_, R, H>, barriers: &Q, state: &Q::State) -> bool
+    ensures passes { result ≡ true → (stages : Q.Stages) → (more : List Q.In.Content)
+        → Q.value_behind barriers.now stages state.now more ≡ flat_map (Q.Stages.expand stages) more }
+    ensures ready { result ≡ true → (stages : Q.Stages) → Q.ready barriers.now stages
+        → Q.Stages.ready stages }
+{
+    engine.run.workers > 1 && barriers.lets_pass(state)
+}
+
+/// The result of a collector on what becomes of the lines that a reader has left. Where no operation looks at more than one item several blocks are worked
+/// on at once by as many threads, and else, or by one worker, one while another thread reads the next one. What goes wrong in a block is told before what goes wrong behind it, and nothing of
+/// that where the reading is over.
 pub(crate) fn collect_lines<
-    R: Threads + Clock + Sync,
+    R: Threads + Clock + Wait + Sync,
     H: Gate + Sync,
     I: Read + Send + Drop,
     F: LineFunction + Sync,
@@ -216,6 +337,9 @@ where
         steps.barriers.fresh(engine.alloc),
     );
     for _ in 0..u64::MAX {
+        if may_fly(engine, &steps.barriers, &taken.1) {
+            return pass_on(engine, steps, collector, ending, (blocks, block), taken);
+        }
         if block.is_last {
             let (whole, _state) = work(engine, steps, collector, taken, block.text)?;
             return finish_lines(engine, collector, whole);

@@ -165,7 +165,7 @@ where
 }
 
 /// How many bytes a leaf of a block has: a worker's share and a fifth more, so that a share which ends behind its line isn't split again.
-fn leaf_bytes(bytes: usize, workers: u32) -> u64
+pub(crate) fn leaf_bytes(bytes: usize, workers: u32) -> u64
     requires { 0 < workers }
     ensures { result ≤ 2 ^ 62 }
 {

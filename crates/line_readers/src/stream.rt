@@ -19,6 +19,7 @@ use parallel_streams::Engine;
 use spliterator::OrderedValue;
 use stages::{Nothing, Sink, Stage, Test};
 use std::io::Read;
+use std::sync::Wait;
 use std::thread::Threads;
 use std::time::Clock;
 use stealing_pool::Gate;
@@ -134,8 +135,9 @@ pub trait LineStream: Sized {
         BarredLines::new(self, Distinct::new())
     }
 
-    /// The result of a collector on all the items. While one block is worked on, another thread reads the next one: memory is that of two blocks, of the
-    /// container, and of the containers of a block's leaves, however much the reader has.
+    /// The result of a collector on all the items. As many blocks are worked on at once as there are workers, each by a thread of its own, while the
+    /// caller's thread reads the next one: memory is that of so many blocks and their containers, however much the reader has. In front of an operation
+    /// that looks at many items, and where there is but one worker, one block is worked on by all workers, while another thread reads the next one.
     ///
     /// ```text
     /// lines_of(file).map_lines(Number).collect_on(&engine, &Counting::new())?
@@ -143,7 +145,7 @@ pub trait LineStream: Sized {
     // java.util.stream.Stream, collect
     final fn collect_on<C: Collector<Item = Self::Item> + Sync>(
         self,
-        engine: &Engine<'_, impl Threads + Clock + Sync, impl Gate + Sync>,
+        engine: &Engine<'_, impl Threads + Clock + Wait + Sync, impl Gate + Sync>,
         collector: &C,
     ) -> Result<C::Out, LinesError>
     where
@@ -168,7 +170,8 @@ pub trait LineStream: Sized {
         )
     }
 
-    /// The same, where no more is read than the block behind one that decides the result. Nothing is told of what goes wrong there.
+    /// The same, where no more is read than the block that decides the result, the blocks at work beside it, and one behind them. Nothing is told of what
+    /// goes wrong in those.
     ///
     /// ```text
     /// let rows = lines_of(file).map_lines(Parsed);    // Ok(5), Err(..), Ok(7)
@@ -177,7 +180,7 @@ pub trait LineStream: Sized {
     // java.util.stream, package summary, Stream operations and pipelines (short-circuiting)
     final fn collect_decided<C: Deciding<Item = Self::Item> + Sync>(
         self,
-        engine: &Engine<'_, impl Threads + Clock + Sync, impl Gate + Sync>,
+        engine: &Engine<'_, impl Threads + Clock + Wait + Sync, impl Gate + Sync>,
         collector: &C,
     ) -> Result<C::Out, LinesError>
     where
@@ -206,7 +209,7 @@ pub trait LineStream: Sized {
     // java.util.stream.Stream, count
     final fn count_on(
         self,
-        engine: &Engine<'_, impl Threads + Clock + Sync, impl Gate + Sync>,
+        engine: &Engine<'_, impl Threads + Clock + Wait + Sync, impl Gate + Sync>,
     ) -> Result<i64, LinesError>
         requires { Self.ready self }
         ensures faults { IfErr result (IsFault (Self.longest self) (Self.known self)) }
@@ -217,11 +220,11 @@ pub trait LineStream: Sized {
         self.collect_on(engine, &Counting::new())
     }
 
-    /// The first item, or none. No more is read than the block behind that of its line.
+    /// The first item, or none. No more is read than by [`collect_decided`](LineStream::collect_decided).
     // java.util.stream.Stream, findFirst
     final fn find_first_on(
         self,
-        engine: &Engine<'_, impl Threads + Clock + Sync, impl Gate + Sync>,
+        engine: &Engine<'_, impl Threads + Clock + Wait + Sync, impl Gate + Sync>,
     ) -> Result<Option<Self::Item>, LinesError>
         requires lines { Self.ready self }
         requires clones { ClonesAlike Self.Item.is_clone Self.Item.content }
@@ -242,11 +245,11 @@ pub trait LineStream: Sized {
         )
     }
 
-    /// Whether some item meets the test. No more is read than the block behind that of the first one.
+    /// Whether some item meets the test. No more is read than by [`collect_decided`](LineStream::collect_decided).
     // java.util.stream.Stream, anyMatch
     final fn any_match_on<P: Test<Self::Item> + Sync>(
         self,
-        engine: &Engine<'_, impl Threads + Clock + Sync, impl Gate + Sync>,
+        engine: &Engine<'_, impl Threads + Clock + Wait + Sync, impl Gate + Sync>,
         test: &P,
     ) -> Result<bool, LinesError>
         requires lines { Self.ready self }
@@ -268,11 +271,11 @@ pub trait LineStream: Sized {
         )
     }
 
-    /// Whether every item meets the test, as where there is no item. No more is read than the block behind that of the first one that doesn't.
+    /// Whether every item meets the test, as where there is no item. No more is read than by [`collect_decided`](LineStream::collect_decided).
     // java.util.stream.Stream, allMatch
     final fn all_match_on<P: Test<Self::Item> + Sync>(
         self,
-        engine: &Engine<'_, impl Threads + Clock + Sync, impl Gate + Sync>,
+        engine: &Engine<'_, impl Threads + Clock + Wait + Sync, impl Gate + Sync>,
         test: &P,
     ) -> Result<bool, LinesError>
         requires lines { Self.ready self }
@@ -285,11 +288,11 @@ pub trait LineStream: Sized {
         Ok(!self.any_match_on(engine, &Not(test))?)
     }
 
-    /// Whether no item meets the test. No more is read than the block behind that of the first one that does.
+    /// Whether no item meets the test. No more is read than by [`collect_decided`](LineStream::collect_decided).
     // java.util.stream.Stream, noneMatch
     final fn none_match_on<P: Test<Self::Item> + Sync>(
         self,
-        engine: &Engine<'_, impl Threads + Clock + Sync, impl Gate + Sync>,
+        engine: &Engine<'_, impl Threads + Clock + Wait + Sync, impl Gate + Sync>,
         test: &P,
     ) -> Result<bool, LinesError>
         requires lines { Self.ready self }

@@ -6,13 +6,16 @@ ghost use Rattle.mohairjade.specs.Words.{wrapped_product, wrapped-value};
 
 mod line;
 
+use indexmap::{IndexMap, IndexSet};
 use line::NumberOrLine;
 use mohairjade::*;
 use program_frame::{Answer, Both, Failure, Host, Task, Watch, Words, ended, given_words, parse};
+use std::alloc::Global;
 use std::hash::RandomState;
 use std::io::{IsTerminal, Read};
 use std::process::ExitCode;
 use std::rt::Files;
+use std::sync::Wait;
 use std::thread::Threads;
 use std::time::Clock;
 
@@ -38,6 +41,13 @@ impl Mapping<i64> for Square {
     }
 }
 
+/// What one pass over the numbers finds: the sum of the squares of even ones, how many are great, the first that is greater, and the first that isn't below a
+/// bound; those that differ, the greatest, and how many end with each digit.
+type Found = (
+    (i128, ((i64, Option<i64>), Option<i64>)),
+    ((IndexSet<i64, RandomState>, Vec<i64>), IndexMap<i64, i64>),
+);
+
 /// How many numbers are made: to a check any number, since it would write out a list of so many.
 fn count() -> i64 {
     10_000_000
@@ -48,7 +58,7 @@ fn main(rt: HostRuntime) -> ExitCode {
 }
 
 /// The answer to the words of the command line.
-fn command<R: Host + Files + Input + Threads + Clock + Sync>(
+fn command<R: Host + Files + Input + Threads + Clock + Wait + Sync>(
     rt: &R,
     is_terminal: bool,
 ) -> Result<Answer, Failure>
@@ -63,7 +73,7 @@ where
     watch.end(answer)
 }
 
-fn answer<R: Host + Files + Input + Threads + Clock + Sync>(
+fn answer<R: Host + Files + Input + Threads + Clock + Wait + Sync>(
     task: &Task<'_, '_, R>,
 ) -> Result<Answer, Failure>
 where
@@ -74,19 +84,19 @@ where
         Some(_) => Some(task.input()?),
         None => None,
     };
-    match answers(&task.engine, reader, task.hashes()?) {
-        Ok(Ok(text)) => Ok(Answer::of(text)),
+    match find(&task.engine, reader, task.hashes()?) {
+        Ok(Ok(found)) => Ok(Answer::of(text(task.engine.alloc, &found)?)),
         Ok(Err(line)) => Err(no_number(task, &line)),
         Err(error) => Err(task.bad_lines(error)),
     }
 }
 
-/// The text of the seven answers, of one pass over the numbers; or a line that is no number.
-fn answers(
-    engine: &Engine<'_, impl Threads + Clock + Sync, impl Gate + Sync>,
+/// What one pass over the numbers finds, or a line that is no number.
+fn find(
+    engine: &Engine<'_, impl Threads + Clock + Wait + Sync, impl Gate + Sync>,
     reader: Option<impl Read + Send + Drop>,
     hashes: RandomState,
-) -> Result<Result<String, String>, LinesError> {
+) -> Result<Result<Found, String>, LinesError> {
     let alloc = engine.alloc;
     let squares = FilteringTo::new(Even, SummingExact::new(Square));
     let great = FilteringTo::new(Above(900_000), Counting::<i64>::new());
@@ -98,17 +108,17 @@ fn answers(
     let above = Teeing::new(Teeing::new(great, first, Both), beyond, Both);
     let found = Teeing::new(Teeing::new(differ, greatest, Both), digits, Both);
     let questions = Teeing::new(Teeing::new(squares, above, Both), found, Both);
-    let ((squares, ((great, first), beyond)), ((differ, greatest), digits)) = match collected(
-        engine, reader, questions,
-    )? {
-        Ok(results) => results,
-        Err(line) => return Ok(Err(line)),
-    };
+    collected(engine, reader, questions)
+}
+
+/// The text of the seven answers.
+fn text(alloc: Global, found: &Found) -> Result<String, NoMemory> {
+    let ((squares, ((great, first), beyond)), ((differ, greatest), digits)) = found;
     let first = match first {
         Some(first) => format!(in alloc; "{first}")?,
         None => String::from_str(alloc, "none")?,
     };
-    Ok(Ok(format!(in alloc;
+    Ok(format!(in alloc;
         "\
 sum of the squares of even ones: {squares}
 above 900000: {great}
@@ -120,12 +130,12 @@ by last digit: {digits:?}
 ",
         beyond.is_none(),
         differ.len()
-    )?))
+    )?)
 }
 
 /// The result of a collector on the numbers of a reader, or on those that are made; or a line that is no number.
 fn collected<C: Collector<Item = i64> + Sync + Drop>(
-    engine: &Engine<'_, impl Threads + Clock + Sync, impl Gate + Sync>,
+    engine: &Engine<'_, impl Threads + Clock + Wait + Sync, impl Gate + Sync>,
     reader: Option<impl Read + Send + Drop>,
     questions: C,
 ) -> Result<Result<C::Out, String>, LinesError>

@@ -1,18 +1,19 @@
 //! The ten customers who spent most by orders above ten euros: of a CSV text or of a table, as JSON.
 #![tactic(auto)]
 
-ghost use Rattle.mohairjade.specs.Words.{int_lt, string_bytes};
-
 mod order;
+mod spending;
 mod table;
 
+use csv::Reader;
+use indexmap::IndexMap;
 use mohairjade::*;
-use order::{Order, orders_of_text};
+use order::no_text;
 use program_frame::{
     Answer, Failure, Host, Task, ValueOption, Watch, Words, ended, given_words, parse,
 };
 use serde::Serialize;
-use std::alloc::AllocError;
+use spending::{Sums, add, add_all};
 use std::io::IsTerminal;
 use std::process::ExitCode;
 use std::rt::Files;
@@ -30,27 +31,6 @@ const WORDS: Words = Words {
         help: "The table of the database that has the columns customer and cents",
     }],
 };
-
-#[derive(Drop)]
-struct Customer;
-
-impl<'a> Gives<Order, &'a str> for Customer {
-    ghost gives = { λ _ o. string_bytes o.customer };
-}
-
-#[derive(Drop)]
-struct Cents;
-
-impl Gives<Order, i64> for Cents {
-    ghost gives = { λ _ o. o.cents };
-}
-
-#[derive(Drop)]
-struct Above(i64);
-
-impl Tells<Order> for Above {
-    ghost tells = { λ t o. int_lt t.0 o.cents };
-}
 
 #[derive(Serialize, Drop)]
 struct Spent<'a> {
@@ -78,25 +58,33 @@ fn answer<R: Host + Files + Input + Threads + Clock + Sync>(
     task: &Task<'_, '_, R>,
 ) -> Result<Answer, Failure> {
     let alloc = task.engine.alloc;
-    let orders = match task.words.get_str("table") {
-        Some(table) => orders_of_table(task, table)?,
-        None => orders_of_text(task)?,
-    };
-    let customer = made_by(Customer, |o: &Row<Order>| -> &str { o.0.customer.as_str() });
-    let cents = made_by(Cents, |o: &Row<Order>| -> i64 { o.0.cents });
-    let dear = rows(&orders).filter(such(Above(1000), |o: &Row<Order>| o.0.cents > 1000));
-    let sums = GroupingBy::with_hasher(alloc, customer, summing_checked(cents), task.hashes()?);
-    let sums = dear.collect_on(&task.engine, &sums)?;
+    let mut sums = IndexMap::with_hasher(alloc, task.hashes()?);
+    match task.words.get_str("table") {
+        Some(table) => add(&task.engine, &orders_of_table(task, table)?, &mut sums)?,
+        None => {
+            let reader = Reader::from_reader(alloc, task.input()?);
+            add_all(&task.engine, reader, &mut sums).map_err(|error| no_text(task, error))?;
+        }
+    }
+    answer_of(task, &sums)
+}
+
+/// The customers who spent most.
+fn answer_of<R: Host + Files + Input + Threads + Clock + Sync>(
+    task: &Task<'_, '_, R>,
+    sums: &Sums,
+) -> Result<Answer, Failure> {
+    let alloc = task.engine.alloc;
     if let Some((customer, _)) = sums.iter().find(|(_, sum)| sum.is_none()) {
         let what = format!(in alloc; "the cents of {customer:?} come to 2^63 or more")?;
         return Err(task.bad_data(&what));
     }
     let most = FirstSorted::new(alloc, Descending(OnSecond(Itself)), 10);
     let mut spent = Vec::new(alloc);
-    for (&customer, &cents) in of(EntriesSplit::new(&sums)).collect_on(&task.engine, &most)? {
+    for (customer, &cents) in of(EntriesSplit::new(sums)).collect_on(&task.engine, &most)? {
         spent.push(Spent { customer, cents })?;
     }
-    let mut text = serde_json::to_string(alloc, &spent).map_err(|_| Failure::NoMemory(AllocError))?;
+    let mut text = serde_json::to_string(alloc, &spent).map_err(|_| NoMemory)?;
     text.push_str("\n")?;
     Ok(Answer::of(text))
 }

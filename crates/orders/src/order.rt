@@ -2,7 +2,8 @@
 use csv::{Error, ErrorKind, Reader};
 use program_frame::{Failure, Host, Task};
 use serde::Deserialize;
-use std::alloc::AllocError;
+use std::alloc::{AllocError, Global};
+use std::io::Read;
 use std::rt::Files;
 use std::time::Clock;
 
@@ -13,20 +14,23 @@ pub struct Order {
     pub cents: i64,
 }
 
-/// The orders of a CSV text.
-pub fn orders_of_text<R: Host + Files + Input + Clock>(
-    task: &Task<'_, '_, R>,
-) -> Result<Vec<Order>, Failure> {
-    let alloc = task.engine.alloc;
-    let mut orders = Vec::new(alloc);
-    for order in Reader::from_reader(alloc, task.input()?).deserialize() {
-        orders.push(order.map_err(|error| no_text(task, error))?)?;
+/// How many orders a batch has.
+const BATCH: usize = 1 << 17;
+
+/// The next batch of orders, of which only the last has fewer.
+pub fn next_batch<I: Read + Drop>(
+    alloc: Global,
+    reader: &mut Reader<I>,
+) -> Result<Vec<Order>, Error> {
+    let mut batch = Vec::new(alloc);
+    for order in reader.deserialize().take(BATCH) {
+        batch.push(order?).map_err(|_| Error::out_of_memory())?;
     }
-    Ok(orders)
+    Ok(batch)
 }
 
 /// The failure of a text.
-fn no_text<R: Host + Files + Input + Clock>(task: &Task<'_, '_, R>, error: Error) -> Failure {
+pub fn no_text<R: Host + Files + Input + Clock>(task: &Task<'_, '_, R>, error: Error) -> Failure {
     let what = format!(in task.engine.alloc; "{error}");
     match (error.into_kind(), what) {
         (ErrorKind::Io(error), _) => task.unread(error),

@@ -4,19 +4,19 @@ ghost use Rattle.parallel_streams.specs.Leaves.{IsCutList};
 ghost use Rattle.parallel_streams.specs.Reports.{IsBarrierReport};
 ghost use Rattle.stages.specs.Flags.{after};
 
-use crate::Plumbing;
+use crate::carry::list_kept;
 use crate::kept::{BarredProgress, Kept, Listed, end_before, end_own};
-use crate::places::Places;
+use crate::{Engine, Plumbing};
 use barriers::{Barrier, Behind, Demand, Need};
 use collectors::{Collector, ToList};
 use leaf_board::Handout;
-use leaf_reading::{LeafEnd, Reading, feed_whole, read_leaf};
+use leaf_reading::{LeafEnd, Pause, Reading, feed_whole, read_leaf};
 use sources::SliceSplit;
 use split_tree::Tree;
 use spliterator::{NoMemory, OrderedValue};
 use stages::{Nothing, Sink, Stage, StreamFlags};
 use std::alloc::Global;
-use stealing_pool::RunEntry;
+use stealing_pool::{Gate, RunEntry};
 
 /// A stream's items through a barrier. A clone of an item must have the item's content: that is part of what the stream relies on.
 ///
@@ -294,14 +294,12 @@ where
         }
     }
 
-    fn make_list(
+    fn make_list<R, H: Gate>(
         &self,
-        alloc: Global,
+        engine: &Engine<'_, R, H>,
         progress: BarredProgress<U::Progress, B::State, U::Item>,
         part: Kept<U::Kept, U::Item>,
         entry: &RunEntry,
-        workers: u32,
-        target: u64,
     ) -> Result<BarredProgress<U::Progress, B::State, U::Item>, NoMemory> {
         let BarredProgress {
             before,
@@ -312,9 +310,7 @@ where
         } = progress;
         match part {
             Kept::Before(part) => {
-                let before = self
-                    .upstream
-                    .make_list(alloc, before, part, entry, workers, target)?;
+                let before = self.upstream.make_list(engine, before, part, entry)?;
                 Ok(BarredProgress {
                     before,
                     state,
@@ -324,16 +320,18 @@ where
                 })
             }
             Kept::Own(pieces) => {
-                let list = pieces.into_list()?;
-                let longest_list = list.len() as u64;
                 let is_cut = entry.cut().is_some();
-                let items = self.barrier.carry(&mut state, list, is_cut)?;
-                let places = Places::cut(alloc, items.as_slice(), workers, target)?;
-                let listed = Some(Listed { items, places });
+                let (listed, longest_list) = list_kept(
+                    engine,
+                    &self.barrier,
+                    &mut state,
+                    pieces,
+                    is_cut,
+                )?;
                 Ok(BarredProgress {
                     before,
                     state,
-                    listed,
+                    listed: Some(listed),
                     passes: false,
                     longest_list,
                 })
@@ -348,9 +346,10 @@ where
         progress.listed.take()
     }
 
-    fn feed_last_leaf<G: Stage<In = U::Item>, K: Sink<G::Out>>(
+    fn feed_last_leaf<P: Pause, G: Stage<In = U::Item>, K: Sink<G::Out>>(
         &self,
         alloc: Global,
+        pause: &P,
         progress: &BarredProgress<U::Progress, B::State, U::Item>,
         stage: &G,
         leaf: usize,
@@ -359,11 +358,11 @@ where
         match &progress.listed {
             Some(listed) => {
                 let items = listed.places.part(&listed.items, leaf);
-                feed_whole(alloc, stage, SliceSplit::new(items), sink)
+                feed_whole(alloc, pause, stage, SliceSplit::new(items), sink)
             }
             None => self
                 .upstream
-                .feed_last_leaf(alloc, &progress.before, stage, leaf, sink),
+                .feed_last_leaf(alloc, pause, &progress.before, stage, leaf, sink),
         }
     }
 

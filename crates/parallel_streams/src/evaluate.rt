@@ -178,14 +178,7 @@ fn run_barrier<R: Threads + Clock + Sync, X: Plumbing, H: Gate + Sync>(
         engine.run.gate,
     )?;
     engine.run.gate.goes_on()?;
-    let after = stream.make_list(
-        engine.alloc,
-        progress,
-        ran.acc,
-        &ran.entry,
-        engine.run.workers,
-        engine.run.target,
-    )?;
+    let after = stream.make_list(engine, progress, ran.acc, &ran.entry)?;
     Ok((after, ran.entry))
 }
 

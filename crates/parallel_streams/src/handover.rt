@@ -14,7 +14,7 @@ use crate::{Engine, Plumbing};
 use barriers::Need;
 use collectors::{Collector, fold_owned};
 use leaf_board::Handout;
-use leaf_reading::{LeafEnd, Portion};
+use leaf_reading::{LeafEnd, Pause, Portion};
 use split_tree::Tree;
 use spliterator::NoMemory;
 use stages::Nothing;
@@ -111,6 +111,19 @@ fn list_for<T: Drop>(alloc: Global, size: Option<u64>) -> Vec<T>
     list
 }
 
+// A gate that is told of each stretch of a leaf, and asked behind it.
+#[derive(Drop)]
+struct Stretches<'g, H> {
+    gate: &'g H,
+}
+
+impl<H: Gate> Pause for Stretches<'_, H> {
+    fn goes_on(&self) -> Result<(), NoMemory> {
+        self.gate.after_stretch();
+        self.gate.goes_on()
+    }
+}
+
 // Lists all that the leaves of the last run give, one leaf after another in this thread.
 fn list_leaves<R, X: Plumbing, H: Gate>(
     engine: &Engine<'_, R, H>,
@@ -126,12 +139,20 @@ fn list_leaves<R, X: Plumbing, H: Gate>(
     let nothing = Nothing::new();
     let gate = engine.run.gate;
     let mut list = list_for::<X::Item>(engine.alloc, stream.known_size());
+    let stretches = Stretches { gate };
     gate.goes_on()?;
     gate.before_run(stream.leaves(progress));
     for leaf in 0..stream.leaves(progress) {
         gate.goes_on()?;
         gate.before_leaf(0, leaf);
-        let fed = stream.feed_last_leaf(engine.alloc, progress, &nothing, leaf, &mut list);
+        let fed = stream.feed_last_leaf(
+            engine.alloc,
+            &stretches,
+            progress,
+            &nothing,
+            leaf,
+            &mut list,
+        );
         gate.after_leaf(0, leaf);
         fed?;
     }

@@ -2,6 +2,7 @@
 #![tactic(auto)]
 
 mod barred;
+mod carry;
 mod contrary;
 mod engine;
 mod evaluate;
@@ -16,6 +17,7 @@ mod staged;
 mod stream;
 
 pub use barred::Barred;
+pub use carry::list_kept;
 pub use engine::Engine;
 pub use kept::{BarredProgress, Kept, Listed, end_before, end_own};
 pub use places::Places;

@@ -16,16 +16,17 @@ ghost use Rattle.parallel_streams.specs.Progress.{IsCut};
 ghost use Rattle.parallel_streams.specs.Reading.{first_segment, most_read};
 ghost use Rattle.parallel_streams.specs.Runs.{IsLawfulRun};
 
+use crate::Engine;
 use crate::kept::Listed;
 use barriers::{Demand, Need};
 use collectors::Collector;
 use leaf_board::Handout;
-use leaf_reading::{LeafEnd, Reading};
+use leaf_reading::{LeafEnd, Pause, Reading};
 use split_tree::Tree;
 use spliterator::{NoMemory, OrderedValue};
 use stages::{Sink, Stage, StreamFlags};
 use std::alloc::Global;
-use stealing_pool::RunEntry;
+use stealing_pool::{Gate, RunEntry};
 
 /// What one thread does of a stream's runs. No caller needs it: the terminal operations start the threads.
 ///
@@ -224,18 +225,15 @@ pub trait Plumbing: Sync {
         requires { ready self.now }
         ensures { OnOk result (Combines (work self.now progress.now) kept.old following kept.new) };
 
-    /// Gathers what the run of the next barrier kept into the barrier's list.
-    fn make_list(
+    /// Gathers what the run of the next barrier kept into the barrier's list. The gate may halt it.
+    fn make_list<R, H: Gate>(
         &self,
-        alloc: Global,
+        engine: &Engine<'_, R, H>,
         progress: Self::Progress,
         part: Self::Kept,
         entry: &RunEntry,
-        workers: u32,
-        target: u64,
     ) -> Result<Self::Progress, NoMemory>
         requires ready { ready self.now }
-        requires settings { IsLawfulRun workers target }
         requires holds { holds self.now progress }
         requires part { StandsForRun (work self.now progress) part }
         requires entry { Reports (work self.now progress).needed (work self.now progress).leaves (work self.now progress).full entry.now.leaves (count_of entry.now) (cut_of entry.now) }
@@ -246,11 +244,11 @@ pub trait Plumbing: Sync {
         ensures reads { done self.now progress ≡ false
             → (from to : ℕ) → reads self.now progress from to
             → IfOk result (λ after. reads self.now after from to) }
-        ensures planned { done self.now progress ≡ false → planned self.now workers target progress
-            → IfOk result (planned self.now workers target) }
-        ensures entries { done self.now progress ≡ false → planned self.now workers target progress
-            → (entries : List Outcome) → told_so_far self.now workers target progress entries
-            → IfOk result (λ after. told_so_far self.now workers target after (entries ++ entry.now ∷ [])) }
+        ensures planned { done self.now progress ≡ false → planned self.now engine.now.run.workers engine.now.run.target progress
+            → IfOk result (planned self.now engine.now.run.workers engine.now.run.target) }
+        ensures entries { done self.now progress ≡ false → planned self.now engine.now.run.workers engine.now.run.target progress
+            → (entries : List Outcome) → told_so_far self.now engine.now.run.workers engine.now.run.target progress entries
+            → IfOk result (λ after. told_so_far self.now engine.now.run.workers engine.now.run.target after (entries ++ entry.now ∷ [])) }
         ensures fewer { done self.now progress ≡ false → IfOk result (λ after. waiting self.now after < waiting self.now progress) };
 
     /// Takes the last barrier's list, where its items are all of the segment's as they are. The segment is read then.
@@ -267,9 +265,10 @@ pub trait Plumbing: Sync {
     }
 
     /// Feeds a leaf of the last run through a stage to a sink.
-    fn feed_last_leaf<G: Stage<In = Self::Item>, K: Sink<G::Out>>(
+    fn feed_last_leaf<P: Pause, G: Stage<In = Self::Item>, K: Sink<G::Out>>(
         &self,
         alloc: Global,
+        pause: &P,
         progress: &Self::Progress,
         stage: &G,
         leaf: usize,

@@ -35,14 +35,17 @@ struct Extent {
     growth: u64,
 }
 
+// Of a source item come so many at most where a search runs over the whole source at once: a worker asks after some thousand source items whether it may end.
+const FEW: u64 = 1 << 10;
+
 impl Extent {
-    // That of a stream's first segment: it has no bound where no operation looks at more than one item.
-    fn first<X: Plumbing>(stream: &X) -> Extent
+    // That of a stream's first segment: it has no bound where no operation looks at more than one item, and at most `few` come of each source item.
+    fn first<X: Plumbing>(stream: &X, few: u64) -> Extent
         ensures undecided { result.most ≡ None → (n : ℕ) → X.decided stream.now n → ⊥ }
         ensures bounded { X.barred stream.now ≡ true → result.most ≢ None }
     {
         let growth = stream.growth().max(1);
-        let most = if stream.has_barrier() {
+        let most = if growth > few || stream.has_barrier() {
             Some((FIRST / growth).max(1))
         } else {
             None
@@ -143,7 +146,7 @@ where
     ensures read { IfOk result (λ r. (read : ℕ) × X.read stream.now r.0 read
         × (X.fine stream.now → ReadsLittle (X.decided stream.now) read)) }
 {
-    let mut extent = Extent::first(stream);
+    let mut extent = Extent::first(stream, u64::MAX);
     let own = engine_of(engine, &extent);
     let begun = stream.start(engine.alloc, own.run.workers, own.run.target, extent.most)?;
     let (mut progress, mut whole) = collect_segment(&own, stream, begun, collector)?;
@@ -302,7 +305,7 @@ where
         IfOk result (λ r. (read : ℕ) × X.read stream.now r.0 read
         × (X.fine stream.now → X.barred stream.now ≡ true → ReadsLittle ends read)) }
 {
-    let mut extent = Extent::first(stream);
+    let mut extent = Extent::first(stream, FEW);
     let own = engine_of(engine, &extent);
     let begun = stream.start(engine.alloc, own.run.workers, own.run.target, extent.most)?;
     let (mut progress, mut whole, mut is_hit) = search_segment(

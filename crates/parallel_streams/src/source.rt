@@ -7,17 +7,17 @@ ghost use Rattle.parallel_streams.specs.Reading.{Each, SplitsFinely, first_segme
 ghost use Rattle.parallel_streams.specs.Runs.{IsLawfulRun};
 ghost use Rattle.parallel_streams.specs.Sources.{items_behind, weight_behind};
 
-use crate::Plumbing;
+use crate::{Engine, Plumbing};
 use barriers::{Demand, Need};
 use collectors::Collector;
 use leaf_board::Handout;
-use leaf_reading::{LeafEnd, Portion, Reading, feed_whole, read_leaf};
+use leaf_reading::{LeafEnd, Pause, Portion, Reading, feed_whole, read_leaf};
 use sources::RowsSplit;
 use split_tree::{Plan, PlanError, Tree};
 use spliterator::{NoMemory, Spliterator};
 use stages::{Sink, Stage, StreamFlags};
 use std::alloc::Global;
-use stealing_pool::RunEntry;
+use stealing_pool::{Gate, RunEntry};
 
 /// The items of a source.
 #[derive(Clone, Copy, Drop)]
@@ -326,27 +326,26 @@ where
         Ok(())
     }
 
-    fn make_list(
+    fn make_list<R, H: Gate>(
         &self,
-        _alloc: Global,
+        _engine: &Engine<'_, R, H>,
         progress: SourceProgress<S>,
         _part: (),
         _entry: &RunEntry,
-        _workers: u32,
-        _target: u64,
     ) -> Result<SourceProgress<S>, NoMemory> {
         Ok(progress)
     }
 
-    fn feed_last_leaf<G: Stage<In = S::Item>, K: Sink<G::Out>>(
+    fn feed_last_leaf<P: Pause, G: Stage<In = S::Item>, K: Sink<G::Out>>(
         &self,
         alloc: Global,
+        pause: &P,
         progress: &SourceProgress<S>,
         stage: &G,
         leaf: usize,
         sink: &mut K,
     ) -> Result<(), NoMemory> {
-        feed_whole(alloc, stage, progress.plan.leaf(leaf), sink)
+        feed_whole(alloc, pause, stage, progress.plan.leaf(leaf), sink)
     }
 
     fn run_last_leaf<

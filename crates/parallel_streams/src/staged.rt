@@ -5,16 +5,16 @@ ghost use Rattle.parallel_streams.specs.LeafLaws.{joined-through, left-through, 
 ghost use Rattle.parallel_streams.specs.ReadingLaws.{front-through};
 ghost use Rattle.stages.specs.Flags.{after};
 
-use crate::Plumbing;
+use crate::{Engine, Plumbing};
 use barriers::{Demand, Need};
 use collectors::Collector;
 use leaf_board::Handout;
-use leaf_reading::{LeafEnd, Reading};
+use leaf_reading::{LeafEnd, Pause, Reading};
 use split_tree::Tree;
 use spliterator::NoMemory;
 use stages::{Sink, Stage, StreamFlags, Then};
 use std::alloc::Global;
-use stealing_pool::RunEntry;
+use stealing_pool::{Gate, RunEntry};
 
 /// A stream's items through a stateless stage.
 #[derive(Clone, Copy, Drop)]
@@ -185,22 +185,20 @@ where
         self.upstream.combine(alloc, progress, kept, following)
     }
 
-    fn make_list(
+    fn make_list<R, H: Gate>(
         &self,
-        alloc: Global,
+        engine: &Engine<'_, R, H>,
         progress: U::Progress,
         part: U::Kept,
         entry: &RunEntry,
-        workers: u32,
-        target: u64,
     ) -> Result<U::Progress, NoMemory> {
-        self.upstream
-            .make_list(alloc, progress, part, entry, workers, target)
+        self.upstream.make_list(engine, progress, part, entry)
     }
 
-    fn feed_last_leaf<G: Stage<In = A::Out>, K: Sink<G::Out>>(
+    fn feed_last_leaf<P: Pause, G: Stage<In = A::Out>, K: Sink<G::Out>>(
         &self,
         alloc: Global,
+        pause: &P,
         progress: &U::Progress,
         stage: &G,
         leaf: usize,
@@ -208,7 +206,7 @@ where
     ) -> Result<(), NoMemory> {
         let fused = Then::new(&self.stage, stage);
         self.upstream
-            .feed_last_leaf(alloc, progress, &fused, leaf, sink)
+            .feed_last_leaf(alloc, pause, progress, &fused, leaf, sink)
     }
 
     fn run_last_leaf<

@@ -1,18 +1,14 @@
 -- A line has the answer that reading gives: the thing of the line, or its fault.
 use Rattle.std.proofs.Common.{◌≡◌, ℕ, suc, Bool, true, false, List, [], ◌∷◌, ◌++◌, length, Result, Ok, Err, refl, sym, ap, subst, ◌∙◌, inl, inr, arith}
-use Rattle.std.specs.Prelude.{IsUtf8}
-use Rattle.std.specs.Str.{is_utf8}
+use Rattle.std.{specs.Prelude.IsUtf8, specs.Str.is_utf8, proofs.lemmas.List.append-nil}
 use Rattle.std.proofs.lemmas.Bool.{cond_both, cond-true, false≢true}
-use Rattle.std.proofs.lemmas.List.{append-nil}
 use Rattle.std.proofs.lemmas.Str.{is_utf8-from_IsUtf8, IsUtf8-from_is_utf8}
-use Rattle.file_words.specs.declared.fault.FileError.{FileError}
+use Rattle.file_words.specs.{declared.fault.FileError.FileError, Words.words_of}
 use Rattle.file_words.specs.declared.fault.FileError.TheVariants.{BadText, WrongKind}
-use Rattle.file_words.specs.Words.{words_of}
 use Rattle.pipeline_language.specs.Form.{NamesFit, WordsFit, Forms, AreWordsOf, IsLineOf, WordsFault, LineFault}
 use Rattle.file_words.specs.WordReading.{◌>>=◌, Left, Reader, ended}
 use Rattle.pipeline_language.specs.Reading.{whole, fitting, line_of}
-use Rattle.pipeline_language.proofs.FormLemmas.{stops_at_names, stops_at_length, stops_at_numbers, stops_at_kind, stops_at_limits, line_or_fault, one_line_fault}
-use Rattle.pipeline_language.proofs.PhraseLemmas.{AtEnd, Phrase, Found, Met}
+use Rattle.pipeline_language.proofs.PhraseLemmas.{stops_at_names, stops_at_length, stops_at_numbers, stops_at_kind, stops_at_limits, line_or_fault, one_line_fault, AtEnd, Phrase, Found, Met}
 
 -- the thing that the words spell, or their fault
 abbrev pub AnswersWords : {X : Type 0} → Forms X → List (List ℕ) → Result X FileError → Type 0

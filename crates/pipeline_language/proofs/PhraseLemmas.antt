@@ -1,16 +1,93 @@
--- Reading a thing's words, front by front: what is found, and that nothing else was there.
-use Rattle.std.proofs.Common.{◌≡◌, ◌⊎◌, ℕ, ◌+◌, Bool, true, false, List, [], ◌∷◌, ◌++◌, length, Result, Ok, Err, refl, sym, ap, subst, ◌∙◌, inl, inr, arith}
-use Rattle.std.specs.Prelude.{◌&&◌, if◌then◌else◌}
-use Rattle.std.specs.Str.{bytes_eq}
-use Rattle.std.proofs.lemmas.Bool.{and_from, and_parts}
-use Rattle.std.proofs.lemmas.List.{append-nil, append_assoc, length-append}
-use Rattle.std.proofs.lemmas.Slice.Eq.{bytes_eq-Decides}
+-- One line has one reading: its thing or its fault, and never both.
+use Rattle.std.proofs.Common.{◌≡◌, ℕ, suc, List, [], ◌∷◌, length, refl, sym, ap, ◌∙◌, inl, inr, ◌⊎◌, ◌+◌, Bool, true, false, ◌++◌, Result, Ok, Err, subst, arith, map, Option, Some, None, ◌&&◌, if◌then◌else◌, ℤ, pos, negsuc, ◌≤ℤ◌, int_le, unsigned_abs}
 use Rattle.file_words.specs.declared.fault.FileError.{FileError}
-use Rattle.file_words.specs.declared.fault.FileError.TheVariants.{UnknownWord, BadArity}
-use Rattle.pipeline_language.specs.Form.{Slot, Name, EitherName, NameFits, WordFits, NamesFit, WordsFit, all_known}
-use Rattle.file_words.specs.WordReading.{◌>>=◌, Left, Reader, next_word}
+use Rattle.file_words.specs.declared.fault.FileError.TheVariants.{UnknownWord, BadArity, BadNumber, WrongKind}
+use Rattle.file_words.specs.Words.{words_of, lowest, highest}
+use Rattle.pipeline_language.specs.Form.{Slot, Name, EitherName, NameFits, WordFits, NamesFit, WordsFit, Forms, AreWordsOf, IsLineOf, Tests, NoTest, Test, FirstFault, tests, WordsFault, LineFault, all_known, Number, number, AnyWord}
+use Rattle.std.{specs.Str.bytes_eq, proofs.lemmas.Slice.Eq.bytes_eq-Decides, specs.Int.Signed.le_z_yes, specs.Fmt.signed_decimal, proofs.lemmas.Float.T_from_true, proofs.lemmas.Int.ints}
+use Rattle.std.proofs.lemmas.Bool.{and_from, and_parts, cond_both, cond-true, false≢true}
+use Rattle.std.proofs.lemmas.List.{append-nil, append_assoc, length-append}
+use Rattle.file_words.specs.WordReading.{◌>>=◌, Left, Reader, next_word, next_number, next_natural, number_at, number_of, numbers_from, with_first, all_numbers}
 use Rattle.pipeline_language.specs.Reading.{ByName, nothing, both, named, made_of, unknown, by_name}
-use Rattle.pipeline_language.proofs.FormLemmas.{name_of_word}
+use Rattle.file_words.proofs.NumberLemmas.{number_of_number, number_is, fits_bounds, bounds_fit}
+use Rattle.pipeline_language.specs.Syntax.{Plain, Within, Joint, joint_slots, joint_of}
+
+-- a word that fits its place has the place's name
+pub name_of_word : (slot : Slot) (word : List ℕ) → WordFits slot word → NameFits slot word
+name_of_word (Name name) word fits = fits
+name_of_word (EitherName name other) word fits = fits
+name_of_word slot word fits = tt
+
+pub names_of_words : (slots : List Slot) (words : List (List ℕ)) → WordsFit slots words → NamesFit slots words
+names_of_words [] [] fits = tt
+names_of_words [] (word ∷ words) fits = absurd fits
+names_of_words (slot ∷ slots) [] fits = absurd fits
+names_of_words (slot ∷ slots) (word ∷ words) fits = (name_of_word slot word fits.0, names_of_words slots words fits.1)
+
+pub length_of_words : (slots : List Slot) (words : List (List ℕ)) → WordsFit slots words → length slots ≡ length words
+length_of_words [] [] fits = refl
+length_of_words [] (word ∷ words) fits = absurd fits
+length_of_words (slot ∷ slots) [] fits = absurd fits
+length_of_words (slot ∷ slots) (word ∷ words) fits = ap suc (length_of_words slots words fits.1)
+
+-- The first fault is one fault.
+pub one_fault : {X : Type 0} (all : Tests X) (before : X → Type 0) (j k : FileError) → FirstFault all before j → FirstFault all before k → j ≡ k
+one_fault NoTest before j k f g = absurd f
+one_fault (Test fault test more) before j k (inl f) (inl g) = f.0 ∙ sym g.0
+one_fault (Test fault test more) before j k (inl f) (inr g) = absurd (f.1 g.0.0 g.0.1 g.0.2)
+one_fault (Test fault test more) before j k (inr f) (inl g) = absurd (g.1 f.0.0 f.0.1 f.0.2)
+one_fault (Test fault test more) before j k (inr f) (inr g) = one_fault more (λ x. before x × test x) j k f.1 g.1
+
+-- What passes every test is no fault.
+abbrev PassesAll : {X : Type 0} → Tests X → X → Type 0
+PassesAll NoTest x = Unit {0}
+PassesAll (Test fault test more) x = test x × PassesAll more x
+
+no_fault : {X : Type 0} (all : Tests X) (before : X → Type 0) (x : X) (k : FileError) → before x → PassesAll all x → FirstFault all before k → ⊥
+no_fault NoTest before x k was passes f = f
+no_fault (Test fault test more) before x k was passes (inl f) = f.1 x was passes.0
+no_fault (Test fault test more) before x k was passes (inr f) = no_fault more (λ x. before x × test x) x k (was, passes.0) passes.1 f.1
+
+pub words_or_fault : {X : Type 0} (forms : Forms X) (words : List (List ℕ)) (x : X) (k : FileError) → AreWordsOf forms words x → WordsFault forms words k → ⊥
+words_or_fault forms words x k is f = no_fault (tests forms words) (λ x. Unit {0}) x k tt
+    ((is.known, names_of_words (forms.slots x) words is.spelled), (length_of_words (forms.slots x) words is.spelled, (is.spelled, (is.kind, (is.limits, tt))))) f
+
+pub line_or_fault : {X : Type 0} (forms : Forms X) (line : List ℕ) (x : X) (k : FileError) → IsLineOf forms line x → LineFault forms line k → ⊥
+line_or_fault forms line x k is (inl f) = f.0 is.0
+line_or_fault forms line x k is (inr f) = words_or_fault forms (words_of line) x k is.1 f.1
+
+pub one_line_fault : {X : Type 0} (forms : Forms X) (line : List ℕ) (j k : FileError) → LineFault forms line j → LineFault forms line k → j ≡ k
+one_line_fault forms line j k (inl f) (inl g) = f.1 ∙ sym g.1
+one_line_fault forms line j k (inl f) (inr g) = absurd (f.0 g.0)
+one_line_fault forms line j k (inr f) (inl g) = absurd (g.0 f.0)
+one_line_fault forms line j k (inr f) (inr g) = one_fault (tests forms (words_of line)) (λ x. Unit {0}) j k f.1 g.1
+
+-- Where each test stops.
+module _ {X : Type 0} (forms : Forms X) (words : List (List ℕ)) where
+  pub stops_at_names : ((x : X) → forms.known x ≡ true → NamesFit (forms.slots x) words → ⊥) → WordsFault forms words UnknownWord
+  stops_at_names none = inl (refl, λ x was test. none x test.0 test.1)
+
+  pub stops_at_length : (x : X) → forms.known x ≡ true → NamesFit (forms.slots x) words → ((x : X) → forms.known x ≡ true → NamesFit (forms.slots x) words → length (forms.slots x) ≡ length words → ⊥) → WordsFault forms words BadArity
+  stops_at_length x known fits none =
+      inr ((x, tt, (known, fits)), inl (refl, λ x was test. none x was.1.0 was.1.1 test))
+
+  pub stops_at_numbers : (x : X) → forms.known x ≡ true → NamesFit (forms.slots x) words → length (forms.slots x) ≡ length words → ((x : X) → forms.known x ≡ true → WordsFit (forms.slots x) words → ⊥) → WordsFault forms words BadNumber
+  stops_at_numbers x known fits len none =
+      inr ((x, tt, (known, fits)), inr ((x, (tt, (known, fits)), len), inl (refl, λ x was test. none x was.0.1.0 test)))
+
+  pub stops_at_kind : (x : X) → forms.known x ≡ true → WordsFit (forms.slots x) words → ((x : X) → forms.known x ≡ true → WordsFit (forms.slots x) words → forms.takes_kind x ≡ true → ⊥) → WordsFault forms words WrongKind
+  stops_at_kind x known fits none =
+      let names : (forms.known x ≡ true) × NamesFit (forms.slots x) words = (known, names_of_words (forms.slots x) words fits) in
+      let len : length (forms.slots x) ≡ length words = length_of_words (forms.slots x) words fits in
+      inr ((x, tt, names), inr ((x, (tt, names), len), inr ((x, ((tt, names), len), fits), inl (refl, λ x was test. none x was.0.0.1.0 was.1 test))))
+
+  pub stops_at_limits : (x : X) → forms.known x ≡ true → WordsFit (forms.slots x) words → forms.takes_kind x ≡ true → ((x : X) → forms.known x ≡ true → WordsFit (forms.slots x) words → forms.takes_kind x ≡ true → forms.in_limits x ≡ true → ⊥) → WordsFault forms words forms.limit_fault
+  stops_at_limits x known fits kind none =
+      let names : (forms.known x ≡ true) × NamesFit (forms.slots x) words = (known, names_of_words (forms.slots x) words fits) in
+      let len : length (forms.slots x) ≡ length words = length_of_words (forms.slots x) words fits in
+      inr ((x, tt, names), inr ((x, (tt, names), len), inr ((x, ((tt, names), len), fits), inr ((x, (((tt, names), len), fits), kind), inl (refl, λ x was test. none x was.0.0.0.1.0 was.0.1 was.1 test)))))
+
+-- Reading a thing's words, front by front: what is found, and that nothing else was there.
 
 -- what may follow a thing: anything, or nothing
 abbrev pub Anything : List Slot → Type 0
@@ -253,3 +330,188 @@ module _ {X : Type 0} {follow : List Slot → Type 0} {known : X → Bool} {slot
 -- What stands before anything also stands at the end.
 pub at_end : {X : Type 0} {known : X → Bool} {slots : X → List Slot} {read : Reader X} → Phrase Anything known slots read → Phrase AtEnd known slots read
 at_end p = record { some = p.some; sound = p.sound; knows = λ x known. let k = p.knows x known in record { met = λ more f. k.met more tt; spelled = λ more f. k.spelled more tt } }
+
+-- Numbers in their places.
+
+le_true : (a b : ℤ) → a ≤ℤ b → int_le a b ≡ true
+le_true a b h = grind (arith, ints, h)
+
+-- a number of a range
+module _ (low high : ℤ) (above : lowest ≤ℤ low) (below : high ≤ℤ highest) where
+  abbrev in_range : ℤ → List Slot
+  in_range n = Number low high n ∷ []
+
+  found_at : (word : List ℕ) (words : List (List ℕ)) (good : Bool) (o : Option ℤ) → number_of word ≡ o → Found all_known in_range (word ∷ words) good (Ok (number_at low high (record { words = words; good = good }) o))
+  found_at word words good None is = (omega arith, (λ more n. (tt, n)), (λ t. absurd (false≢true t)), refl)
+  found_at word words good (Some n) is = cond_both {A = ℤ × Left} (int_le low n && int_le n high) (n, record { words = words; good = good }) (low, record { words = words; good = false }) (λ r. Found all_known in_range (word ∷ words) good (Ok r))
+      (λ t. let p = and_parts _ _ t in
+      (omega arith, (λ more k. (tt, k)), (λ g. (g, λ more w. ((le_z_yes (T_from_true _ p.0), le_z_yes (T_from_true _ p.1), (number_is word n is).1), w))), refl))
+      (λ t. (omega arith, (λ more k. (tt, k)), (λ g. absurd (false≢true g)), refl))
+
+  words_at : (words : List (List ℕ)) (good : Bool) (o : Option ℤ) → (number_at low high (record { words = words; good = good }) o).1.words ≡ words
+  words_at words good None = refl
+  words_at words good (Some n) = cond_both {A = ℤ × Left} (int_le low n && int_le n high) (n, record { words = words; good = good }) (low, record { words = words; good = false }) (λ r. r.1.words ≡ words) (λ t. refl) (λ t. refl)
+
+  number_sound : (words : List (List ℕ)) (good : Bool) → Found all_known in_range words good (next_number low high (record { words = words; good = good }))
+  unfolding next_number next_word
+  number_sound [] good = inr (refl, (low, (λ more. tt), refl))
+  number_sound (word ∷ words) good = found_at word words good (number_of word) refl
+
+  number_met : (n : ℤ) (more : List Slot) → Anything more → (words : List (List ℕ)) (good : Bool) → NamesFit (in_range n ++ more) words → Met more (length (in_range n ++ more) ≡ length words) (next_number low high (record { words = words; good = good }))
+  unfolding next_number next_word
+  number_met n more f [] good k = (refl, λ len. absurd (omega (arith, len)))
+  number_met n more f (word ∷ words) good k =
+      let same = words_at words good (number_of word) in (subst (NamesFit more) (sym same) k.1, λ len. omega (arith, len, ap length same))
+
+  number_spelled : (n : ℤ) (more : List Slot) → Anything more → (words : List (List ℕ)) (good : Bool) → WordsFit (in_range n ++ more) words → Spelled more n good (next_number low high (record { words = words; good = good }))
+  unfolding next_number next_word
+  number_spelled n more f [] good w = absurd w
+  number_spelled n more f (word ∷ words) good w =
+      let left : Left = record { words = words; good = good } in
+      let wide_low : lowest ≤ℤ n = omega (arith, ints, above, w.0.0) in
+      let wide_high : n ≤ℤ highest = omega (arith, ints, below, w.0.1) in
+      let read : number_of word ≡ Some n = number_of_number word n (bounds_fit n wide_low wide_high, w.0.2) in
+      let tested : (int_le low n && int_le n high) ≡ true = and_from _ _ (le_true low n w.0.0) (le_true n high w.0.1) in
+      let at : number_at low high left (number_of word) ≡ (n, left) = ap (number_at low high left) read ∙ cond-true (int_le low n && int_le n high) (n, left) (low, record { words = words; good = false }) tested in
+      (words, ap (λ r. let found : Result (ℤ × Left) FileError = Ok r in found) at, w.1)
+
+  pub number_phrase : Phrase Anything all_known in_range (next_number low high)
+  number_phrase = record { some = (low, refl); sound = number_sound; knows = λ n _. record { met = number_met n; spelled = number_spelled n } }
+
+-- a number of a range that has no negative ones
+module _ (high : ℤ) (below : high ≤ℤ highest) where
+  abbrev natural_slots : ℕ → List Slot
+  natural_slots n = Number (pos 0) high (pos n) ∷ []
+
+  any_number : Phrase Anything all_known (λ n. Number (pos 0) high n ∷ []) (next_number (pos 0) high)
+  any_number = number_phrase (pos 0) high (le_z_yes tt) below
+
+  same_names : (m n : ℤ) (more : List Slot) (words : List (List ℕ)) → NamesFit (Number (pos 0) high m ∷ more) words → NamesFit (Number (pos 0) high n ∷ more) words
+  same_names m n more [] k = tt
+  same_names m n more (word ∷ words) k = k
+
+  as_natural : (z : ℤ) (more : List Slot) (words : List (List ℕ)) → WordsFit (Number (pos 0) high z ∷ more) words → WordsFit (natural_slots (unsigned_abs z) ++ more) words
+  as_natural z more [] w = absurd w
+  as_natural (pos n) more (word ∷ words) w = w
+  as_natural (negsuc n) more (word ∷ words) w = absurd (omega (arith, ints, w.0.0))
+
+  natural_found : (words : List (List ℕ)) (good : Bool) (r : Result (ℤ × Left) FileError) → Found all_known (λ n. Number (pos 0) high n ∷ []) words good r → Found all_known natural_slots words good (r >>= λ n. Ok (unsigned_abs n.0, n.1))
+  natural_found words good (Err kind) (inl e) = inl e
+  natural_found words good (Err kind) (inr e) = inr (e.0, (unsigned_abs e.1.0, (λ more. same_names e.1.0 (pos (unsigned_abs e.1.0)) more words (e.1.1 more)), refl))
+  natural_found words good (Ok r) f =
+      (f.0, (λ more k. same_names r.0 (pos (unsigned_abs r.0)) more words (f.1 more k)), (λ t. let h = f.2 t in (h.0, λ more w. as_natural r.0 more words (h.1 more w))), refl)
+
+  pub natural_phrase : Phrase Anything all_known natural_slots (next_natural high)
+  unfolding next_natural
+  natural_phrase = record {
+    some = (0, refl);
+    sound = λ words good. natural_found words good (next_number (pos 0) high (record { words = words; good = good })) (any_number.sound words good);
+    knows = λ n _. let k = any_number.knows (pos n) refl in record {
+      met = λ more f words good m. met_made more (length (natural_slots n ++ more) ≡ length words) unsigned_abs (next_number (pos 0) high (record { words = words; good = good })) (k.met more f words good m);
+      spelled = λ more f words good w. let h = k.spelled more f words good w in (h.0, ap (λ r. r >>= λ n. Ok (unsigned_abs n.0, n.1)) h.1, h.2);
+    };
+  }
+
+-- all the numbers that are left
+number_in_place : (word : List ℕ) (n : ℤ) → number_of word ≡ Some n → (lowest ≤ℤ n) × (n ≤ℤ highest) × (word ≡ signed_decimal n)
+number_in_place word n is = let k = number_is word n is in let b = fits_bounds n k.0 in (b.0, b.1, k.1)
+
+abbrev number_list : List ℤ → List Slot
+number_list ns = map number ns
+
+found_first : (word : List ℕ) (words : List (List ℕ)) (good : Bool) (o : Option ℤ) → number_of word ≡ o → ((g : Bool) → Found all_known number_list words g (Ok (numbers_from words g))) → Found all_known number_list (word ∷ words) good (Ok (with_first o good (numbers_from words)))
+found_first word words good (Some n) is found =
+    let f = found good in
+    (omega (arith, f.0), (λ more k. (tt, f.1 more k)), (λ t. let h = f.2 t in (h.0, λ more w. (number_in_place word n is, h.1 more w))), refl)
+found_first word words good None is found =
+    let f = found false in
+    (omega (arith, f.0), (λ more k. (tt, f.1 more k)), (λ t. absurd (false≢true (f.2 t).0)), refl)
+
+all_found : (words : List (List ℕ)) (good : Bool) → Found all_known number_list words good (Ok (numbers_from words good))
+all_found [] good = (omega arith, (λ more n. n), (λ t. (t, λ more w. w)), refl)
+all_found (word ∷ words) good = found_first word words good (number_of word) refl (all_found words)
+
+none_first : (words : List (List ℕ)) (good : Bool) (o : Option ℤ) → ((g : Bool) → (numbers_from words g).1.words ≡ []) → (with_first o good (numbers_from words)).1.words ≡ []
+none_first words good (Some n) none = none good
+none_first words good None none = none false
+
+none_after : (words : List (List ℕ)) (good : Bool) → (numbers_from words good).1.words ≡ []
+none_after [] good = refl
+none_after (word ∷ words) good = none_first words good (number_of word) (none_after words)
+
+all_read : (ns : List ℤ) (words : List (List ℕ)) (good : Bool) → WordsFit (number_list ns) words → numbers_from words good ≡ (ns, record { words = []; good = good })
+all_read [] [] good w = refl
+all_read [] (word ∷ words) good w = absurd w
+all_read (n ∷ ns) [] good w = absurd w
+all_read (n ∷ ns) (word ∷ words) good w =
+    let read : number_of word ≡ Some n = number_of_number word n (bounds_fit n w.0.0 w.0.1, w.0.2) in
+    ap (λ o. with_first o good (numbers_from words)) read ∙ ap (λ r. let found : List ℤ × Left = (n ∷ r.0, r.1) in found) (all_read ns words good w.1)
+
+pub all_numbers_phrase : Phrase AtEnd all_known number_list all_numbers
+unfolding all_numbers
+all_numbers_phrase = record {
+  some = ([], refl);
+  sound = all_found;
+  knows = λ ns _. at_end_knows (λ words good k. (tt, λ len. ap length (none_after words good)))
+      (λ words good w. ([], ap (λ r. let found : Result (List ℤ × Left) FileError = Ok r in found) (all_read ns words good w), tt));
+}
+
+-- Words that may be any.
+
+abbrev word_slots : List ℕ → List Slot
+word_slots text = AnyWord text ∷ []
+
+word_sound : (words : List (List ℕ)) (good : Bool) → Found all_known word_slots words good (next_word (record { words = words; good = good }))
+unfolding next_word
+word_sound [] good = inr (refl, ([], (λ more. tt), refl))
+word_sound (word ∷ words) good = (omega arith, (λ more n. (tt, n)), (λ t. (t, λ more w. (refl, w))), refl)
+
+word_met : (text : List ℕ) (more : List Slot) → Anything more → (words : List (List ℕ)) (good : Bool) → NamesFit (word_slots text ++ more) words → Met more (length (word_slots text ++ more) ≡ length words) (next_word (record { words = words; good = good }))
+unfolding next_word
+word_met text more f [] good n = (refl, λ len. absurd (omega (arith, len)))
+word_met text more f (word ∷ words) good n = (n.1, λ len. omega (arith, len))
+
+word_spelled : (text : List ℕ) (more : List Slot) → Anything more → (words : List (List ℕ)) (good : Bool) → WordsFit (word_slots text ++ more) words → Spelled more text good (next_word (record { words = words; good = good }))
+unfolding next_word
+word_spelled text more f [] good w = absurd w
+word_spelled text more f (word ∷ words) good w = (words, ap (λ t. let found : Result (List ℕ × Left) FileError = Ok (t, record { words = words; good = good }) in found) w.0, w.1)
+
+pub word_phrase : Phrase Anything all_known word_slots next_word
+word_phrase = record { some = ([], refl); sound = word_sound; knows = λ text _. record { met = word_met text; spelled = word_spelled text } }
+
+-- what follows the name `joining`
+joint_sound : (words : List (List ℕ)) (good : Bool) → Found all_known joint_slots words good (joint_of (record { words = words; good = good }))
+unfolding joint_of next_word
+joint_sound [] good = inr (refl, (Plain [], (λ more. tt), refl))
+joint_sound (between ∷ []) good = (refl, (λ more n. (tt, n)), (λ t. (t, λ more w. (refl, w))), refl)
+joint_sound (between ∷ front ∷ []) good = inr (refl, (Within between front [], (λ more. (tt, (tt, tt))), refl))
+joint_sound (between ∷ front ∷ back ∷ words) good = (omega arith, (λ more n. (tt, (tt, (tt, n)))), (λ t. (t, λ more w. (refl, (refl, (refl, w))))), refl)
+
+joint_met : (joint : Joint) (words : List (List ℕ)) (good : Bool) → Met [] (length (joint_slots joint) ≡ length words) (joint_of (record { words = words; good = good }))
+unfolding joint_of next_word
+joint_met (Plain d) [] good = (refl, λ len. absurd (omega (arith, len)))
+joint_met (Plain d) (between ∷ []) good = (tt, λ len. refl)
+joint_met (Plain d) (between ∷ front ∷ []) good = (refl, λ len. absurd (omega (arith, len)))
+joint_met (Plain d) (between ∷ front ∷ back ∷ words) good = (tt, λ len. absurd (omega (arith, len)))
+joint_met (Within d p s) [] good = (refl, λ len. absurd (omega (arith, len)))
+joint_met (Within d p s) (between ∷ []) good = (tt, λ len. refl)
+joint_met (Within d p s) (between ∷ front ∷ []) good = (refl, λ len. absurd (omega (arith, len)))
+joint_met (Within d p s) (between ∷ front ∷ back ∷ words) good = (tt, λ len. omega (arith, len))
+
+abbrev read_all : Joint → Bool → Result (Joint × Left) FileError
+read_all joint good = Ok (joint, record { words = []; good = good })
+
+joint_spelled : (joint : Joint) (words : List (List ℕ)) (good : Bool) → WordsFit (joint_slots joint) words → Spelled [] joint good (joint_of (record { words = words; good = good }))
+unfolding joint_of next_word
+joint_spelled (Plain d) [] good w = absurd w
+joint_spelled (Plain d) (between ∷ []) good w = ([], ap (λ t. read_all (Plain t) good) w.0, tt)
+joint_spelled (Plain d) (between ∷ front ∷ words) good w = absurd w.1
+joint_spelled (Within d p s) [] good w = absurd w
+joint_spelled (Within d p s) (between ∷ []) good w = absurd w.1
+joint_spelled (Within d p s) (between ∷ front ∷ []) good w = absurd w.1.1
+joint_spelled (Within d p s) (between ∷ front ∷ back ∷ []) good w =
+    ([], ap (λ t. read_all (Within t front back) good) w.0 ∙ ap (λ t. read_all (Within d t back) good) w.1.0 ∙ ap (λ t. read_all (Within d p t) good) w.1.1.0, tt)
+joint_spelled (Within d p s) (between ∷ front ∷ back ∷ word ∷ words) good w = absurd w.1.1.1
+
+pub joint_phrase : Phrase AtEnd all_known joint_slots joint_of
+joint_phrase = record { some = (Plain [], refl); sound = joint_sound; knows = λ joint _. at_end_knows (λ words good n. joint_met joint words good) (joint_spelled joint) }

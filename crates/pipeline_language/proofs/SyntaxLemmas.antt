@@ -1,9 +1,7 @@
 -- The things of a line, by their names.
-use Rattle.std.proofs.Common.{◌≡◌, [], ◌∷◌, true, refl}
-use Rattle.std.specs.Prelude.{pos, codes}
-use Rattle.std.specs.Int.Signed.{le_z_yes}
-use Rattle.std.proofs.lemmas.Bool.{false≢true}
-use Rattle.pipeline_language.specs.declared.version.Version.{Version}
+use Rattle.std.proofs.Common.{◌≡◌, [], ◌∷◌, true, refl, pos, codes}
+use Rattle.std.{specs.Int.Signed.le_z_yes, proofs.lemmas.Bool.false≢true}
+use Rattle.pipeline_language.specs.{declared.version.Version.Version, Reading.by_name}
 use Rattle.pipeline_language.specs.declared.version.Version.TheVariants.{One, Two}
 use Rattle.pipeline_language.specs.Form.{number, divisor, natural, all_known}
 use Rattle.file_words.specs.Words.{lowest, highest}
@@ -14,13 +12,9 @@ use Rattle.pipeline_language.specs.declared.grammar.Merge.TheVariants as merges
 use Rattle.pipeline_language.specs.declared.grammar.NumberOnly.TheVariants as only
 use Rattle.pipeline_language.specs.declared.grammar.NumberTotal.TheVariants as totals
 use Rattle.pipeline_language.specs.declared.grammar.Summary.TheVariants as summaries
-use Rattle.pipeline_language.specs.Syntax.{Add, AllMatch, AnyMatch, Barrier, Count, Distinct, Divisible, DropWhile, Empty, Equals, Expansion, Filter, FindFirst, FlatMap, Function, Greater, GroupBy, Itself, Length, Less, Limit, Longer, Map, Merge, Mod, Mul, Negate, NoneMatch, OfNumbers, OfTexts, Own, Partition, Repeat, Skip, Starts, TakeWhile, Teeing, ToList, ToMap, ToMapStrict, Words, Condition, Base, Inner, Summary, Origin, Range, Closed, Numbers, Lines, BodyLine, function_slots, condition_slots, base_slots, inner_slots, summary_slots, merge_slots, expansion_slots, terminal_slots, body_slots, origin_slots, has_new_names, summary_known, terminal_known, body_known}
+use Rattle.pipeline_language.specs.Syntax.{Add, AllMatch, AnyMatch, Barrier, Count, Distinct, Divisible, DropWhile, Empty, Equals, Expansion, Filter, FindFirst, FlatMap, Function, Greater, GroupBy, Itself, Length, Less, Limit, Longer, Map, Merge, Mod, Mul, Negate, NoneMatch, OfNumbers, OfTexts, Own, Partition, Repeat, Skip, Starts, TakeWhile, Teeing, ToList, ToMap, ToMapStrict, Words, Condition, Base, Inner, Summary, Origin, Range, Closed, Numbers, Lines, BodyLine, function_slots, condition_slots, base_slots, inner_slots, summary_slots, merge_slots, expansion_slots, terminal_slots, body_slots, origin_slots, has_new_names, summary_known, terminal_known, body_known, function_names, function_of, condition_names, condition_of, base_names, base_of, inner_names, inner_of, summary_names, summary_of, merge_names, merge_of, expansion_names, expansion_of, body_names, new_terminal_names, terminal_names, body_of, origin_names, origin_words, collecting_names}
 use Rattle.file_words.specs.WordReading.{next_number, next_natural}
-use Rattle.pipeline_language.specs.Reading.{by_name}
-use Rattle.pipeline_language.specs.SyntaxReading.{function_names, function_of, condition_names, condition_of, base_names, base_of, inner_names, inner_of, summary_names, summary_of, merge_names, merge_of, expansion_names, expansion_of, body_names, new_terminal_names, terminal_names, body_of, origin_names, origin_words, collecting_names}
-use Rattle.pipeline_language.proofs.PhraseLemmas.{Anything, AtEnd, Phrase, Knows, Leads, nothing_phrase, both_phrase, no_leads, name_lead, either_lead, made_of_leads, named_knows, either_knows, by_name_phrase, at_end}
-use Rattle.pipeline_language.proofs.NumberPhrases.{number_phrase, natural_phrase, all_numbers_phrase}
-use Rattle.pipeline_language.proofs.WordPhrases.{word_phrase, joint_phrase}
+use Rattle.pipeline_language.proofs.PhraseLemmas.{Anything, AtEnd, Phrase, Knows, Leads, nothing_phrase, both_phrase, no_leads, name_lead, either_lead, made_of_leads, named_knows, either_knows, by_name_phrase, at_end, number_phrase, natural_phrase, all_numbers_phrase, word_phrase, joint_phrase}
 
 number_here : Phrase Anything all_known (λ n. number n ∷ []) (next_number lowest highest)
 number_here = number_phrase lowest highest (le_z_yes tt) (le_z_yes tt)

@@ -1,32 +1,118 @@
--- What is read, by its content: a text is its bytes, and a list has no place and no room.
-use Rattle.std.specs.Prelude.{List, [], ◌∷◌, ◌++◌, map, length}
-use Rattle.pipeline_language.specs.declared.pipeline.Pipeline.{Pipeline}
+-- The things of a line over numbers, and over texts that are lent from a file.
+use Rattle.std.specs.Prelude.{ℕ, List, [], ◌∷◌, ◌++◌, map, length, ◌≡◌, Bool, true, false, ◌&&◌, Option, Some, None}
+use Rattle.std.specs.Borrow.{Bor}
+use Rattle.pipeline_language.specs.declared.{item_count.ItemCount.ItemCount, pipeline.Mapped.Mapped, pipeline.NumberFunction.NumberFunction, pipeline.NumberTest.NumberTest, pipeline.TextFunction.TextFunction, pipeline.TextMerge.TextMerge, pipeline.TextTest.TextTest, pipeline.Pipeline.Pipeline, pipeline.NumberBody.NumberBody, pipeline.TextBody.TextBody, pipeline.TextEnd.TextEnd, pipeline.NumberSource.NumberSource, ranges.OpenRange.OpenRange, ranges.ClosedRange.ClosedRange, kinds.TextLine.TextLine, line.Source.Source, line.NamedSource.NamedSource}
+use Rattle.pipeline_language.specs.Syntax.{Condition, Base, Inner, Summary, Barring, Stage, Joint, Terminal, BodyLine, Add, Divisible, Empty, Equals, Function, Greater, Itself, Length, Less, Longer, Map, Merge, Mod, Mul, Negate, OfNumbers, OfTexts, Repeat, Starts, Origin, Range, Closed, Numbers, Lines, Program, TextKind, function_takes, merge_takes, value_kind}
+use Rattle.pipeline_language.specs.Grammar as grammar
+use Rattle.pipeline_language.specs.declared.grammar.Barrier as barriers
 use Rattle.pipeline_language.specs.declared.pipeline.Pipeline.TheVariants as pipelines
-use Rattle.pipeline_language.specs.declared.pipeline.NumberBody.{NumberBody}
-use Rattle.pipeline_language.specs.declared.pipeline.TextBody.{TextBody}
-use Rattle.pipeline_language.specs.declared.pipeline.TextEnd.{TextEnd}
 use Rattle.pipeline_language.specs.declared.pipeline.TextEnd.TheVariants as ends
-use Rattle.pipeline_language.specs.declared.pipeline.NumberSource.{NumberSource}
 use Rattle.pipeline_language.specs.declared.pipeline.NumberSource.TheVariants as sources
-use Rattle.pipeline_language.specs.declared.ranges.OpenRange.{OpenRange}
-use Rattle.pipeline_language.specs.declared.ranges.ClosedRange.{ClosedRange}
-use Rattle.pipeline_language.specs.declared.pipeline.NumberFunction.{NumberFunction}
 use Rattle.pipeline_language.specs.declared.pipeline.NumberFunction.TheVariants as number_functions
-use Rattle.pipeline_language.specs.declared.pipeline.TextFunction.{TextFunction}
 use Rattle.pipeline_language.specs.declared.pipeline.TextFunction.TheVariants as text_functions
-use Rattle.pipeline_language.specs.declared.pipeline.NumberTest.{NumberTest}
 use Rattle.pipeline_language.specs.declared.pipeline.NumberTest.TheVariants as number_tests
-use Rattle.pipeline_language.specs.declared.pipeline.TextTest.{TextTest}
 use Rattle.pipeline_language.specs.declared.pipeline.TextTest.TheVariants as text_tests
-use Rattle.pipeline_language.specs.declared.pipeline.TextMerge.{TextMerge}
 use Rattle.pipeline_language.specs.declared.pipeline.TextMerge.TheVariants as text_merges
 use Rattle.pipeline_language.specs.declared.grammar.Merge.TheVariants as merges
-use Rattle.pipeline_language.specs.Grammar as grammar
-use Rattle.pipeline_language.specs.LineContent.{as_read, count_content, text_content, joint_content}
-use Rattle.pipeline_language.specs.Typed.{NumberStage, TextStage, NumberBase, NumberInner, NumberSummary, TextBase, TextInner, TextSummary, TextValue, NumberTerminal, TextTerminal}
-use Rattle.pipeline_language.specs.declared.pipeline.Mapped.{Mapped}
 use Rattle.pipeline_language.specs.declared.pipeline.Mapped.TheVariants as values
-use Rattle.pipeline_language.specs.Syntax.{Add, Divisible, Empty, Equals, Function, Greater, Itself, Length, Less, Longer, Map, Merge, Mod, Mul, Negate, OfNumbers, OfTexts, Repeat, Starts, Condition, Base, Inner, Summary, Stage, Terminal, Origin, Range, Closed, Numbers, Lines, Program}
+use Rattle.pipeline_language.specs.declared.kinds.TextLine.TheVariants as text_lines
+use Rattle.pipeline_language.specs.declared.line.Source.TheVariants as line_sources
+use Rattle.pipeline_language.specs.declared.line.NamedSource.TheVariants as named
+use Rattle.pipeline_language.specs.declared.grammar.Line.TheVariants as body_lines
+
+-- a text that is lent from a file
+abbrev pub Text : Type 0
+Text = Bor (List ℕ)
+
+abbrev pub NumberStage : Type 0
+NumberStage = grammar.Stage NumberFunction NumberTest ℕ ItemCount
+
+abbrev pub TextStage : Type 0
+TextStage = grammar.Stage (Unit {0}) TextTest grammar.Expansion ItemCount
+
+abbrev pub NumberBase : Type 0
+NumberBase = grammar.Base grammar.NumberOnly
+
+abbrev pub NumberInner : Type 0
+NumberInner = grammar.Inner (NumberFunction × NumberBase) NumberTest NumberBase
+
+abbrev pub NumberSummary : Type 0
+NumberSummary = grammar.Summary NumberFunction (NumberFunction × NumberInner) NumberTest NumberBase NumberInner
+
+abbrev pub TextBase : Type 0
+TextBase = grammar.Base Text
+
+abbrev pub TextInner : Type 0
+TextInner = grammar.Inner (Mapped NumberBase TextBase) TextTest TextBase
+
+abbrev pub TextSummary : Type 0
+TextSummary = grammar.Summary TextFunction (Mapped NumberInner TextInner) TextTest TextBase TextInner
+
+abbrev pub TextValue : Type 0
+TextValue = Mapped grammar.Merge TextMerge
+
+abbrev pub NumberTerminal : Type 0
+NumberTerminal = grammar.Terminal NumberFunction NumberTest NumberSummary (NumberFunction × grammar.Merge) grammar.NumberTotal
+
+abbrev pub TextTerminal : Type 0
+TextTerminal = grammar.Terminal TextFunction TextTest TextSummary TextValue (grammar.Joint Text)
+
+-- What a line says, by its content.
+
+-- what has no text in it stands as it is
+abbrev pub as_read : {X : Type 0} → X → X
+as_read x = x
+
+-- a number of items stands by the number
+abbrev pub count_content : ItemCount → ℕ
+count_content count = count.number
+
+abbrev pub text_content : Text → List ℕ
+text_content text = text.now
+
+abbrev pub condition_content : grammar.Condition Text → Condition
+condition_content p = grammar.condition text_content p
+
+abbrev pub LentBase : Type 0
+LentBase = grammar.Base (grammar.OfKind grammar.NumberOnly Text)
+
+abbrev pub base_content : LentBase → Base
+base_content b = grammar.base (grammar.of_kind as_read text_content) b
+
+abbrev pub LentInner : Type 0
+LentInner = grammar.Inner (grammar.Function × LentBase) (grammar.Condition Text) LentBase
+
+abbrev pub inner_content : LentInner → Inner
+inner_content inner = grammar.inner (λ m. (m.0, base_content m.1)) condition_content base_content inner
+
+abbrev pub LentSummary : Type 0
+LentSummary = grammar.Summary grammar.Function (grammar.Function × LentInner) (grammar.Condition Text) LentBase LentInner
+
+abbrev pub summary_content : LentSummary → Summary
+summary_content summary = grammar.summary as_read (λ m. (m.0, inner_content m.1)) condition_content base_content inner_content summary
+
+abbrev pub barrier_content : barriers.Barrier (grammar.Condition Text) ItemCount → Barring
+barrier_content barrier = grammar.barrier condition_content count_content barrier
+
+abbrev pub LentStage : Type 0
+LentStage = grammar.Stage grammar.Function (grammar.Condition Text) grammar.Expansion ItemCount
+
+abbrev pub stage_content : LentStage → Stage
+stage_content stage = grammar.stage as_read condition_content as_read count_content stage
+
+abbrev pub joint_content : grammar.Joint Text → Joint
+joint_content joint = grammar.joint text_content joint
+
+abbrev pub LentTerminal : Type 0
+LentTerminal = grammar.Terminal grammar.Function (grammar.Condition Text) LentSummary (grammar.Function × grammar.Merge) (grammar.OfKind grammar.NumberTotal (grammar.Joint Text))
+
+abbrev pub terminal_content : LentTerminal → Terminal
+terminal_content terminal = grammar.terminal as_read condition_content summary_content as_read (grammar.of_kind as_read joint_content) terminal
+
+abbrev pub body_line_content : grammar.Line LentStage LentTerminal → BodyLine
+body_line_content line = grammar.line stage_content terminal_content line
+
+-- What is read, by its content: a text is its bytes, and a list has no place and no room.
 
 abbrev pub open_origin : OpenRange → Origin
 open_origin range = Range range.start range.end
@@ -124,3 +210,35 @@ text_body body = (map text_stage body.stages.items ++ (text_end body.end).0, (te
 abbrev pub program_of : Pipeline → Program
 program_of (pipelines.Numbers source body) = record { origin = number_origin source; texts = []; stages = (number_body body).0; terminal = (number_body body).1 }
 program_of (pipelines.Texts texts body) = record { origin = Lines (length texts.items); texts = map (λ text. text.now) texts.items; stages = (text_body body).0; terminal = (text_body body).1 }
+
+-- Which things of a line the items take.
+
+-- What is answered is the thing, where it takes the items, and else nothing.
+abbrev pub Takes : {X Y : Type 0} → (X → Y) → (Y → Bool) → Y → Option X → Type 0
+Takes content takes thing (Some x) = (content x ≡ thing) × (takes thing ≡ true)
+Takes content takes thing None = takes thing ≡ false
+
+abbrev pub NumberLine : Type 0
+NumberLine = grammar.Line NumberStage NumberTerminal
+
+abbrev pub number_line_content : NumberLine → BodyLine
+number_line_content line = grammar.line number_stage number_terminal line
+
+abbrev pub text_line_content : TextLine → BodyLine
+text_line_content (text_lines.Stage stage) = body_lines.Stage (text_stage stage)
+text_line_content text_lines.Lengths = body_lines.Stage (Map Length)
+text_line_content (text_lines.Terminal terminal) = body_lines.Terminal (text_terminal terminal)
+
+-- a value of a map, with its merge
+abbrev pub value_takes : Function × Merge → Bool
+value_takes pair = function_takes TextKind pair.0 && merge_takes (value_kind TextKind pair.0) pair.1
+
+abbrev pub source_content : Source → Origin
+source_content (line_sources.Numbers source) = number_origin source
+source_content (line_sources.Lines count) = Lines count
+
+abbrev pub named_content : NamedSource → Origin
+named_content (named.Range a b) = Range a b
+named_content (named.Closed a b) = Closed a b
+named_content (named.Numbers numbers) = Numbers numbers.items
+named_content (named.Lines count) = Lines count

@@ -1,27 +1,17 @@
 -- Reading a file, line by line.
 use Rattle.std.specs.Prelude.{◌≡◌, ℕ, zero, suc, ◌+◌, List, [], ◌∷◌, ◌++◌, drop, length, nat_lt, Result, Ok, Err, if◌then◌else◌}
 use Rattle.std.specs.Str.{is_utf8, bytes_eq}
-use Rattle.file_words.specs.declared.fault.FileError.{FileError}
+use Rattle.file_words.specs.{declared.fault.FileError.FileError, declared.fault.FileFault.FileFault, declared.fault.ReadError.ReadError, declared.fault.LineError.LineError, Words.lines_of, WordReading.◌>>=◌}
 use Rattle.file_words.specs.declared.fault.FileError.TheVariants.{BadText, TooLarge, BadVersion, MissingTerminal, AfterTerminal}
-use Rattle.file_words.specs.declared.fault.FileFault.{FileFault}
-use Rattle.file_words.specs.declared.fault.ReadError.{ReadError}
 use Rattle.file_words.specs.declared.fault.ReadError.TheVariants as errors
-use Rattle.file_words.specs.declared.fault.LineError.{LineError}
 use Rattle.file_words.specs.declared.fault.LineError.TheVariants as line_errors
-use Rattle.pipeline_language.specs.declared.version.Version.{Version}
+use Rattle.pipeline_language.specs.declared.{version.Version.Version, kinds.TextLine.TextLine, line.Source.Source, pipeline.Pipeline.Pipeline}
 use Rattle.pipeline_language.specs.declared.version.Version.TheVariants.{One, Two}
-use Rattle.pipeline_language.specs.declared.kinds.TextLine.{TextLine}
-use Rattle.pipeline_language.specs.declared.line.Source.{Source}
-use Rattle.pipeline_language.specs.declared.pipeline.Pipeline.{Pipeline}
-use Rattle.pipeline_language.specs.Content.{Body, program_of}
-use Rattle.pipeline_language.specs.Kinds.{NumberLine, number_line_content, text_line_content, source_content}
-use Rattle.file_words.specs.Words.{lines_of}
+use Rattle.pipeline_language.specs.Content.{Body, program_of, NumberLine, number_line_content, text_line_content, source_content}
 use Rattle.pipeline_language.specs.declared.grammar.Line.TheVariants as body_lines
-use Rattle.pipeline_language.specs.Syntax.{Origin, origins, text_count, Stage, BodyLine, NumberKind, TextKind, Coming, comes, after_stage, bodies, Program}
+use Rattle.pipeline_language.specs.Syntax.{Origin, origins, text_count, Stage, BodyLine, NumberKind, TextKind, Coming, comes, after_stage, bodies, Program, body_of, origin_words}
 use Rattle.pipeline_language.specs.Language.{most_bytes, first_line, from_origin, Means, HasFault}
-use Rattle.file_words.specs.WordReading.{◌>>=◌}
 use Rattle.pipeline_language.specs.Reading.{ReadAs, line_of}
-use Rattle.pipeline_language.specs.SyntaxReading.{body_of, origin_words}
 
 unfoldable pub version_of : List ℕ → Result Version FileError
 version_of line = if is_utf8 line then (if bytes_eq line (first_line One) then Ok One else (if bytes_eq line (first_line Two) then Ok Two else Err BadVersion)) else Err BadText

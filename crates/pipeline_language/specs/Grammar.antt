@@ -1,30 +1,17 @@
 -- Things of a line with what they are made of replaced.
 use Rattle.pipeline_language.specs.declared.grammar.Barrier as barriers
 pub use Rattle.pipeline_language.specs.declared.grammar.Barrier.TheVariants.{Distinct, Limit, Skip, TakeWhile, DropWhile}
-pub use Rattle.pipeline_language.specs.declared.grammar.Base.{Base}
+pub use Rattle.pipeline_language.specs.declared.grammar.{Base.Base, Condition.Condition, Expansion.Expansion, Function.Function, Inner.Inner, Joint.Joint, Line.Line, Merge.Merge, NumberOnly.NumberOnly, NumberTotal.NumberTotal, OfKind.OfKind, Stage.Stage, Summary.Summary, Terminal.Terminal}
 use Rattle.pipeline_language.specs.declared.grammar.Base.TheVariants as bases
-pub use Rattle.pipeline_language.specs.declared.grammar.Condition.{Condition}
 pub use Rattle.pipeline_language.specs.declared.grammar.Condition.TheVariants.{Less, Greater, Equals, Divisible, Empty, Starts, Longer}
-pub use Rattle.pipeline_language.specs.declared.grammar.Expansion.{Expansion}
 pub use Rattle.pipeline_language.specs.declared.grammar.Expansion.TheVariants.{Repeat, Words}
-pub use Rattle.pipeline_language.specs.declared.grammar.Function.{Function}
 pub use Rattle.pipeline_language.specs.declared.grammar.Function.TheVariants.{Add, Mul, Negate, Mod, Length, Itself}
-pub use Rattle.pipeline_language.specs.declared.grammar.Inner.{Inner}
 use Rattle.pipeline_language.specs.declared.grammar.Inner.TheVariants as inners
-pub use Rattle.pipeline_language.specs.declared.grammar.Joint.{Joint}
 pub use Rattle.pipeline_language.specs.declared.grammar.Joint.TheVariants.{Plain, Within}
-pub use Rattle.pipeline_language.specs.declared.grammar.Line.{Line}
 use Rattle.pipeline_language.specs.declared.grammar.Line.TheVariants as lines
-pub use Rattle.pipeline_language.specs.declared.grammar.Merge.{Merge}
-pub use Rattle.pipeline_language.specs.declared.grammar.NumberOnly.{NumberOnly}
-pub use Rattle.pipeline_language.specs.declared.grammar.NumberTotal.{NumberTotal}
-pub use Rattle.pipeline_language.specs.declared.grammar.OfKind.{OfKind}
 pub use Rattle.pipeline_language.specs.declared.grammar.OfKind.TheVariants.{OfNumbers, OfTexts}
-pub use Rattle.pipeline_language.specs.declared.grammar.Stage.{Stage}
 pub use Rattle.pipeline_language.specs.declared.grammar.Stage.TheVariants.{Map, Filter, FlatMap, Barrier}
-pub use Rattle.pipeline_language.specs.declared.grammar.Summary.{Summary}
 use Rattle.pipeline_language.specs.declared.grammar.Summary.TheVariants as summaries
-pub use Rattle.pipeline_language.specs.declared.grammar.Terminal.{Terminal}
 pub use Rattle.pipeline_language.specs.declared.grammar.Terminal.TheVariants.{Count, FindFirst, ToList, AllMatch, AnyMatch, NoneMatch, GroupBy, Partition, ToMap, ToMapStrict, Teeing, Own}
 
 abbrev pub of_kind : {N M T U : Type 0} → (N → M) → (T → U) → OfKind N T → OfKind M U

@@ -1,11 +1,9 @@
 -- The pipeline language: which file means which pipeline, and which fault a file has.
 use Rattle.std.specs.Prelude.{◌≡◌, ◌⊎◌, ℕ, ◌+◌, ◌<◌, ◌≤◌, List, [], ◌∷◌, ◌++◌, length, IsUtf8, codes}
-use Rattle.file_words.specs.declared.fault.FileError.{FileError}
+use Rattle.file_words.specs.{declared.fault.FileError.FileError, declared.fault.FileFault.FileFault, Words.lines_of}
 use Rattle.file_words.specs.declared.fault.FileError.TheVariants.{BadText, TooLarge, BadVersion, MissingTerminal, AfterTerminal}
-use Rattle.file_words.specs.declared.fault.FileFault.{FileFault}
 use Rattle.pipeline_language.specs.declared.version.Version.{Version}
 use Rattle.pipeline_language.specs.declared.version.Version.TheVariants.{One, Two}
-use Rattle.file_words.specs.Words.{lines_of}
 use Rattle.pipeline_language.specs.Form.{IsLineOf, LineFault}
 use Rattle.pipeline_language.specs.declared.grammar.Line.TheVariants as body_lines
 use Rattle.pipeline_language.specs.Syntax.{Origin, origins, origin_kind, text_count, Stage, Coming, after_stage, bodies, Program}

@@ -2,11 +2,7 @@ pub mod Content
 pub mod FileReading
 pub mod Form
 pub mod Grammar
-pub mod Kinds
 pub mod Language
-pub mod LineContent
 pub mod Reading
 pub mod Steps
 pub mod Syntax
-pub mod SyntaxReading
-pub mod Typed

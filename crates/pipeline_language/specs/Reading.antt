@@ -1,9 +1,8 @@
 -- Things of a line, read by their names, and whole lines.
 use Rattle.std.specs.Prelude.{◌≡◌, ℕ, true, List, Result, Ok, Err, if◌then◌else◌}
 use Rattle.std.specs.Str.{is_utf8, bytes_eq}
-use Rattle.file_words.specs.declared.fault.FileError.{FileError}
+use Rattle.file_words.specs.{declared.fault.FileError.FileError, Words.words_of}
 use Rattle.file_words.specs.declared.fault.FileError.TheVariants.{BadText, UnknownWord, WrongKind}
-use Rattle.file_words.specs.Words.{words_of}
 use Rattle.file_words.specs.WordReading.{◌>>=◌, Reader, next_word, ended}
 use Rattle.pipeline_language.specs.Form.{Forms}
 

@@ -1,10 +1,8 @@
 //! Things of a line, for the items that come to it.
 
 ghost use Rattle.std.specs.Prelude.{Option};
-ghost use Rattle.pipeline_language.specs.Content.{number_base, number_function, number_inner, number_stage, number_summary, number_terminal, number_test, text_base, text_function, text_inner, text_merge, text_summary, text_terminal, text_test, text_value};
+ghost use Rattle.pipeline_language.specs.Content.{number_base, number_function, number_inner, number_stage, number_summary, number_terminal, number_test, text_base, text_function, text_inner, text_merge, text_summary, text_terminal, text_test, text_value, Takes, number_line_content, text_line_content, value_takes, barrier_content, base_content, body_line_content, condition_content, count_content, inner_content, stage_content, summary_content, terminal_content};
 ghost use Rattle.pipeline_language.specs.Grammar.{barrier};
-ghost use Rattle.pipeline_language.specs.Kinds.{Takes, number_line_content, text_line_content, value_takes};
-ghost use Rattle.pipeline_language.specs.LineContent.{barrier_content, base_content, body_line_content, condition_content, count_content, inner_content, stage_content, summary_content, terminal_content};
 ghost use Rattle.pipeline_language.specs.declared.grammar.Line.TheVariants as body_lines;
 ghost use Rattle.pipeline_language.specs.Syntax.{NumberKind, TextKind, barrier_takes, base_takes, body_takes, condition_takes, function_takes, inner_takes, merge_takes, stage_takes, summary_takes, terminal_takes};
 

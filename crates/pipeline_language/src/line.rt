@@ -3,9 +3,8 @@
 ghost use Rattle.std.specs.Prelude.{◌≡◌};
 ghost use Rattle.file_words.specs.Pieces.{piece_bytes};
 ghost use Rattle.pipeline_language.specs.FileReading.{LineReads, ReadsNumberLine, ReadsSource, ReadsTextLine, version_of};
-ghost use Rattle.pipeline_language.specs.Kinds.{Takes, named_content, source_content};
-ghost use Rattle.pipeline_language.specs.Syntax.{is_short};
-ghost use Rattle.pipeline_language.specs.SyntaxReading.{origin_words};
+ghost use Rattle.pipeline_language.specs.Content.{Takes, named_content, source_content};
+ghost use Rattle.pipeline_language.specs.Syntax.{is_short, origin_words};
 
 use crate::grammar::Line;
 use crate::kinds::{MOST_STAGES, NumberLine, TextLine, number_line, text_line};
@@ -75,7 +74,7 @@ fn within_limit(source: NamedSource) -> Option<Source>
 }
 
 /// The words of a source.
-#[tactic(auto, unfolding(crate::specs::SyntaxReading::origin_words))]
+#[tactic(auto, unfolding(crate::specs::Syntax::origin_words))]
 fn read_source_words(alloc: Global, words: &mut Words<'_>) -> Result<NamedSource, LineError>
     ensures { LineReads (λ source. (named_content source, words.new)) result (origin_words words.old) }
 {

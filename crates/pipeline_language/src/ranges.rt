@@ -20,8 +20,7 @@ pub struct ClosedRange {
 }
 
 impl OpenRange {
-    ghost use Rattle.pipeline_language.specs.Content.{open_origin};
-    ghost use Rattle.pipeline_language.specs.Kinds.{Takes};
+    ghost use Rattle.pipeline_language.specs.Content.{Takes, open_origin};
     ghost use Rattle.pipeline_language.specs.Syntax.{Range, is_short};
 
     /// The range, where it isn't too long.
@@ -37,8 +36,7 @@ impl OpenRange {
 }
 
 impl ClosedRange {
-    ghost use Rattle.pipeline_language.specs.Content.{closed_origin};
-    ghost use Rattle.pipeline_language.specs.Kinds.{Takes};
+    ghost use Rattle.pipeline_language.specs.Content.{Takes, closed_origin};
     ghost use Rattle.pipeline_language.specs.Syntax.{Closed, is_short};
 
     /// The range, where it isn't too long.

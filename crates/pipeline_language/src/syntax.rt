@@ -1,10 +1,10 @@
 //! What a line says, name by name, before the kind of the items is asked for.
 
 ghost use Rattle.std.specs.Prelude.{Result};
-ghost use Rattle.pipeline_language.specs.LineContent.{as_read, base_content, body_line_content, condition_content, count_content, inner_content, joint_content, summary_content, terminal_content};
+ghost use Rattle.pipeline_language.specs.Content.{as_read, base_content, body_line_content, condition_content, count_content, inner_content, joint_content, summary_content, terminal_content};
 ghost use Rattle.file_words.specs.WordReading.{GetsAs};
 ghost use Rattle.pipeline_language.specs.Reading.{ReadAs, whole};
-ghost use Rattle.pipeline_language.specs.SyntaxReading.{any_natural, base_names, base_of, body_of, collecting_names, condition_of, expansion_of, function_of, inner_of, joint_of, merge_of, new_terminal_names, summary_of, terminal_names};
+ghost use Rattle.pipeline_language.specs.Syntax.{any_natural, base_names, base_of, body_of, collecting_names, condition_of, expansion_of, function_of, inner_of, joint_of, merge_of, new_terminal_names, summary_of, terminal_names};
 ghost use Rattle.file_words.specs.Words.{words_of};
 
 use crate::grammar::{
@@ -41,7 +41,7 @@ pub(crate) type AnyTerminal<'a> = Terminal<
 
 pub(crate) type BodyLine<'a> = Line<AnyStage<'a>, AnyTerminal<'a>>;
 
-#[tactic(auto, unfolding(crate::specs::SyntaxReading::function_of))]
+#[tactic(auto, unfolding(crate::specs::Syntax::function_of))]
 fn read_function(words: &mut Words<'_>) -> Result<Function, FileError>
     ensures { GetsAs as_read (function_of words.old) result words.new }
 {
@@ -56,7 +56,7 @@ fn read_function(words: &mut Words<'_>) -> Result<Function, FileError>
     }
 }
 
-#[tactic(auto, unfolding(crate::specs::SyntaxReading::condition_of))]
+#[tactic(auto, unfolding(crate::specs::Syntax::condition_of))]
 fn read_condition<'a>(words: &mut Words<'a>) -> Result<AnyCondition<'a>, FileError>
     ensures { GetsAs condition_content (condition_of words.old) result words.new }
 {
@@ -72,7 +72,7 @@ fn read_condition<'a>(words: &mut Words<'a>) -> Result<AnyCondition<'a>, FileErr
     }
 }
 
-#[tactic(auto, unfolding(crate::specs::SyntaxReading::base_of))]
+#[tactic(auto, unfolding(crate::specs::Syntax::base_of))]
 fn read_base<'a>(words: &mut Words<'a>) -> Result<AnyBase<'a>, FileError>
     ensures { GetsAs base_content (base_of words.old) result words.new }
 {
@@ -81,7 +81,7 @@ fn read_base<'a>(words: &mut Words<'a>) -> Result<AnyBase<'a>, FileError>
 }
 
 /// What is made at once, behind its name.
-#[tactic(auto, unfolding(crate::specs::SyntaxReading::base_names))]
+#[tactic(auto, unfolding(crate::specs::Syntax::base_names))]
 fn base_named<'a>(name: &str, words: &mut Words<'a>) -> Result<AnyBase<'a>, FileError>
     ensures { GetsAs base_content (base_names name.now words.old) result words.new }
 {
@@ -97,7 +97,7 @@ fn base_named<'a>(name: &str, words: &mut Words<'a>) -> Result<AnyBase<'a>, File
     }
 }
 
-#[tactic(auto, unfolding(crate::specs::SyntaxReading::inner_of))]
+#[tactic(auto, unfolding(crate::specs::Syntax::inner_of))]
 fn read_inner<'a>(words: &mut Words<'a>) -> Result<AnyInner<'a>, FileError>
     ensures { GetsAs inner_content (inner_of words.old) result words.new }
 {
@@ -108,7 +108,7 @@ fn read_inner<'a>(words: &mut Words<'a>) -> Result<AnyInner<'a>, FileError>
     }
 }
 
-#[tactic(auto, unfolding(crate::specs::SyntaxReading::summary_of, crate::specs::SyntaxReading::summary_names))]
+#[tactic(auto, unfolding(crate::specs::Syntax::summary_of, crate::specs::Syntax::summary_names))]
 fn read_summary<'a>(version: Version, words: &mut Words<'a>) -> Result<AnySummary<'a>, FileError>
     ensures { GetsAs summary_content (summary_of version words.old) result words.new }
 {
@@ -124,7 +124,7 @@ fn read_summary<'a>(version: Version, words: &mut Words<'a>) -> Result<AnySummar
     })
 }
 
-#[tactic(auto, unfolding(crate::specs::SyntaxReading::merge_of))]
+#[tactic(auto, unfolding(crate::specs::Syntax::merge_of))]
 fn read_merge(words: &mut Words<'_>) -> Result<Merge, FileError>
     ensures { GetsAs as_read (merge_of words.old) result words.new }
 {
@@ -138,7 +138,7 @@ fn read_merge(words: &mut Words<'_>) -> Result<Merge, FileError>
     }
 }
 
-#[tactic(auto, unfolding(crate::specs::SyntaxReading::expansion_of))]
+#[tactic(auto, unfolding(crate::specs::Syntax::expansion_of))]
 fn read_expansion(words: &mut Words<'_>) -> Result<Expansion, FileError>
     ensures { GetsAs as_read (expansion_of words.old) result words.new }
 {
@@ -170,7 +170,7 @@ pub(crate) fn read_line<'a>(version: Version, line: &'a str) -> Result<BodyLine<
 }
 
 /// A line after the source: a stage, or the terminal.
-#[tactic(auto, unfolding(crate::specs::SyntaxReading::body_of))]
+#[tactic(auto, unfolding(crate::specs::Syntax::body_of))]
 fn read_body<'a>(version: Version, words: &mut Words<'a>) -> Result<BodyLine<'a>, FileError>
     ensures { GetsAs body_line_content (body_of version words.old) result words.new }
 {
@@ -189,7 +189,7 @@ fn read_body<'a>(version: Version, words: &mut Words<'a>) -> Result<BodyLine<'a>
 }
 
 /// A terminal, behind its name.
-#[tactic(auto, unfolding(crate::specs::SyntaxReading::terminal_names))]
+#[tactic(auto, unfolding(crate::specs::Syntax::terminal_names))]
 fn read_terminal<'a>(
     version: Version,
     name: &str,
@@ -214,7 +214,7 @@ fn read_terminal<'a>(
 }
 
 /// A terminal with a collector or a map, behind its name.
-#[tactic(auto, unfolding(crate::specs::SyntaxReading::collecting_names))]
+#[tactic(auto, unfolding(crate::specs::Syntax::collecting_names))]
 fn read_collecting_terminal<'a>(
     version: Version,
     name: &str,
@@ -237,7 +237,7 @@ fn read_collecting_terminal<'a>(
 }
 
 /// A terminal that the first version has not, behind its name.
-#[tactic(auto, unfolding(crate::specs::SyntaxReading::new_terminal_names))]
+#[tactic(auto, unfolding(crate::specs::Syntax::new_terminal_names))]
 fn read_new_terminal<'a>(
     version: Version,
     name: &str,
@@ -255,7 +255,7 @@ fn read_new_terminal<'a>(
 }
 
 /// What follows the name `joining`: the text between, and a front and a back where anything is left.
-#[tactic(auto, unfolding(crate::specs::SyntaxReading::joint_of))]
+#[tactic(auto, unfolding(crate::specs::Syntax::joint_of))]
 fn read_joint<'a>(words: &mut Words<'a>) -> Result<Joint<&'a str>, FileError>
     ensures { GetsAs joint_content (joint_of words.old) result words.new }
 {

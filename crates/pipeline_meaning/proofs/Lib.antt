@@ -1,4 +1,2 @@
-pub mod Blocks
-pub mod Copies
 pub mod NumberFronts
 pub mod TextFronts

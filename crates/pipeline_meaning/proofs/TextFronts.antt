@@ -1,25 +1,18 @@
 -- Prepared stages over texts, and words of texts.
 use Rattle.std.specs.Prelude.{◌≡◌, ◌≤◌, ◌+◌, ◌==◌, ◌&&◌, true, ⊤, ℕ, List, [], ◌∷◌, ◌++◌, Option, Some, None, MatchOption, filter, flat_map, length, refl}
 use Rattle.std.proofs.Common.{Bor, arith, lit<, ap, ap₂, sym, subst, ◌∙◌, length-append}
-use Rattle.std.proofs.Math.Bool.{and-true}
-use Rattle.std.proofs.lemmas.List.{map-id}
-use Rattle.std.proofs.lemmas.List.Folds.{list_all-append}
+use Rattle.std.proofs.{Math.Bool.and-true, lemmas.List.map-id, lemmas.List.Folds.list_all-append, lemmas.List.Sums.fails_before_first}
 use Rattle.std.proofs.lemmas.List.Splits.{slice_split_first, slice_split_none}
-use Rattle.std.proofs.lemmas.List.Sums.{fails_before_first}
 use Rattle.std.proofs.lemmas.Str.Pattern.{split_once_first, split_parts, IsSplitOnceResult}
 use Rattle.file_words.specs.Words.{words_of}
-use Rattle.pipeline_language.specs.declared.pipeline.TextTest.{TextTest}
-use Rattle.pipeline_language.specs.Typed.{TextStage}
+use Rattle.pipeline_language.specs.{declared.pipeline.TextTest.TextTest, Content.TextStage}
 use Rattle.pipeline_language.specs.declared.grammar.Stage.TheVariants as stages
-use Rattle.pipeline_meaning.specs.Functions.{text_holds}
+use Rattle.pipeline_meaning.specs.{Functions.text_holds, declared.functions.TextCheck.TextCheck, declared.text_steps.TextStep.TextStep, declared.text_steps.TextSteps.TextSteps}
 use Rattle.pipeline_meaning.specs.Stages.{text_stage, is_map_stage}
 use Rattle.pipeline_meaning.specs.TextSteps.{text_images, text_step_images, is_map_step, only_maps, Follows}
 use Rattle.stages.specs.Passing.{flat_map-one}
 use Rattle.stream_functions.specs.Lists.{filter-flat_map}
-use Rattle.pipeline_meaning.specs.WalkLaws.{IsStep, all-one-more}
-use Rattle.pipeline_meaning.specs.declared.functions.TextCheck.{TextCheck}
-use Rattle.pipeline_meaning.specs.declared.text_steps.TextStep.{TextStep}
-use Rattle.pipeline_meaning.specs.declared.text_steps.TextSteps.{TextSteps}
+use Rattle.pipeline_meaning.specs.Walks.{IsStep, all-one-more}
 use Rattle.pipeline_meaning.specs.declared.text_steps.TextStep.TheVariants.{Itself, Filter}
 
 -- what a cut at the first space gives

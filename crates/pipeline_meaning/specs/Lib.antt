@@ -1,12 +1,7 @@
 pub mod Adapting
 pub mod Functions
 pub mod NumberSteps
-pub mod Prepared
-pub mod PreparedLaws
-pub mod Rows
 pub mod Stages
-pub mod StepLaws
 pub mod Summaries
 pub mod TextSteps
-pub mod WalkLaws
 pub mod Walks

@@ -1,21 +1,13 @@
 -- What prepared steps over numbers give.
-use Rattle.std.specs.Prelude.{◌≡◌, ℕ, ℤ, Bool, true, false, cond, List, [], ◌∷◌, ◌&&◌, flat_map, refl}
-use Rattle.std.proofs.Math.ListN.{replicate}
-use Rattle.std.proofs.Common.{sym, ◌∙◌, true≢false}
-use Rattle.std.specs.List.{list_all}
-use Rattle.std.specs.declared.cmp.Ordering.{Ordering}
-use Rattle.std.proofs.lemmas.List.Sums.{AllPass-from_list_all}
-use Rattle.stages.specs.Flags.{KeepsSound}
-use Rattle.stages.specs.Passing.{flat_map-one}
-use Rattle.pipeline_language.specs.Typed.{NumberStage}
-use Rattle.pipeline_meaning.specs.Prepared.{mapping_image, check_holds}
-use Rattle.pipeline_meaning.specs.Rows.{row_of, size_of}
+use Rattle.std.{proofs.Math.ListN.replicate, specs.List.list_all, specs.declared.cmp.Ordering.Ordering, proofs.lemmas.List.Sums.AllPass-from_list_all}
+use Rattle.std.proofs.Common.{sym, ◌∙◌, true≢false, ◌≡◌, ℕ, ℤ, Bool, true, false, cond, List, [], ◌∷◌, ◌&&◌, flat_map, refl}
+use Rattle.stages.specs.{Flags.KeepsSound, Passing.flat_map-one}
+use Rattle.pipeline_language.specs.Content.{NumberStage}
+use Rattle.pipeline_meaning.specs.Functions.{mapping_image, check_holds}
+use Rattle.pipeline_meaning.specs.Walks.{row_of, size_of, images_after, one_after_other, KeepsSound-images, one-image}
 use Rattle.pipeline_meaning.specs.Stages.{number_stage, is_map_stage}
-use Rattle.pipeline_meaning.specs.Walks.{images_after, one_after_other}
-use Rattle.pipeline_meaning.specs.WalkLaws.{KeepsSound-images, one-image}
-use Rattle.pipeline_meaning.specs.declared.number_steps.NumberStep.{NumberStep}
+use Rattle.pipeline_meaning.specs.declared.number_steps.{NumberStep.NumberStep, NumberSteps.NumberSteps}
 use Rattle.pipeline_meaning.specs.declared.number_steps.NumberStep.TheVariants.{Map, Filter}
-use Rattle.pipeline_meaning.specs.declared.number_steps.NumberSteps.{NumberSteps}
 
 -- the list that stands in the place of a number
 abbrev pub number_step_images : NumberStep → ℤ → List ℤ

@@ -1,22 +1,16 @@
 -- What the language's stages make of a list, once for all kinds of items.
 use Rattle.std.specs.Prelude.{ℕ, ℤ, Bool, true, false, List, map, filter, flat_map, take, drop, take_while, bytes_eq}
-use Rattle.std.proofs.Math.ListN.{replicate}
-use Rattle.std.specs.Ordering.{int_eq}
+use Rattle.std.{proofs.Math.ListN.replicate, specs.Ordering.int_eq}
 use Rattle.spliterator.specs.Values.{DecidesEquality, int_eq-decides, bytes_eq-decides}
 use Rattle.stages.specs.Distinct.{distinct}
 use Rattle.barriers.specs.Whiles.{drop_while}
 use Rattle.file_words.specs.Words.{words_of}
 use Rattle.pipeline_language.specs.declared.grammar.Barrier as barriers
 use Rattle.pipeline_language.specs.declared.grammar.Barrier.TheVariants.{Distinct, Limit, Skip, TakeWhile, DropWhile}
-use Rattle.pipeline_language.specs.declared.grammar.Expansion.{Expansion}
+use Rattle.pipeline_language.specs.declared.{grammar.Expansion.Expansion, grammar.Stage.Stage, item_count.ItemCount.ItemCount, pipeline.NumberFunction.NumberFunction, pipeline.NumberTest.NumberTest, pipeline.TextTest.TextTest}
 use Rattle.pipeline_language.specs.declared.grammar.Expansion.TheVariants.{Repeat, Words}
-use Rattle.pipeline_language.specs.declared.grammar.Stage.{Stage}
 use Rattle.pipeline_language.specs.declared.grammar.Stage.TheVariants.{Map, Filter, FlatMap, Barrier}
-use Rattle.pipeline_language.specs.declared.item_count.ItemCount.{ItemCount}
-use Rattle.pipeline_language.specs.declared.pipeline.NumberFunction.{NumberFunction}
-use Rattle.pipeline_language.specs.declared.pipeline.NumberTest.{NumberTest}
-use Rattle.pipeline_language.specs.declared.pipeline.TextTest.{TextTest}
-use Rattle.pipeline_language.specs.Typed.{NumberStage, TextStage}
+use Rattle.pipeline_language.specs.Content.{NumberStage, TextStage}
 use Rattle.pipeline_meaning.specs.Functions.{number_image, number_holds, text_holds}
 use Rattle.pipeline_meaning.specs.Walks.{one_after_other}
 

@@ -6,7 +6,7 @@ use Rattle.stages.specs.Choices.{larger, smaller}
 use Rattle.stages.specs.Wrapping.{wrapped}
 use Rattle.collectors.specs.Reductions.{reduced, first, delimited}
 use Rattle.collectors.specs.Sums.{int_sum}
-use Rattle.pipeline_language.specs.Typed.{NumberBase, NumberInner, NumberSummary, TextBase, TextInner, TextSummary}
+use Rattle.pipeline_language.specs.Content.{NumberBase, NumberInner, NumberSummary, TextBase, TextInner, TextSummary}
 use Rattle.pipeline_language.specs.declared.grammar.NumberOnly.TheVariants as only
 use Rattle.pipeline_language.specs.declared.pipeline.Mapped.TheVariants as values
 use Rattle.pipeline_language.specs.declared.grammar.Base.TheVariants as bases

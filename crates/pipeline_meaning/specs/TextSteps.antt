@@ -1,21 +1,13 @@
 -- What prepared steps over texts give.
-use Rattle.std.specs.Prelude.{◌≡◌, ◌<◌, ◌+◌, ℕ, Bool, true, false, cond, List, [], ◌∷◌, Option, None, Some, ◌&&◌, flat_map, length, refl}
-use Rattle.std.proofs.Math.ListN.{replicate}
-use Rattle.std.proofs.Common.{sym, true≢false}
-use Rattle.std.specs.List.{list_all}
-use Rattle.std.specs.declared.cmp.Ordering.{Ordering}
+use Rattle.std.{proofs.Math.ListN.replicate, specs.List.list_all, specs.declared.cmp.Ordering.Ordering}
+use Rattle.std.proofs.Common.{sym, true≢false, ◌≡◌, ◌<◌, ◌+◌, ℕ, Bool, true, false, cond, List, [], ◌∷◌, Option, None, Some, ◌&&◌, flat_map, length, refl}
 use Rattle.stages.specs.Flags.{KeepsSound}
 use Rattle.file_words.specs.Words.{words_of}
-use Rattle.pipeline_language.specs.Typed.{TextStage}
-use Rattle.pipeline_meaning.specs.Functions.{text_holds}
-use Rattle.pipeline_meaning.specs.Rows.{row_of, size_of}
+use Rattle.pipeline_language.specs.Content.{TextStage}
+use Rattle.pipeline_meaning.specs.{Functions.text_holds, declared.text_steps.TextStep.TextStep, declared.text_steps.TextSteps.TextSteps, declared.text_steps.Walked.Walked}
+use Rattle.pipeline_meaning.specs.Walks.{row_of, size_of, images_after, KeepsSound-walk}
 use Rattle.pipeline_meaning.specs.Stages.{text_stage, is_map_stage}
-use Rattle.pipeline_meaning.specs.Walks.{images_after}
-use Rattle.pipeline_meaning.specs.WalkLaws.{KeepsSound-walk}
-use Rattle.pipeline_meaning.specs.declared.text_steps.TextStep.{TextStep}
 use Rattle.pipeline_meaning.specs.declared.text_steps.TextStep.TheVariants.{Itself, Filter, Repeat, Words}
-use Rattle.pipeline_meaning.specs.declared.text_steps.TextSteps.{TextSteps}
-use Rattle.pipeline_meaning.specs.declared.text_steps.Walked.{Walked}
 use Rattle.pipeline_meaning.specs.declared.text_steps.Walked.TheVariants.{Passed, Dropped, Copied, Cut}
 
 -- the list that stands in the place of a text

@@ -1,15 +1,17 @@
 //! The functions of a pipeline, each made of what the file names, with what is worth preparing once.
-ghost use Rattle.std.specs.Prelude.{◌≡◌, count_by, map, ⊤};
+
+ghost use Rattle.std.specs.Prelude.{◌≡◌, count_by, map, ⊤, OnOk, [], ◌∷◌, cond, flat_map};
 ghost use Rattle.spliterator.specs.Values.{IsI64};
 ghost use Rattle.stages.specs.Operators.{IsAssociative};
-ghost use Rattle.pipeline_meaning.specs.Functions.{number_image, number_holds, number_join, text_holds, text_join};
-ghost use Rattle.pipeline_meaning.specs.Prepared.{change_image, mapping_image, comparison_holds, check_holds, joining_join, merging_join};
-ghost use Rattle.pipeline_meaning.specs.PreparedLaws.{mapping_image-value, merging_join-value, text_join-value};
+ghost use Rattle.pipeline_meaning.specs.Functions.{number_image, number_holds, number_join, text_holds, text_join, change_image, mapping_image, comparison_holds, check_holds, joining_join, merging_join, mapping_image-value, merging_join-value, text_join-value};
 
 use pipeline_language::{Merge, NumberFunction, NumberTest, TextMerge, TextTest};
 use spliterator::{NoMemory, Text, Value};
 use stages::{Mapping, Operator, Test};
-use stream_functions::{Above, Below, Divisible, Divisor, Equal};
+use stream_functions::{
+    Above, Below, Divisible, Divisor, Equal, Negated, PlainMapping, Plus, Times, keep_all,
+    keep_runs, map_all, remainders,
+};
 
 /// A sum, a product or the number's negative, each wrapped.
 #[derive(Clone, Copy)]
@@ -24,9 +26,9 @@ impl NumberChange {
         ensures { result ≡ change_image self.now x }
     {
         match self {
-            NumberChange::Add(n) => x.wrapping_add(*n),
-            NumberChange::Mul(n) => x.wrapping_mul(*n),
-            NumberChange::Negate => x.wrapping_neg(),
+            NumberChange::Add(n) => Plus(*n).image_of(&x),
+            NumberChange::Mul(n) => Times(*n).image_of(&x),
+            NumberChange::Negate => Negated.image_of(&x),
         }
     }
 }
@@ -255,5 +257,34 @@ impl<T: Text + Copy> Operator<T> for TextMerging {
             TextMerge::First => *a,
             TextMerge::Last => *b,
         })
+    }
+}
+
+/// Puts each number's image in its place.
+pub(crate) fn map_block(mapping: NumberMapping, items: &mut Vec<i64>) -> Result<(), NoMemory>
+    ensures { OnOk result (items.new.items ≡ flat_map (λ x. mapping_image mapping x ∷ []) items.old.items) }
+{
+    match mapping {
+        NumberMapping::Itself => Ok(()),
+        NumberMapping::Mod(divisor) => remainders(divisor, items),
+        NumberMapping::Change(change) => match change {
+            NumberChange::Add(summand) => map_all(Plus(summand), items),
+            NumberChange::Mul(factor) => map_all(Times(factor), items),
+            NumberChange::Negate => map_all(Negated, items),
+        },
+    }
+}
+
+/// Leaves the numbers that meet a test.
+pub(crate) fn filter_block(check: NumberCheck, items: &mut Vec<i64>)
+    ensures { items.new.items ≡ flat_map (λ x. cond (check_holds check x) (x ∷ []) []) items.old.items }
+{
+    match check {
+        NumberCheck::Divisible(divisor) => keep_all(Divisible { divisor }, items),
+        NumberCheck::Comparison(comparison) => match comparison {
+            NumberComparison::Less(bound) => keep_runs(Below(bound), items),
+            NumberComparison::Greater(bound) => keep_runs(Above(bound), items),
+            NumberComparison::Equals(number) => keep_runs(Equal(number), items),
+        },
     }
 }

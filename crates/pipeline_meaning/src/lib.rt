@@ -2,7 +2,6 @@
 #![tactic(auto)]
 
 mod adapted;
-mod block_functions;
 mod functions;
 mod number_bases;
 mod number_copies;

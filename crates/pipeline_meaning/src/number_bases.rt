@@ -6,10 +6,10 @@ ghost use Rattle.spliterator.specs.Values.{IsI64};
 ghost use Rattle.collectors.specs.Either.{either_laws};
 ghost use Rattle.collectors.specs.Reductions.{reduced};
 ghost use Rattle.collectors.specs.Sums.{sum_laws};
-ghost use Rattle.pipeline_meaning.specs.Prepared.{merging_join};
-ghost use Rattle.pipeline_meaning.specs.StepLaws.{merging_laws};
+ghost use Rattle.pipeline_meaning.specs.Functions.{merging_join};
+ghost use Rattle.pipeline_meaning.specs.Adapting.{merging_laws};
 ghost use Rattle.pipeline_meaning.specs.Summaries.{number_base_text};
-ghost use Rattle.value_text.specs.SummaryLaws.{optional_tells, either_tells, joined_text_laws};
+ghost use Rattle.value_text.specs.Texts.{optional_tells, either_tells, joined_text_laws};
 
 use crate::NumberMerging;
 use collectors::{Collector, Counting, Reducing, SummingLong};

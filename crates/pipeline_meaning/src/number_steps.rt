@@ -3,10 +3,10 @@ ghost use Rattle.std.specs.Prelude.{◌≡◌, ℕ, ℤ, IsTrue, IfOk, OnOk, Lis
 ghost use Rattle.std.specs.List.{list_all};
 ghost use Rattle.std.specs.Ordering.{int_cmp};
 ghost use Rattle.pipeline_meaning.specs.NumberSteps.{number_images, number_step_images, steps_images, is_map_step, is_none, only_maps, Follows, KeepsSound-number_steps};
-ghost use Rattle.pipeline_meaning.specs.Rows.{row_of, size_of};
+ghost use Rattle.pipeline_meaning.specs.Walks.{row_of, size_of};
 ghost use Rattle.pipeline_meaning.specs.Stages.{is_barrier_stage};
 
-use crate::block_functions::{filter_block, map_block};
+use crate::functions::{filter_block, map_block};
 use crate::number_copies::feed_repeated;
 use crate::{NumberCheck, NumberMapping};
 use pipeline_language::NumberStage;

@@ -5,10 +5,10 @@ ghost use Rattle.std.specs.Ordering.{int_eq};
 ghost use Rattle.spliterator.specs.Values.{IsI64, int_eq-decides};
 ghost use Rattle.collectors.specs.Either.{either_laws};
 ghost use Rattle.collectors.specs.GroupingLaws.{grouping_laws};
-ghost use Rattle.pipeline_meaning.specs.StepLaws.{numbers_behind, numbers_behind_laws};
-ghost use Rattle.pipeline_meaning.specs.Prepared.{mapping_image};
+ghost use Rattle.pipeline_meaning.specs.Adapting.{numbers_behind, numbers_behind_laws};
+ghost use Rattle.pipeline_meaning.specs.Functions.{mapping_image};
 ghost use Rattle.pipeline_meaning.specs.Summaries.{number_inner_text, number_summary_text};
-ghost use Rattle.value_text.specs.SummaryLaws.{either_tells, groups_tell};
+ghost use Rattle.value_text.specs.Texts.{either_tells, groups_tell};
 ghost use Rattle.pipeline_meaning.specs.contracts.number_bases.NumberBaseCollectorCollector.TheImpl.Laws as base;
 ghost use Rattle.pipeline_meaning.specs.contracts.number_bases.NumberBaseCollectorSummarizes.TheImpl.Laws as tells;
 

@@ -8,13 +8,12 @@ ghost use Rattle.collectors.specs.Either.{either_laws};
 ghost use Rattle.collectors.specs.NestedLaws.{mapping_laws};
 ghost use Rattle.collectors.specs.Reductions.{first, first_laws};
 ghost use Rattle.collectors.specs.Sums.{sum_laws};
-ghost use Rattle.value_text.specs.Texts.{itself};
+ghost use Rattle.value_text.specs.Texts.{itself, optional_tells, either_tells, joined_text_laws};
 ghost use Rattle.pipeline_meaning.specs.Functions.{text_length};
-ghost use Rattle.pipeline_meaning.specs.StepLaws.{numbers_behind, numbers_behind_laws};
+ghost use Rattle.pipeline_meaning.specs.Adapting.{numbers_behind, numbers_behind_laws};
 ghost use Rattle.pipeline_meaning.specs.Summaries.{number_inner_text, text_base_text};
 ghost use Rattle.pipeline_meaning.specs.contracts.number_bases.NumberBaseCollectorCollector.TheImpl.Laws as numbers;
 ghost use Rattle.pipeline_meaning.specs.contracts.number_bases.NumberBaseCollectorSummarizes.TheImpl.Laws as numbers_told;
-ghost use Rattle.value_text.specs.SummaryLaws.{optional_tells, either_tells, joined_text_laws};
 
 use crate::number_summaries::{NumberInnerCollector, number_inner};
 use collectors::{Collector, Counting, First, MappingTo};

@@ -4,10 +4,9 @@ ghost use Rattle.std.specs.Ordering.{nat_cmp};
 ghost use Rattle.std.specs.Cmp.Lexicographic.{slice_cmp};
 ghost use Rattle.std.proofs.Math.ListN.{replicate};
 ghost use Rattle.file_words.specs.Words.{words_of};
-ghost use Rattle.pipeline_meaning.specs.Rows.{row_of, size_of};
+ghost use Rattle.pipeline_meaning.specs.Walks.{row_of, size_of, IsStep};
 ghost use Rattle.pipeline_meaning.specs.TextSteps.{text_images, text_step_images, walked_images, Follows, IsFewer, words_left, letters_left, is_map_step, only_maps, KeepsSound-text_steps};
 ghost use Rattle.pipeline_meaning.specs.Stages.{text_stage, is_barrier_stage, is_map_stage};
-ghost use Rattle.pipeline_meaning.specs.WalkLaws.{IsStep};
 
 use crate::TextCheck;
 use pipeline_language::{Expansion, TextStage};
@@ -92,7 +91,7 @@ impl<'a> TextSteps<'a> {
     fn is_nothing(&self) -> bool
         ensures { result ≡ true → (l : List (List ℕ)) → flat_map (text_images self.now.steps.items) l ≡ l }
     {
-        self.steps.as_slice().is_empty()
+        matches!(self.steps.as_slice(), [])
     }
 
     // Whether each text has one image.

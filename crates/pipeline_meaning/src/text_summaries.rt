@@ -6,10 +6,9 @@ ghost use Rattle.spliterator.specs.Values.{int_eq-decides, bytes_eq-decides};
 ghost use Rattle.collectors.specs.Either.{either_laws};
 ghost use Rattle.collectors.specs.GroupingLaws.{grouping_laws};
 ghost use Rattle.pipeline_meaning.specs.Functions.{text_length};
-ghost use Rattle.pipeline_meaning.specs.StepLaws.{texts_behind, texts_behind_laws};
-ghost use Rattle.value_text.specs.Texts.{itself};
+ghost use Rattle.pipeline_meaning.specs.Adapting.{texts_behind, texts_behind_laws};
+ghost use Rattle.value_text.specs.Texts.{itself, either_tells, groups_tell};
 ghost use Rattle.pipeline_meaning.specs.Summaries.{text_inner_text, text_summary_text, text_groups_text};
-ghost use Rattle.value_text.specs.SummaryLaws.{either_tells, groups_tell};
 ghost use Rattle.pipeline_meaning.specs.contracts.text_bases.TextBaseCollectorCollector.TheImpl.Laws as base;
 ghost use Rattle.pipeline_meaning.specs.contracts.text_bases.TextBaseCollectorSummarizes.TheImpl.Laws as told;
 

@@ -1,7 +1,4 @@
-pub mod Better
-pub mod Copies
-pub mod Neighbours
-pub mod Outlooks
-pub mod Plans
+pub mod Rules
+pub mod PlanFlags
 pub mod Numbers
 pub mod Sums

@@ -1,11 +1,9 @@
 -- The sum of numbers by one step: the first as often as there are numbers, and the step as often as there are pairs of them.
-use Rattle.std.specs.Prelude.{◌≡◌, ◌+◌, ◌*◌, ◌/◌, ◌%◌, FitsSigned, ℕ, zero, suc, ℤ, pos, neg_ℤ, ◌+ℤ◌, ◌*ℤ◌, List, [], ◌∷◌, drop, fold, length, refl}
 use Rattle.std.specs.Int.{int_wrap}
-use Rattle.std.proofs.Common.{w64, ap, ap₂, sym, ◌∙◌, arith, get_or}
+use Rattle.std.proofs.Common.{w64, ap, ap₂, sym, ◌∙◌, arith, get_or, ◌≡◌, ◌+◌, ◌*◌, ◌/◌, ◌%◌, FitsSigned, ℕ, zero, suc, ℤ, pos, neg_ℤ, ◌+ℤ◌, ◌*ℤ◌, List, [], ◌∷◌, drop, fold, length, refl}
 use Rattle.std.proofs.Math.IntN.{suc_ℤ-*ℤ, zero-*ℤ, *ℤ_comm, pos-*ℤ-pos, +ℤ_idl, +ℤ_idr}
 use Rattle.std.proofs.lemmas.Int.{ints, int_wrap_fits, int_wrap-add_left, int_wrap-add_right, int_wrap-mul_right}
-use Rattle.sources.specs.Progressions.{progression}
-use Rattle.sources.specs.ProgressionLaws.{length-progression}
+use Rattle.sources.specs.{Progressions.progression, ProgressionLaws.length-progression}
 use Rattle.stages.specs.Products.{wrapped_product}
 use Rattle.stages.specs.Wrapping.{wrapped, wrapped_sum}
 

@@ -2,8 +2,7 @@
 
 ghost use Rattle.std.specs.Prelude.{◌≡◌, ◌≤◌, ◌+◌, IfSome, List, [], ◌++◌, drop, length, take, true};
 ghost use Rattle.pipeline_meaning.specs.Stages.{stage_list};
-ghost use Rattle.pipeline_plan.specs.Better.{Betters, IsBetter, instead_list};
-ghost use Rattle.pipeline_plan.specs.Neighbours.{IsSectionOver, Repeats, is_distinct, is_section_behind_map, passes_copies};
+ghost use Rattle.pipeline_plan.specs.Rules.{Betters, IsBetter, instead_list, IsSectionOver, Repeats, is_distinct, is_section_behind_map, passes_copies};
 
 use crate::{Kind, StageOf};
 use pipeline_language::{Barrier, Stage};
@@ -18,11 +17,8 @@ pub enum Instead<G> {
 fn is_section_behind_map<F, P, E>(first: &Stage<F, P, E>, second: &Stage<F, P, E>) -> bool
     ensures { result ≡ is_section_behind_map first.now second.now }
 {
-    match (first, second) {
-        (Stage::Map(_), Stage::Barrier(Barrier::Limit(_))) => true,
-        (Stage::Map(_), Stage::Barrier(Barrier::Skip(_))) => true,
-        _ => false,
-    }
+    let is_section = matches!(second, Stage::Barrier(Barrier::Limit(_) | Barrier::Skip(_)));
+    matches!(first, Stage::Map(_)) && is_section
 }
 
 /// A limit or a skip behind a map stands as well before it.
@@ -54,13 +50,7 @@ pub(crate) fn copies_of<K: Kind>(stage: &StageOf<K>) -> Option<u64>
 pub(crate) fn makes_none<K: Kind>(stage: &StageOf<K>) -> bool
     ensures { result ≡ true → (l : List K.Item.Content) → stage_list K.means stage.now l ≡ [] }
 {
-    let Some(copies) = copies_of::<K>(stage) else {
-        return false;
-    };
-    if copies >= 1 {
-        return false;
-    }
-    true
+    matches!(copies_of::<K>(stage), Some(0))
 }
 
 /// What stands before a stage that makes nothing is of no use.
@@ -190,22 +180,12 @@ fn sections_merged<K: Kind>(first: &StageOf<K>, second: &StageOf<K>) -> Option<I
 fn better<K: Kind>(first: &StageOf<K>, second: &StageOf<K>) -> Option<Instead<StageOf<K>>>
     ensures { IfSome result (IsBetter K.means first.now second.now) }
 {
-    if let Some(new) = emptied::<K>(first, second) {
-        return Some(new);
-    }
-    if let Some(new) = section_first::<K>(first, second) {
-        return Some(new);
-    }
-    if let Some(new) = copies_last::<K>(first, second) {
-        return Some(new);
-    }
-    if let Some(new) = copies_dropped::<K>(first, second) {
-        return Some(new);
-    }
-    if let Some(new) = section_before_copies::<K>(first, second) {
-        return Some(new);
-    }
-    sections_merged::<K>(first, second)
+    emptied::<K>(first, second)
+        .or_else(|| section_first::<K>(first, second))
+        .or_else(|| copies_last::<K>(first, second))
+        .or_else(|| copies_dropped::<K>(first, second))
+        .or_else(|| section_before_copies::<K>(first, second))
+        .or_else(|| sections_merged::<K>(first, second))
 }
 
 /// The first neighbours that a rule betters, and what stands in their place.

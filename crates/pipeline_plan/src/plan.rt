@@ -1,13 +1,15 @@
 //! A pipeline's plan, and the loop that makes it simpler.
 
 ghost use Rattle.std.specs.Prelude.{◌≡◌, ◌<◌, IfSome, List, length, remove, true};
-ghost use Rattle.pipeline_plan.specs.Better.{work};
+ghost use Rattle.pipeline_plan.specs.Rules.{work};
 ghost use Rattle.pipeline_meaning.specs.Stages.{stage_list, stages_list};
-ghost use Rattle.pipeline_plan.specs.Outlooks.{IsOutlook};
+ghost use Rattle.pipeline_plan.specs.PlanFlags.{AreFlags};
 
+use crate::flags::flags_through;
 use crate::neighbours::{better_neighbours, is_distinct, makes_none, put};
-use crate::{Kind, Outlook, StageOf};
+use crate::{Kind, StageOf};
 use pipeline_language::{Barrier, ItemCount, Stage};
+use stages::StreamFlags;
 
 /// Where the items of a plan come from.
 pub trait PlanSource<K: Kind>: Copy {
@@ -17,9 +19,9 @@ pub trait PlanSource<K: Kind>: Copy {
     fn absorbed(&self, stage: &StageOf<K>) -> Option<Self>
         ensures { IfSome result (λ source. items source ≡ stage_list K.means stage.now (items self.now)) };
 
-    /// What is known of the items.
-    fn outlook(&self) -> Outlook
-        ensures { IsOutlook K.Item.order result (items self.now) };
+    /// What the library's flags tell of the items.
+    fn flags(&self) -> StreamFlags
+        ensures { AreFlags K.Item.order result (items self.now) };
 }
 
 /// Where items come from, and the stages behind.
@@ -27,13 +29,6 @@ pub trait PlanSource<K: Kind>: Copy {
 pub struct Plan<S, K: Kind> {
     pub source: S,
     pub stages: Vec<StageOf<K>>,
-}
-
-/// What is known of the items behind stages.
-fn outlook_behind<K: Kind, S: PlanSource<K>>(source: &S, stages: &[StageOf<K>]) -> Outlook
-    ensures { IsOutlook K.Item.order result (stages_list K.means stages.now (S.items source.now)) }
-{
-    source.outlook().through::<K>(stages)
 }
 
 /// A `distinct` to which only items that differ come.
@@ -45,7 +40,7 @@ fn unneeded_distinct<K: Kind, S: PlanSource<K>>(source: &S, stages: &[StageOf<K>
     for at in 0..stages.len() {
         if is_distinct(&stages[at]) {
             let (front, _) = stages.split_at(at);
-            if outlook_behind::<K, S>(source, front).flags.is_distinct() {
+            if flags_through::<K>(source.flags(), front).is_distinct() {
                 return Some(at);
             }
         }
@@ -98,12 +93,4 @@ pub fn optimised<K: Kind, S: PlanSource<K>>(plan: &mut Plan<S, K>)
         ≡ stages_list K.means plan.old.stages.items (S.items plan.old.source) }
 {
     while simpler(plan) {}
-}
-
-/// What is known of a plan's items.
-pub fn outlook_of<K: Kind, S: PlanSource<K>>(plan: &Plan<S, K>) -> Outlook
-    ensures { let made = stages_list K.means plan.now.stages.items (S.items plan.now.source) in
-        IsOutlook K.Item.order result made }
-{
-    outlook_behind::<K, S>(&plan.source, plan.stages.as_slice())
 }

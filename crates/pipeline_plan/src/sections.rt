@@ -1,8 +1,7 @@
 //! Counted sources of plans: they absorb limits and skips.
 
-ghost use Rattle.pipeline_plan.specs.Outlooks.{IsOutlook};
-
-use crate::{Kind, Outlook, PlanSource, StageOf};
+use crate::flags::flags_of;
+use crate::{Kind, PlanSource, StageOf};
 use pipeline_language::{Barrier, Stage};
 use sources::Placed;
 use spliterator::Spliterator;
@@ -12,19 +11,6 @@ use stages::StreamFlags;
 #[derive(Clone, Copy)]
 pub struct Section<S> {
     pub source: S,
-}
-
-/// What a source tells of its items.
-pub(crate) fn told_of<S: Spliterator>(source: &S) -> Outlook
-    ensures { IsOutlook S.Item.order result (S.items source.now) }
-{
-    let flags = StreamFlags::of_source(source);
-    let size = if flags.is_sized() {
-        Some(source.estimate_size())
-    } else {
-        None
-    };
-    Outlook { flags, size }
 }
 
 impl<K, S> PlanSource<K> for Section<S>
@@ -48,7 +34,7 @@ where
         }
     }
 
-    fn outlook(&self) -> Outlook {
-        told_of(&self.source)
+    fn flags(&self) -> StreamFlags {
+        flags_of(&self.source)
     }
 }

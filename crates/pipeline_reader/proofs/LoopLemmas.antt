@@ -1,26 +1,17 @@
 -- The loops over the lines of a file: what was read, and what is left.
 use Rattle.std.proofs.Common.{◌≡◌, ℕ, zero, suc, ◌+◌, ◌-◌, ◌<◌, true, List, [], ◌∷◌, ◌++◌, drop, map, Result, Ok, Err, refl, sym, ap, subst, ◌∙◌, arith}
-use Rattle.std.specs.Str.{is_utf8}
-use Rattle.std.proofs.lemmas.Bool.{cond-true}
-use Rattle.std.proofs.lemmas.List.{map-append}
-use Rattle.file_words.specs.WordReading.{◌>>=◌}
+use Rattle.std.{specs.Str.is_utf8, proofs.lemmas.Bool.cond-true, proofs.lemmas.List.map-append}
+use Rattle.file_words.specs.{WordReading.◌>>=◌, declared.fault.FileFault.FileFault, declared.fault.ReadError.ReadError}
 use Rattle.file_words.specs.declared.fault.FileError.TheVariants.{BadText, MissingTerminal}
-use Rattle.file_words.specs.declared.fault.FileFault.{FileFault}
-use Rattle.file_words.specs.declared.fault.ReadError.{ReadError}
 use Rattle.file_words.specs.declared.fault.ReadError.TheVariants.{Fault, NoMemory}
-use Rattle.pipeline_language.specs.declared.version.Version.{Version}
-use Rattle.pipeline_language.specs.declared.pipeline.NumberBody.{NumberBody}
-use Rattle.pipeline_language.specs.declared.pipeline.NumberFunction.{NumberFunction}
+use Rattle.pipeline_language.specs.declared.{version.Version.Version, pipeline.NumberBody.NumberBody, pipeline.NumberFunction.NumberFunction, grammar.Function.TheVariants.Length, grammar.Stage.TheVariants.Map}
 use Rattle.pipeline_language.specs.declared.pipeline.NumberFunction.TheVariants as functions
-use Rattle.pipeline_language.specs.Typed.{NumberStage, TextStage}
+use Rattle.pipeline_language.specs.Content.{NumberStage, TextStage, Body, number_body, number_function, number_stage, text_stage}
 use Rattle.pipeline_language.specs.declared.grammar.Stage.TheVariants as stage_variants
-use Rattle.pipeline_language.specs.Content.{Body, number_body, number_function, number_stage, text_stage}
 use Rattle.pipeline_language.specs.declared.grammar.Line.TheVariants as body_lines
-use Rattle.pipeline_language.specs.declared.grammar.Function.TheVariants.{Length}
-use Rattle.pipeline_language.specs.declared.grammar.Stage.TheVariants.{Map}
 use Rattle.pipeline_language.specs.Syntax.{Stage, BodyLine, Kind, NumberKind, TextKind, Coming, comes, kind_after, value_kind, after_stage}
 use Rattle.pipeline_language.specs.FileReading.{Reads, Texts, texts_from, first_text, in_front, going_on, body_from, first_of}
-use Rattle.pipeline_language.proofs.BodyLemmas.{body_by_first, in_front_twice, in_front_of_none}
+use Rattle.pipeline_language.proofs.FileLemmas.{body_by_first, in_front_twice, in_front_of_none}
 
 -- Behind k stages that were read stands the line with the number k more: places tells what comes to it.
 pub first_behind : (stages : List Stage) (places : ℕ → Coming) (number k n : ℕ) → k ≡ n → (lines : List (List ℕ)) (whole : Result Body FileFault) (r : Result BodyLine FileFault) → whole ≡ in_front stages (body_from (places n) (number + n) lines) → first_of (places k) (number + k) lines ≡ r → whole ≡ in_front stages (r >>= λ b. going_on b (λ stage. body_from (after_stage (places n) stage) ((number + n) + 1) (drop 1 lines)))
@@ -33,7 +24,7 @@ told_behind line_content content stages places number k n same lines whole (Faul
 
 -- stages over numbers give numbers, and those over texts give texts
 function_keeps : (f : NumberFunction) → value_kind NumberKind (number_function f) ≡ NumberKind
-function_keeps functions.Negate = refl
+function_keeps functions.Itself = refl
 function_keeps f = refl
 
 pub number_keeps : (stage : NumberStage) → kind_after NumberKind (number_stage stage) ≡ NumberKind

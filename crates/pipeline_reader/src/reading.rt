@@ -3,9 +3,8 @@
 ghost use Rattle.std.specs.Prelude.{◌≡◌, ◌<◌, ◌+◌, ◌-◌, ◌^◌, IfErr, IfOk, OnOk, map, drop, length, Ok, Err};
 ghost use Rattle.file_words.specs.Pieces.{piece_bytes};
 ghost use Rattle.file_words.specs.Words.{lines_of};
-ghost use Rattle.pipeline_language.specs.Content.{number_body, program_of, text_body};
+ghost use Rattle.pipeline_language.specs.Content.{number_body, program_of, text_body, number_line_content, text_line_content};
 ghost use Rattle.pipeline_language.specs.FileReading.{IfFault, Reads, ReadsMeaning, TellsFault, after_end, body_from, file_of, first_of, first_text, no_more, program_from, texts_from};
-ghost use Rattle.pipeline_language.specs.Kinds.{number_line_content, text_line_content};
 ghost use Rattle.pipeline_language.specs.Language.{HasFault, Means};
 ghost use Rattle.pipeline_language.specs.Syntax.{NumberKind, TextKind, comes};
 

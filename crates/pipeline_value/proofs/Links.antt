@@ -1,10 +1,8 @@
 -- Links, with one more behind them, and stages.
 use Rattle.std.proofs.Common.{◌≡◌, ◌<◌, ◌+◌, ◌++◌, ◌∷◌, [], ℕ, List, ap, length, refl, sym, take, ◌∙◌}
-use Rattle.std.specs.List.{slice_index_or}
-use Rattle.std.proofs.lemmas.List.{take_more}
+use Rattle.std.{specs.List.slice_index_or, proofs.lemmas.List.take_more}
 use Rattle.chained_streams.specs.Chains.{through_links}
-use Rattle.pipeline_meaning.specs.Walks.{one_after_other}
-use Rattle.pipeline_meaning.specs.WalkLaws.{stages-one-more}
+use Rattle.pipeline_meaning.specs.Walks.{one_after_other, stages-one-more}
 
 pub through-push : {L C : Type 0} (value : L → List C → List C) (links : List L) (link : L) (items : List C)
     → through_links value (links ++ link ∷ []) items ≡ value link (through_links value links items)

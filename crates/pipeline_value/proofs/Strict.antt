@@ -1,8 +1,6 @@
 -- What a strict map's collector makes, as what is told.
-use Rattle.std.specs.Prelude.{◌≡◌, ◌||◌, ℕ, Bool, true, false, List, [], ◌∷◌, ◌++◌, map, refl, Some, None, Ok, Err}
-use Rattle.std.specs.List.{list_any}
-use Rattle.std.proofs.Common.{sym, ap, ◌∙◌, subst, append-nil, append_assoc}
-use Rattle.std.proofs.lemmas.List.Folds.{list_any-append}
+use Rattle.std.{specs.List.list_any, proofs.lemmas.List.Folds.list_any-append}
+use Rattle.std.proofs.Common.{sym, ap, ◌∙◌, subst, append-nil, append_assoc, ◌≡◌, ◌||◌, ℕ, Bool, true, false, List, [], ◌∷◌, ◌++◌, map, refl, Some, None, Ok, Err}
 use Rattle.spliterator.specs.Values.{DecidesEquality}
 use Rattle.stages.specs.Distinct.{AllApart}
 use Rattle.stages.specs.Tests.{apart-swap, or-false_left, or-false_right}

@@ -2,8 +2,8 @@
 use Rattle.std.specs.Prelude.{ℕ, pos, Bool, true, false, List, length}
 use Rattle.std.specs.Fmt.{signed_decimal}
 use Rattle.stages.specs.Wrapping.{wrapped}
-use Rattle.pipeline_value.specs.declared.groups.Group.{Group}
-use Rattle.pipeline_value.specs.declared.groups.Group.TheVariants.{Count, Base, Summary}
+use Rattle.pipeline_value.specs.declared.arranged.Group.{Group}
+use Rattle.pipeline_value.specs.declared.arranged.Group.TheVariants.{Count, Base, Summary}
 use Rattle.pipeline_language.specs.declared.grammar.Terminal.{Terminal}
 use Rattle.pipeline_language.specs.declared.grammar.Terminal.TheVariants.{GroupBy, Partition, Teeing}
 

@@ -1,5 +1,4 @@
 pub mod Barriers
 pub mod Groups
-pub mod Items
 pub mod Typed
 pub mod Value

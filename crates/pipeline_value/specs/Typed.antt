@@ -8,20 +8,15 @@ use Rattle.stages.specs.Products.{wrapped_product}
 use Rattle.stages.specs.Wrapping.{wrapped, wrapped_sum}
 use Rattle.collectors.specs.Reductions.{delimited, first, reduced}
 use Rattle.parallel_streams.specs.Terminals.{all_meet, any_meets}
-use Rattle.pipeline_language.specs.declared.pipeline.NumberBody.{NumberBody}
-use Rattle.pipeline_language.specs.declared.pipeline.NumberSource.{NumberSource}
+use Rattle.pipeline_language.specs.declared.pipeline.{NumberBody.NumberBody, NumberSource.NumberSource, TextBody.TextBody, TextEnd.TextEnd, TextFunction.TextFunction, Pipeline.Pipeline}
 use Rattle.pipeline_language.specs.declared.pipeline.NumberSource.TheVariants.{Range, Closed, Numbers}
-use Rattle.pipeline_language.specs.Typed.{NumberTerminal, TextTerminal, TextValue}
+use Rattle.pipeline_language.specs.Content.{NumberTerminal, TextTerminal, TextValue}
 use Rattle.pipeline_language.specs.declared.grammar.NumberTotal.TheVariants as totals
 use Rattle.pipeline_language.specs.declared.grammar.Joint.TheVariants.{Plain, Within}
 use Rattle.pipeline_language.specs.declared.grammar.Terminal.TheVariants as terminals
-use Rattle.pipeline_language.specs.declared.pipeline.TextBody.{TextBody}
-use Rattle.pipeline_language.specs.declared.pipeline.TextEnd.{TextEnd}
 use Rattle.pipeline_language.specs.declared.pipeline.TextEnd.TheVariants as ends
-use Rattle.pipeline_language.specs.declared.pipeline.TextFunction.{TextFunction}
 use Rattle.pipeline_language.specs.declared.pipeline.TextFunction.TheVariants as text_functions
 use Rattle.pipeline_language.specs.declared.pipeline.Mapped.TheVariants as text_values
-use Rattle.pipeline_language.specs.declared.pipeline.Pipeline.{Pipeline}
 use Rattle.pipeline_language.specs.declared.pipeline.Pipeline.TheVariants as pipelines
 use Rattle.pipeline_meaning.specs.Functions.{number_image, number_holds, number_join, text_length, text_holds, text_join}
 use Rattle.pipeline_meaning.specs.Stages.{number_stages, text_stages}

@@ -1,18 +1,18 @@
 //! Stages, as the links of a chain and the steps behind them.
 
-ghost use Rattle.std.specs.Prelude.{◌≡◌, All, IfOk, List, flat_map};
+ghost use Rattle.std.specs.Prelude.{◌≡◌, All, IfOk, List, flat_map, Bool, false, IsTrue, MatchBool, MatchOption};
 ghost use Rattle.spliterator.specs.Clones.{ClonesAlike};
 ghost use Rattle.chained_streams.specs.Chains.{link_value, through_links};
 ghost use Rattle.pipeline_meaning.specs.Walks.{one_after_other};
 ghost use Rattle.pipeline_value.specs.Barriers.{IsReady, barrier_list};
+ghost use Rattle.pipeline_meaning.specs.Stages.{is_barrier_stage, number_stage, text_stage};
 
-use crate::language_stages::LanguageStage;
 use barriers::{AnyBarrier, Barrier, Demand, Distinct, DropWhile, Limit, Skip, TakeWhile};
 use chained_streams::Link;
-use pipeline_language::Barrier as Line;
-use pipeline_meaning::SeededHashes;
+use pipeline_language::{Barrier as Line, NumberStage, TextStage};
+use pipeline_meaning::{NumberCheck, NumberSteps, SeededHashes, TextCheck, TextSteps};
 use spliterator::{EqualValue, NoMemory, OrderedValue};
-use stages::Test;
+use stages::{Stage, Test};
 use std::alloc::Global;
 use std::hash::Hash;
 
@@ -77,4 +77,101 @@ where
         steps = G::no_steps(alloc);
     }
     Ok(LinkedStages { links, steps })
+}
+
+/// A stage of the language over items of one type.
+pub(crate) trait LanguageStage<T: OrderedValue + Drop>: Sized {
+    /// Stages that look at one item at a time, as one stage.
+    type Steps: Stage<In = T, Out = T> + Drop + Sync;
+
+    /// A test, prepared.
+    type Check: Test<T> + Drop + Sync;
+
+    // what the stage makes of a list
+    ghost makes: { Self → List T.Content → List T.Content };
+
+    // whether the stage looks at more than one item
+    ghost is_barrier: { Self → Bool };
+
+    /// No stage.
+    fn no_steps(alloc: Global) -> Self::Steps
+        ensures { (l : List T.Content) → flat_map (Self.Steps.expand result) l ≡ l };
+
+    /// Puts the stage behind others. Says whether it did: it doesn't put a barrier.
+    fn put_behind(&self, steps: &mut Self::Steps) -> Result<bool, NoMemory>
+        ensures { IfOk result (λ is_put. MatchBool is_put ((l : List T.Content) → flat_map (Self.Steps.expand steps.new) l ≡ makes self.now (flat_map (Self.Steps.expand steps.old) l)) (IsTrue (is_barrier self.now) × (steps.new ≡ steps.old))) };
+
+    /// The barrier that the stage is, or `None` where it looks at one item at a time.
+    fn barrier(&self) -> Option<Line<Self::Check>>
+        ensures none { MatchOption result (is_barrier self.now ≡ false) (λ b. (l : List T.Content) → barrier_list T.same Self.Check.holds b l ≡ makes self.now l) }
+        ensures ready { MatchOption result (Unit {0}) (IsReady Self.Check.ready) };
+
+    // steps are always ready
+    ghost are_ready: { (steps : Self.Steps) → Self.Steps.Stage.ready steps };
+}
+
+impl LanguageStage<i64> for NumberStage {
+    type Steps = NumberSteps;
+
+    type Check = NumberCheck;
+
+    ghost are_ready = { λ _. tt };
+
+    ghost makes = { number_stage };
+
+    ghost is_barrier = { is_barrier_stage };
+
+    fn no_steps(alloc: Global) -> NumberSteps {
+        NumberSteps::new(alloc)
+    }
+
+    fn put_behind(&self, steps: &mut NumberSteps) -> Result<bool, NoMemory> {
+        steps.put(self)
+    }
+
+    fn barrier(&self) -> Option<Line<NumberCheck>> {
+        let NumberStage::Barrier(barrier) = *self else {
+            return None;
+        };
+        Some(match barrier {
+            Line::Distinct => Line::Distinct,
+            Line::Limit(most) => Line::Limit(most),
+            Line::Skip(number) => Line::Skip(number),
+            Line::TakeWhile(test) => Line::TakeWhile(NumberCheck::of(test)),
+            Line::DropWhile(test) => Line::DropWhile(NumberCheck::of(test)),
+        })
+    }
+}
+
+impl<'a> LanguageStage<&'a str> for TextStage<'a> {
+    type Steps = TextSteps<'a>;
+
+    type Check = TextCheck<'a>;
+
+    ghost are_ready = { λ _. tt };
+
+    ghost makes = { text_stage };
+
+    ghost is_barrier = { is_barrier_stage };
+
+    fn no_steps(alloc: Global) -> TextSteps<'a> {
+        TextSteps::new(alloc)
+    }
+
+    fn put_behind(&self, steps: &mut TextSteps<'a>) -> Result<bool, NoMemory> {
+        steps.put(self)
+    }
+
+    fn barrier(&self) -> Option<Line<TextCheck<'a>>> {
+        let TextStage::Barrier(barrier) = *self else {
+            return None;
+        };
+        Some(match barrier {
+            Line::Distinct => Line::Distinct,
+            Line::Limit(most) => Line::Limit(most),
+            Line::Skip(number) => Line::Skip(number),
+            Line::TakeWhile(test) => Line::TakeWhile(TextCheck::of(test)),
+            Line::DropWhile(test) => Line::DropWhile(TextCheck::of(test)),
+        })
+    }
 }

@@ -4,20 +4,22 @@ ghost use Rattle.std.specs.Prelude.{◌≡◌, true};
 ghost use Rattle.pipeline_value.specs.Groups.{arranges};
 ghost use Rattle.pipeline_value.specs.Typed.{number_told};
 ghost use Rattle.pipeline_value.specs.Value.{Tells};
+ghost use Rattle.pipeline_language.specs.declared.grammar.Terminal.TheVariants.{Own};
 
-use crate::arranged::{group_value, paired_value, parted_value};
-use crate::groups::number_group;
+use crate::arranged::{group_value, number_group, paired_value, parted_value};
 use crate::maps::{merged_value, strict_value};
 use crate::told::{ValueError, told, told_item};
-use crate::totals::total_value;
+use collectors::SummingLong;
 use parallel_streams::{Engine, Plumbing, Stream};
-use pipeline_language::NumberTerminal;
+use pipeline_language::{NumberTerminal, NumberTotal};
 use pipeline_meaning::{
     NumberCheck as Check, NumberMapping as Mapping, NumberMerging, SeededHashes, number_summary,
 };
+use stages::{Max, Min, WrapMul};
 use std::thread::Threads;
 use std::time::Clock;
 use stealing_pool::Gate;
+use stream_functions::Itself;
 use value_text::{JoinedText, Rope};
 
 /// The text of a terminal's value on a stream of numbers.
@@ -90,5 +92,29 @@ where
             paired_value(engine, stream, one, other)
         }
         _ => unreachable!(),
+    }
+}
+
+/// The text of what joins all numbers of a stream into one.
+pub(crate) fn total_value<X>(
+    engine: &Engine<'_, impl Threads + Clock + Sync, impl Gate + Sync>,
+    stream: &X,
+    total: NumberTotal,
+) -> Result<Rope, ValueError>
+where
+    X: Plumbing<Item = i64>,
+    requires stream { X.ready stream.now }
+    ensures { Tells (number_told (Own total) (X.value stream.now)) result }
+{
+    let alloc = engine.alloc;
+    match total {
+        // a sum needs no question whether a number came before
+        NumberTotal::Sum => {
+            let sum = SummingLong::new(Itself);
+            told(alloc, &stream.collect_on(engine, &sum)?)
+        }
+        NumberTotal::Product => told(alloc, &stream.reduce_on(engine, 1, &WrapMul::new())?),
+        NumberTotal::Max => told_item(alloc, &stream.reduce_optional_on(engine, &Max::new())?),
+        NumberTotal::Min => told_item(alloc, &stream.reduce_optional_on(engine, &Min::new())?),
     }
 }

@@ -7,10 +7,9 @@ ghost use Rattle.pipeline_value.specs.Typed.{text_told};
 ghost use Rattle.pipeline_value.specs.Value.{Tells};
 ghost use Rattle.spliterator.specs.Clones.{ClonesAlike};
 
-use crate::arranged::{group_value, paired_value, parted_value};
-use crate::groups::text_group;
+use crate::arranged::{group_value, paired_value, parted_value, text_group};
 use crate::linked::LanguageBarrier;
-use crate::text_maps::{text_map, text_strict_map};
+use crate::maps::{text_map, text_strict_map};
 use crate::told::{ValueError, told, told_item};
 use chained_streams::Chain;
 use parallel_streams::{Engine, Plumbing, Source, Staged, Stream};

@@ -5,16 +5,15 @@ ghost use Rattle.pipeline_meaning.specs.Functions.{text_length};
 ghost use Rattle.pipeline_value.specs.Typed.{number_body_told, text_body_told, text_end_told};
 ghost use Rattle.pipeline_value.specs.Value.{Tells};
 
-use crate::known::known_text_count;
 use crate::linked::linked;
 use crate::numbers::number_value;
 use crate::text_end::{Texts, text_end};
-use crate::told::{ValueError, told};
+use crate::told::ValueError;
 use chained_streams::Chain;
 use parallel_streams::{Engine, Plumbing, Stream, of};
 use pipeline_language::{NumberBody, TextBody, TextEnd};
 use pipeline_meaning::SeededHashes;
-use pipeline_plan::{Plan, Section, Texts as OfTexts, optimised, outlook_of};
+use pipeline_plan::{Plan, Section, Texts as OfTexts, optimised};
 use sources::SliceSplit;
 use spliterator::{OrderedValue, Text};
 use std::thread::Threads;
@@ -38,9 +37,6 @@ pub(crate) fn text_value<'s, 'a>(
     };
     let mut plan: Plan<Section<SliceSplit<'s, &'a str>>, OfTexts<'a>> = Plan { source, stages };
     optimised(&mut plan);
-    if let Some(count) = known_text_count(outlook_of(&plan), &end) {
-        return told(engine.alloc, &count);
-    }
     let linked = linked(engine.alloc, hashes, plan.stages.as_slice())?;
     let chain = Chain {
         upstream: of(plan.source.source),

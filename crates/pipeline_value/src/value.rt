@@ -3,8 +3,11 @@
 ghost use Rattle.pipeline_language.specs.Content.{program_of};
 ghost use Rattle.pipeline_value.specs.Typed.{number_body_told, source_numbers};
 ghost use Rattle.pipeline_value.specs.Value.{Tells, program_told};
+ghost use Rattle.std.specs.Prelude.{◌≡◌, ℕ, List};
+ghost use Rattle.pipeline_language.specs.Language.{Means};
+ghost use Rattle.pipeline_language.specs.Syntax.{Program};
 
-use crate::known::{known_number_count, known_number_sum};
+use crate::known::known_number_sum;
 use crate::numbers::number_value;
 use crate::ranges::{closed_numbers, open_numbers};
 use crate::texts::text_value;
@@ -66,9 +69,6 @@ fn list_value(
     };
     let mut plan: Plan<Section<SliceSplit<'_, i64>>, Numbers> = Plan { source, stages };
     optimised(&mut plan);
-    if let Some(told) = known_number_count(engine.alloc, &plan, &terminal) {
-        return told;
-    }
     number_value(
         engine,
         hashes,
@@ -91,9 +91,6 @@ fn range_value(
     let source = NumberRange::Range(range);
     let mut plan: Plan<NumberRange, Numbers> = Plan { source, stages };
     optimised(&mut plan);
-    if let Some(told) = known_number_count(engine.alloc, &plan, &terminal) {
-        return told;
-    }
     if let Some(told) = known_number_sum(engine, &plan, &terminal) {
         return told;
     }
@@ -105,3 +102,9 @@ fn range_value(
         &terminal,
     )
 }
+
+/// All programs that a file means tell the same.
+pub fn one_value()
+    ensures by_file { (file : List ℕ) (one other : Program)
+        → Means file one → Means file other → program_told one ≡ program_told other }
+{}

@@ -1,4 +1,13 @@
+pub mod Anys
+pub mod Falling
 pub mod Joined
+pub mod Joining
+pub mod Leading
+pub mod Longest
+pub mod Meeting
 pub mod Members
 pub mod OneLine
 pub mod PartForms
+pub mod Popping
+pub mod Reached
+pub mod Telling

@@ -1,2 +1,3 @@
 pub mod OneLine
 pub mod Parts
+pub mod Ways

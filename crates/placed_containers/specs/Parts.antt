@@ -1,5 +1,5 @@
 -- What lines tell of the parts of a list.
-use Rattle.std.specs.Prelude.{◌≡◌, ◌≤◌, ◌++◌, ℕ, List, [], ◌∷◌, Some, codes, ⊤}
+use Rattle.std.specs.Prelude.{◌≡◌, ◌≤◌, ◌++◌, ℕ, List, [], ◌∷◌, Any, Some, codes, ⊤}
 use Rattle.serde_json.specs.Data.{Data, number, unsigned, string, array}
 use Rattle.serde_json.specs.View.{items_of}
 use Rattle.serde_json.specs.Read.{read}
@@ -19,9 +19,17 @@ header_form job from to of = string (codes "parts") ∷ number (unsigned 1) ∷ 
 abbrev pub part_form : List ℕ → ℕ → ℕ → ℕ → Data → Data
 part_form job from to of container = array (items_of (header_form job from to of ++ container ∷ []))
 
+-- the line is one of the job, of the part between two places of so many
+abbrev pub IsAt : List ℕ → ℕ → ℕ → ℕ → List ℕ → Type 0
+IsAt job from to of line = (container : Data) × (read line ≡ Some (part_form job from to of container))
+
 -- the line is one of the job
 abbrev pub IsOfJob : List ℕ → List ℕ → Type 0
-IsOfJob job line = (from to of : ℕ) × (container : Data) × (read line ≡ Some (part_form job from to of container))
+IsOfJob job line = (from to of : ℕ) × IsAt job from to of line
+
+-- one of the lines is of the part between two places of n
+abbrev pub Told : {L : Type 0} → (L → List ℕ) → List ℕ → ℕ → List L → ℕ → ℕ → Type 0
+Told bytes job n lines p q = Any (λ line. IsAt job p q n (bytes line)) lines
 
 -- the line tells of the part between two places of n
 abbrev pub IsPartLine : {X : Type 0} → (List X → Data → Type 0) → List ℕ → (ℕ → ℕ → List X) → ℕ → List ℕ → Type 0

@@ -1,14 +1,17 @@
 //! A job over the parts of a list.
-ghost use Rattle.std.specs.Prelude.{◌≡◌, ◌≤◌, ℕ, List, All, Some, IfOk, IfErr, IsTrue, string_bytes};
+ghost use Rattle.std.specs.Prelude.{◌≡◌, ◌<◌, ◌≤◌, ℕ, List, All, Some, IfOk, IfErr, IsTrue, length, string_bytes};
+ghost use Rattle.std.specs.List.{AllZip};
 ghost use Rattle.collectors.specs.Laws.{IsContainerOf};
 ghost use Rattle.wire_form.specs.Forms.{IsFormOf};
 ghost use Rattle.placed_containers.specs.OneLine.{is_one_line};
-ghost use Rattle.placed_containers.specs.Parts.{IsForMore, IsOfJob, IsPart, IsPartLine, Joins};
+ghost use Rattle.placed_containers.specs.Parts.{IsAt, IsForMore, IsOfJob, IsPart, IsPartLine, Joins, Told};
+ghost use Rattle.placed_containers.specs.Ways.{IsLongestWay, IsWay, begin_of, end_of};
 ghost use Rattle.placed_containers.specs.declared.error.PartsError.{PartsError};
 ghost use Rattle.wire_form.specs.declared.error.WireError.{WireError};
 
 use crate::line::{part_value, told_by};
-use crate::pieces::{Part, finish_pieces, join_parts};
+use crate::pieces::{Part, join_parts};
+use crate::ways::finish_whole;
 use crate::{PartsError, Places};
 use std::alloc::Global;
 use wire_form::{FromWire, WireError, WireForm};
@@ -45,6 +48,8 @@ impl<'a, C: WireForm> Job<'a, C> {
             (between : ℕ → ℕ → List C.Item.Content) → made (between places.from places.to) container
             → IfOk result (λ line.
             IsPartLine tells self.now.name.now between places.of (string_bytes line)) }
+        ensures places { let name = self.now.name.now in
+            IfOk result (λ line. IsAt name places.from places.to places.of (string_bytes line)) }
         ensures known { places.from ≤ places.to → places.to ≤ places.of
             → IfErr result (λ e. e ≡ PartsError.NoMemory) }
     {
@@ -75,7 +80,8 @@ fn read_part<C: FromWire>(
     text: &str,
 ) -> Result<Part<C::Acc>, PartsError>
     requires { C.ready job.now.collector.now }
-    ensures own { IfOk result (λ _. IsOfJob job.now.name.now text.now) }
+    ensures places { let name = job.now.name.now in
+        IfOk result (λ part. IsAt name (begin_of part) (end_of part) part.places.of text.now) }
     ensures part { let c = job.now.collector.now in
         let made = IsContainerOf C.Item.is_value (C.content c) (C.empty c) (C.add c) in
         let tells = IsFormOf C.Item.is_value (C.content c) (C.empty c) (C.add c) (C.form c) in
@@ -115,6 +121,9 @@ fn read_parts<C: FromWire>(
     requires { C.ready job.now.collector.now }
     ensures own { let name = job.now.name.now in
         IfOk result (λ _. All (λ line. IsOfJob name line.now) lines.now) }
+    ensures places { let name = job.now.name.now in
+        IfOk result (λ parts. AllZip (λ part line.
+        IsAt name (begin_of part) (end_of part) part.places.of line.now) parts.items lines.now) }
     ensures parts { let c = job.now.collector.now in
         let made = IsContainerOf C.Item.is_value (C.content c) (C.empty c) (C.add c) in
         let tells = IsFormOf C.Item.is_value (C.content c) (C.empty c) (C.add c) (C.form c) in
@@ -149,6 +158,10 @@ fn write_parts<C: WireForm>(
     requires { C.levels job.now.collector.now ≤ 126 }
     ensures one_line { IfOk result (λ lines.
         All (λ line. IsTrue (is_one_line (string_bytes line))) lines.items) }
+    ensures places { let name = job.now.name.now in
+        IfOk result (λ lines. AllZip (λ part line.
+        IsAt name (begin_of part) (end_of part) part.places.of (string_bytes line))
+        parts.items lines.items) }
     ensures lines { let c = job.now.collector.now in
         let name = job.now.name.now in
         let made = IsContainerOf C.Item.is_value (C.content c) (C.empty c) (C.add c) in
@@ -169,30 +182,10 @@ fn write_parts<C: WireForm>(
 }
 
 impl<'a, C: FromWire> Job<'a, C> {
-    // The parts that lines tell of, in order, neighbours joined.
-    fn pieces(&self, alloc: Global, lines: &[&str]) -> Result<Vec<Part<C::Acc>>, PartsError>
-        requires { C.ready self.now.collector.now }
-        ensures own { let name = self.now.name.now in
-            IfOk result (λ _. All (λ line. IsOfJob name line.now) lines.now) }
-        ensures pieces { let c = self.now.collector.now in
-            let made = IsContainerOf C.Item.is_value (C.content c) (C.empty c) (C.add c) in
-            let tells = IsFormOf C.Item.is_value (C.content c) (C.empty c) (C.add c) (C.form c) in
-            (between : ℕ → ℕ → List C.Item.Content) (n : ℕ) → Joins between
-            → All (λ line. IsPartLine tells self.now.name.now between n line.now) lines.now
-            → IfOk result (λ pieces. All (IsPart made between n) pieces.items) }
-        ensures known { let c = self.now.collector.now in
-            let tells = IsFormOf C.Item.is_value (C.content c) (C.empty c) (C.add c) (C.form c) in
-            (between : ℕ → ℕ → List C.Item.Content) (n : ℕ)
-            → All (λ line. IsPartLine tells self.now.name.now between n line.now) lines.now
-            → IfErr result (λ e. e ≡ PartsError.NoMemory) }
-    {
-        let parts = read_parts(self, alloc, lines)?;
-        Ok(join_parts(alloc, self.collector, parts)?)
-    }
-
     /// The result on the whole list, from lines that tell of its parts, in any order.
     ///
-    /// `Missing` where they don't tell of all places. Any other line than one of this job's parts is an error.
+    /// `Missing` where no lines lead from 0 to the whole's end, each from where another ends. Any other line than one of this job's
+    /// parts is an error.
     pub fn finish_parts(&self, alloc: Global, lines: &[&str]) -> Result<C::Out, PartsError>
         requires { C.ready self.now.collector.now }
         ensures own { let name = self.now.name.now in
@@ -207,14 +200,23 @@ impl<'a, C: FromWire> Job<'a, C> {
             (between : ℕ → ℕ → List C.Item.Content) (n : ℕ)
             → All (λ line. IsPartLine tells self.now.name.now between n line.now) lines.now
             → IfErr result IsForMore }
+        ensures complete { let c = self.now.collector.now in
+            let name = self.now.name.now in
+            let tells = IsFormOf C.Item.is_value (C.content c) (C.empty c) (C.add c) (C.form c) in
+            (between : ℕ → ℕ → List C.Item.Content) (n : ℕ)
+            → All (λ line. IsPartLine tells name between n line.now) lines.now
+            → 0 < length lines.now → (stops : List ℕ)
+            → IsWay (Told (λ line. line.now) name n lines.now) 0 stops n
+            → IfErr result (λ e. e ≡ PartsError.NoMemory) }
     {
-        let pieces = self.pieces(alloc, lines)?;
-        finish_pieces(alloc, self.collector, pieces)
+        let parts = read_parts(self, alloc, lines)?;
+        finish_whole(alloc, self.collector, parts)
     }
 
     /// The lines of the parts, neighbours joined, from lines that tell of parts, in any order.
     ///
-    /// A part that is told already is left out. Any other line than one of this job's parts is an error.
+    /// A part that is told twice is told once. Two are joined where nothing else ends or begins. Any other line than one of this job's
+    /// parts is an error.
     pub fn combine_parts(&self, alloc: Global, lines: &[&str]) -> Result<Vec<String>, PartsError>
         requires ready { C.ready self.now.collector.now }
         requires levels { C.levels self.now.collector.now ≤ 126 }
@@ -234,8 +236,17 @@ impl<'a, C: FromWire> Job<'a, C> {
             (between : ℕ → ℕ → List C.Item.Content) (n : ℕ) → Joins between
             → All (λ line. IsPartLine tells self.now.name.now between n line.now) lines.now
             → IfErr result (λ e. e ≡ PartsError.NoMemory) }
+        ensures longest { let c = self.now.collector.now in
+            let name = self.now.name.now in
+            let tells = IsFormOf C.Item.is_value (C.content c) (C.empty c) (C.add c) (C.form c) in
+            (between : ℕ → ℕ → List C.Item.Content) (n : ℕ) → Joins between
+            → All (λ line. IsPartLine tells name between n line.now) lines.now
+            → (p q : ℕ) → IsLongestWay (Told (λ line. line.now) name n lines.now) p q
+            → IfOk result (λ joined. IsLongestWay (Told string_bytes name n joined.items) p q) }
+        ensures some { 0 < length lines.now → IfOk result (λ joined. 0 < length joined.items) }
     {
-        let pieces = self.pieces(alloc, lines)?;
+        let parts = read_parts(self, alloc, lines)?;
+        let pieces = join_parts(alloc, self.collector, parts)?;
         write_parts(self, alloc, pieces)
     }
 }

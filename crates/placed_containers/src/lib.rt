@@ -8,6 +8,7 @@ mod job;
 mod line;
 mod pieces;
 mod places;
+mod ways;
 
 pub use error::PartsError;
 pub use job::Job;

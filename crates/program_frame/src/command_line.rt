@@ -47,7 +47,7 @@ pub fn given_words<R: Host>(rt: &R) -> Result<Vec<String>, Failure> {
 }
 
 /// The run that the words ask for.
-pub(crate) fn run_of(words: &ArgMatches<'_>) -> Run<'static, NoGate> {
+pub fn run_of(words: &ArgMatches<'_>) -> Run<'static, NoGate> {
     let workers = words.get_one("workers").unwrap_or(DEFAULT_WORKERS);
     Run::new(workers.clamp(1, MOST_WORKERS))
 }
@@ -76,7 +76,8 @@ pub fn parse<'a, S: AsStr>(
     Ok(command.try_get_matches_from(given)?)
 }
 
-fn workers<'a>(alloc: Global) -> Arg<'a> {
+/// The option of a run's workers.
+pub fn workers<'a>(alloc: Global) -> Arg<'a> {
     Arg::new(alloc, "workers")
         .long("workers")
         .value_name("N")

@@ -18,6 +18,8 @@ const BAD_WORDS: u8 = 2;
 
 const FAILED: u8 = 3;
 
+const INCOMPLETE: u8 = 4;
+
 /// Why a program gives no answer.
 #[derive(Debug, Drop, Error)]
 pub enum Failure {
@@ -36,6 +38,9 @@ pub enum Failure {
     File(String, io::Error),
     #[error("standard output: {0}")]
     Unwritten(io::Error),
+    /// What has yet to come before there is an answer.
+    #[error("{0}")]
+    Incomplete(String),
 }
 
 impl From<clap::Error> for Failure {
@@ -68,12 +73,13 @@ impl Failure {
             Failure::BadData(_) => BAD_DATA,
             Failure::Words(_) | Failure::NoWords(_) => BAD_WORDS,
             Failure::NoMemory(_) | Failure::File(_, _) | Failure::Unwritten(_) => FAILED,
+            Failure::Incomplete(_) => INCOMPLETE,
         }
     }
 }
 
 /// The failure of data that are read under this name.
-pub(crate) fn bad_data(alloc: Global, name: &str, what: &impl Display) -> Failure {
+pub fn bad_data(alloc: Global, name: &str, what: &impl Display) -> Failure {
     match format!(in alloc; "{name}: {what}") {
         Ok(text) => Failure::BadData(text),
         Err(refused) => Failure::NoMemory(refused),
@@ -81,7 +87,7 @@ pub(crate) fn bad_data(alloc: Global, name: &str, what: &impl Display) -> Failur
 }
 
 /// The failure of a reader, or of a file, of this name.
-pub(crate) fn failed(alloc: Global, name: &str, error: io::Error) -> Failure {
+pub fn failed(alloc: Global, name: &str, error: io::Error) -> Failure {
     match String::from_str(alloc, name) {
         Ok(name) => Failure::File(name, error),
         Err(refused) => Failure::NoMemory(refused),

@@ -18,8 +18,8 @@ mod task;
 mod watch;
 
 pub use both::Both;
-pub use command_line::{ValueOption, Words, given_words, parse};
-pub use failure::Failure;
+pub use command_line::{ValueOption, Words, given_words, parse, run_of, workers};
+pub use failure::{Failure, bad_data, failed};
 pub use frame::{Answer, ended};
 pub use host::Host;
 pub use task::{Reading, Task};

@@ -7,16 +7,18 @@ use crate::slow::{ThreeBytes, fails_behind, slow};
 use collectors::{Counting, ToList};
 use derived_collectors::{Trying, UpToError};
 use line_blocks::LinesError;
-use line_readers::{LineFunction, LineStream, OwnLine, ReadLines, lines_of};
+use line_readers::{LineFunction, LineStream, OwnLine, ReadLines, fold_ahead, lines_of};
 use parallel_streams::{Engine, Run};
 use spliterator::NoMemory;
 use stages::{Nothing, Sink};
 use std::alloc::Global;
+use std::cell::Cell;
 use std::process::Abort;
+use std::sync::Wait;
 use std::thread::Threads;
 use std::time::Clock;
 use stealing_pool::NoGate;
-use stream_functions::{Above, Composed, Length};
+use stream_functions::{Above, Composed, Length, Pieces};
 
 /// Bytes, a block's size, and their lines, or what is at fault and where.
 type Row<'a> = (&'a [u8], usize, Result<&'a [&'a str], (&'a str, u64)>);
@@ -68,7 +70,7 @@ fn are(texts: &[String], lines: &[&str]) -> bool {
             .all(|(text, line)| text.as_str() == *line)
 }
 
-fn rows<R: Threads + Clock + Abort + Alloc<A = Global> + Sync>(
+fn rows<R: Threads + Clock + Wait + Abort + Alloc<A = Global> + Sync>(
     engine: &Engine<'_, R, NoGate>,
 ) -> Result<(), LinesError> {
     let rt = engine.rt;
@@ -243,7 +245,7 @@ static TRIED: [(&[u8], &[&str], bool); 5] = [
 ];
 
 /// Hands lines over, in blocks of four bytes, up to the first that has failed.
-fn hand_tried<R: Threads + Clock + Alloc<A = Global> + Sync>(
+fn hand_tried<R: Threads + Clock + Wait + Alloc<A = Global> + Sync>(
     engine: &Engine<'_, R, NoGate>,
     bytes: &[u8],
     tried: &mut UpToError<'_, Vec<String>, String>,
@@ -256,7 +258,7 @@ fn hand_tried<R: Threads + Clock + Alloc<A = Global> + Sync>(
 }
 
 /// Whether a line has failed. Once one has, nothing more is read.
-fn hand_over<R: Threads + Clock + Alloc<A = Global> + Sync>(
+fn hand_over<R: Threads + Clock + Wait + Alloc<A = Global> + Sync>(
     engine: &Engine<'_, R, NoGate>,
     bytes: &[u8],
     texts: &mut Vec<String>,
@@ -298,7 +300,7 @@ fn short_blocks(
     lines.map_lines(OwnLine { alloc })
 }
 
-fn matched<R: Threads + Clock + Sync, L: LineStream<Item = String> + Drop>(
+fn matched<R: Threads + Clock + Wait + Sync, L: LineStream<Item = String> + Drop>(
     engine: &Engine<'_, R, NoGate>,
     some: L,
     each: L,
@@ -335,11 +337,10 @@ const SEVEN: &[u8] = b"a\nbb\na\nccc\n\nbb\nd\n";
 /// Longer than nothing.
 const SOME: Composed<Length, Above> = Composed(Length, Above(0));
 
-fn leave<R: Threads + Clock + Abort + Alloc<A = Global> + Sync, L: LineStream<Item = String>>(
-    engine: &Engine<'_, R, NoGate>,
-    lines: L,
-    wanted: &[&str],
-) -> Result<(), LinesError>
+fn leave<
+    R: Threads + Clock + Wait + Abort + Alloc<A = Global> + Sync,
+    L: LineStream<Item = String>,
+>(engine: &Engine<'_, R, NoGate>, lines: L, wanted: &[&str]) -> Result<(), LinesError>
     requires { L.ready lines }
 {
     let texts = lines.collect_on(engine, &ToList::<String>::new(engine.alloc))?;
@@ -349,12 +350,10 @@ fn leave<R: Threads + Clock + Abort + Alloc<A = Global> + Sync, L: LineStream<It
 
 // The front that is so long, what follows so many, and the front of the lines that differ, over any lines: each call that names a stream's type costs a
 // check as much as several such functions.
-fn leave_front<R: Threads + Clock + Abort + Alloc<A = Global> + Sync, L: LineStream<Item = String>>(
-    engine: &Engine<'_, R, NoGate>,
-    lines: L,
-    most: u32,
-    wanted: &[&str],
-) -> Result<(), LinesError>
+fn leave_front<
+    R: Threads + Clock + Wait + Abort + Alloc<A = Global> + Sync,
+    L: LineStream<Item = String>,
+>(engine: &Engine<'_, R, NoGate>, lines: L, most: u32, wanted: &[&str]) -> Result<(), LinesError>
     requires lines { L.ready lines }
     requires lead { ClonesAlike L.Lead.is_clone L.Lead.content }
 {
@@ -362,7 +361,7 @@ fn leave_front<R: Threads + Clock + Abort + Alloc<A = Global> + Sync, L: LineStr
 }
 
 fn leave_behind<
-    R: Threads + Clock + Abort + Alloc<A = Global> + Sync,
+    R: Threads + Clock + Wait + Abort + Alloc<A = Global> + Sync,
     L: LineStream<Item = String>,
 >(engine: &Engine<'_, R, NoGate>, lines: L, number: u32, wanted: &[&str]) -> Result<(), LinesError>
     requires lines { L.ready lines }
@@ -372,7 +371,7 @@ fn leave_behind<
 }
 
 fn leave_front_apart<
-    R: Threads + Clock + Abort + Alloc<A = Global> + Sync,
+    R: Threads + Clock + Wait + Abort + Alloc<A = Global> + Sync,
     L: LineStream<Item = String>,
 >(engine: &Engine<'_, R, NoGate>, lines: L, most: u32, wanted: &[&str]) -> Result<(), LinesError>
     requires lines { L.ready lines }
@@ -389,7 +388,7 @@ fn seven(alloc: Global, size: usize) -> ReadLines<ThreeBytes<'static>, OwnLine, 
     lines.map_lines(OwnLine { alloc })
 }
 
-fn one_skips<R: Threads + Clock + Abort + Alloc<A = Global> + Sync>(
+fn one_skips<R: Threads + Clock + Wait + Abort + Alloc<A = Global> + Sync>(
     engine: &Engine<'_, R, NoGate>,
     size: usize,
 ) -> Result<(), LinesError>
@@ -402,7 +401,7 @@ fn one_skips<R: Threads + Clock + Abort + Alloc<A = Global> + Sync>(
 /// The longest fronts that are wanted, and these.
 static FRONTS: [(u32, &[&str]); 2] = [(3, &["a", "bb", "a"]), (0, &[])];
 
-fn one_limits<R: Threads + Clock + Abort + Alloc<A = Global> + Sync>(
+fn one_limits<R: Threads + Clock + Wait + Abort + Alloc<A = Global> + Sync>(
     engine: &Engine<'_, R, NoGate>,
     size: usize,
 ) -> Result<(), LinesError>
@@ -414,7 +413,7 @@ fn one_limits<R: Threads + Clock + Abort + Alloc<A = Global> + Sync>(
     Ok(())
 }
 
-fn differing_stay<R: Threads + Clock + Abort + Alloc<A = Global> + Sync>(
+fn differing_stay<R: Threads + Clock + Wait + Abort + Alloc<A = Global> + Sync>(
     engine: &Engine<'_, R, NoGate>,
     size: usize,
 ) -> Result<(), LinesError>
@@ -427,7 +426,7 @@ fn differing_stay<R: Threads + Clock + Abort + Alloc<A = Global> + Sync>(
     )
 }
 
-fn one_takes_while<R: Threads + Clock + Abort + Alloc<A = Global> + Sync>(
+fn one_takes_while<R: Threads + Clock + Wait + Abort + Alloc<A = Global> + Sync>(
     engine: &Engine<'_, R, NoGate>,
     size: usize,
 ) -> Result<(), LinesError>
@@ -440,7 +439,7 @@ fn one_takes_while<R: Threads + Clock + Abort + Alloc<A = Global> + Sync>(
     )
 }
 
-fn one_drops_while<R: Threads + Clock + Abort + Alloc<A = Global> + Sync>(
+fn one_drops_while<R: Threads + Clock + Wait + Abort + Alloc<A = Global> + Sync>(
     engine: &Engine<'_, R, NoGate>,
     size: usize,
 ) -> Result<(), LinesError>
@@ -453,7 +452,7 @@ fn one_drops_while<R: Threads + Clock + Abort + Alloc<A = Global> + Sync>(
     )
 }
 
-fn two_leave_the_third<R: Threads + Clock + Abort + Alloc<A = Global> + Sync>(
+fn two_leave_the_third<R: Threads + Clock + Wait + Abort + Alloc<A = Global> + Sync>(
     engine: &Engine<'_, R, NoGate>,
     size: usize,
 ) -> Result<(), LinesError>
@@ -463,7 +462,7 @@ fn two_leave_the_third<R: Threads + Clock + Abort + Alloc<A = Global> + Sync>(
     leave_front(engine, behind_two, 1, &["a"])
 }
 
-fn three_leave_the_first_that_differ<R: Threads + Clock + Abort + Alloc<A = Global> + Sync>(
+fn three_leave_the_first_that_differ<R: Threads + Clock + Wait + Abort + Alloc<A = Global> + Sync>(
     engine: &Engine<'_, R, NoGate>,
     size: usize,
 ) -> Result<(), LinesError>
@@ -473,7 +472,7 @@ fn three_leave_the_first_that_differ<R: Threads + Clock + Abort + Alloc<A = Glob
     leave_front_apart(engine, behind_one, 3, &["bb", "a", "ccc"])
 }
 
-fn two_leave_the_last<R: Threads + Clock + Abort + Alloc<A = Global> + Sync>(
+fn two_leave_the_last<R: Threads + Clock + Wait + Abort + Alloc<A = Global> + Sync>(
     engine: &Engine<'_, R, NoGate>,
     size: usize,
 ) -> Result<(), LinesError>
@@ -508,7 +507,7 @@ fn spoilt(alloc: Global) -> ReadLines<ThreeBytes<'static>, OwnLine, Nothing<Stri
 }
 
 // How many lines the front has that is so long at most.
-fn count_front<R: Threads + Clock + Sync, L: LineStream>(
+fn count_front<R: Threads + Clock + Wait + Sync, L: LineStream>(
     engine: &Engine<'_, R, NoGate>,
     lines: L,
     most: u32,
@@ -532,5 +531,88 @@ fn nothing_is_told_of_what_stands_behind_a_limit(rt: HostRuntime) -> Result<(), 
     assert!(&rt; are(&texts, &["ab"]));
     let all = count_front(&engine, spoilt(alloc), 5);
     assert!(&rt; matches!(all, Err(LinesError::NotUtf8(9) | LinesError::NoMemory)));
+    Ok(())
+}
+
+/// Bytes, a block's size, and the pieces of their lines between commas.
+static PIECES: [(&[u8], usize, &[&str]); 9] = [
+    (b"", 4, &[]),
+    (b"\n", 4, &[""]),
+    (b"ab,c", 8, &["ab", "c"]),
+    (b"ab,c\n", 8, &["ab", "c"]),
+    (b",\n", 8, &["", ""]),
+    (b"a,,b\n\nc,", 5, &["a", "", "b", "", "c", ""]),
+    (
+        b"a,b\n,c\nd,e,f\n,",
+        6,
+        &["a", "b", "", "c", "d", "e", "f", "", ""],
+    ),
+    (b"a b;c\n", 8, &["a b;c"]),
+    (b"ab,c\r\nd,e\nfg\n", 7, &["ab", "c\r", "d", "e", "fg"]),
+];
+
+#[test]
+fn pieces_of_lines_in_their_order(rt: HostRuntime) -> Result<(), LinesError> {
+    let alloc = rt.alloc();
+    for workers in [1, 4] {
+        let engine = engine_of(&rt, workers);
+        for &(bytes, size, wanted) in &PIECES {
+            let lines = lines_of(slow(bytes)).in_blocks_of(size);
+            let pieces = lines.flat_map_lines(Pieces::new(alloc, ','));
+            let texts = pieces.collect_on(&engine, &ToList::<String>::new(alloc))?;
+            assert!(&rt; are(&texts, wanted));
+        }
+    }
+    Ok(())
+}
+
+/// Items that an iterator gives, how many are folded, and what comes of it: the items in their order, or the first error.
+type Ahead<'a> = (&'a [Result<i64, i64>], u32, Result<&'a [i64], i64>);
+
+/// A number below zero can't be folded.
+static AHEAD: [Ahead<'static>; 9] = [
+    (&[], 0, Ok(&[])),
+    (&[Ok(1)], 1, Ok(&[1])),
+    (&[Ok(1), Ok(2), Ok(3)], 3, Ok(&[1, 2, 3])),
+    (&[Err(5), Ok(1)], 0, Err(5)),
+    (&[Ok(1), Err(5), Err(6)], 1, Err(5)),
+    (&[Ok(1), Err(5), Ok(-2)], 1, Err(5)),
+    (&[Ok(1), Ok(-2), Ok(3)], 2, Err(-2)),
+    (&[Ok(1), Ok(-2), Err(5)], 2, Err(-2)),
+    (&[Ok(1), Ok(2), Ok(-3)], 3, Err(-3)),
+];
+
+/// The items, as long as none is below zero, and how many were folded.
+fn listed<R: Threads + Wait>(
+    engine: &Engine<'_, R, NoGate>,
+    items: &[Result<i64, i64>],
+) -> (Result<Vec<i64>, Option<i64>>, u32) {
+    let number = Cell::new(0u32);
+    let given = items.iter().map(|item| item.map_err(Some));
+    let none = Vec::new(engine.alloc);
+    let list = fold_ahead(engine, given, none, |mut list: Vec<i64>, x: i64| {
+        number.set(number.get().wrapping_add(1));
+        if x < 0 {
+            return Err(Some(x));
+        }
+        list.push(x).map_err(|_| None)?;
+        Ok(list)
+    });
+    (list, number.get())
+}
+
+#[test]
+fn items_are_folded_while_the_next_is_made(rt: HostRuntime) -> Result<(), NoMemory> {
+    for workers in [1, 4] {
+        let engine = engine_of(&rt, workers);
+        for &(items, number, wanted) in &AHEAD {
+            let (list, folded) = listed(&engine, items);
+            match list {
+                Err(None) => return Err(NoMemory),
+                Err(Some(error)) => assert!(&rt; wanted == Err(error) && folded == number),
+                Ok(list) => assert!(&rt; wanted == Ok(list.as_slice()) && folded == number),
+            }
+        }
+    }
     Ok(())
 }

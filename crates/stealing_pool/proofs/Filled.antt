@@ -67,7 +67,8 @@ module _ {S A : Type 0} where
 
 module _ {S A : Type 0} (work : Work A) (Is : S → Type 0) (number : S → ℕ) (status : S → ℕ → Status) (drained : S → Type 0) (made_cut : S → ℕ → Type 0) (seats : List S)
     (shifts : List (Shift S A)) (all : length shifts ≡ length seats)
-    (each : (k : ℕ) (d : S) (e : Shift S A) → k < length seats → IsShift work Is number status drained made_cut (get_or seats k d) (get_or shifts k e))
+    (each : (k : ℕ) (d : S) (e : Shift S A) → k < length seats → IsShift work Is number status made_cut (get_or seats k d) (get_or shifts k e))
+    (ends : 0 < length seats → (f : Shift S A) → (get_or shifts 0 f).refused ≡ false → drained (get_or shifts 0 f).seat)
     (n : ℕ) (size : n ≡ work.leaves) (served : All (λ s. s.refused ≡ false) shifts)
     (back : List S) (back_is : back ≡ map (λ s. s.seat) shifts)
     (places : List (Option (Portion A))) (places_are : places ≡ place_shifts (replicate n None) shifts)
@@ -96,9 +97,9 @@ module _ {S A : Type 0} (work : Work A) (Is : S → Type 0) (number : S → ℕ)
   has_leaf : (i j : ℕ) (d : Option (Portion A)) (f : Shift S A) → j < length shifts → status (get_or shifts j f).seat i ≢ Unknown → (s : Status) → status (get_or shifts j f).seat i ≡ s
       → (get_or places i d ≢ None) ⊎ ((c : ℕ) × (c < i) × Reaches work.needed (sum_below work.full (c + 1)))
   has_leaf i j d f within known Unknown is = absurd (known is)
-  has_leaf i j d f within known Given is = absurd ((((each j f.seat f (omega arith)).served (served j f within)).1 i).0 is)
+  has_leaf i j d f within known Given is = absurd (((each j f.seat f (omega arith)).kept (served j f within) i).0 is)
   has_leaf i j d f within known (Published m) is =
-      let kept = (((each j f.seat f (omega arith)).served (served j f within)).1 i).1 m is in
+      let kept = ((each j f.seat f (omega arith)).kept (served j f within) i).1 m is in
       let e : Ran A = some_of (get_or shifts j f).ran.items kept.0 kept.1 in
       let filled : get_or (place_shifts (replicate n None) shifts) (get_or (get_or shifts j f).ran.items kept.0 e).leaf d ≢ None = place_fills (replicate n None) shifts j kept.0 f e within_places within kept.1 d in
       let P : ℕ → Type 0 = λ l. get_or (place_shifts (replicate n None) shifts) l d ≢ None in
@@ -113,7 +114,7 @@ module _ {S A : Type 0} (work : Work A) (Is : S → Type 0) (number : S → ℕ)
   given_to i within some =
       let f : Shift S A = some_of shifts 0 (omega arith) in
       let b = back_len in
-      let drained_first : (x : S) → drained (get_or back 0 x) = λ x. subst drained (sym (back_at 0 x f (omega arith))) (((each 0 f.seat f some).served (served 0 f (omega arith))).0) in
+      let drained_first : (x : S) → drained (get_or back 0 x) = λ x. subst drained (sym (back_at 0 x f (omega arith))) (ends some f (served 0 f (omega arith))) in
       let given = closes.given 0 (omega arith) drained_first i (let e = case.all in omega arith) in
       let inside : given.0 < length shifts = (let w = given.1 in omega arith) in
       (given.0, inside, f, (λ e. given.2 f.seat (ap (λ s. status s i) (back_at given.0 f.seat f inside) ∙ e)))
@@ -126,9 +127,9 @@ module _ {S A : Type 0} (work : Work A) (Is : S → Type 0) (number : S → ℕ)
 
   reported : (i j : ℕ) (f : Shift S A) → i < work.leaves → j < length shifts → status (get_or shifts j f).seat i ≢ Unknown → (s : Status) → status (get_or shifts j f).seat i ≡ s → Reported work.needed (work.full i) i (count i) cut
   reported i j f at within known Unknown is = absurd (known is)
-  reported i j f at within known Given is = absurd ((((each j f.seat f (omega arith)).served (served j f within)).1 i).0 is)
+  reported i j f at within known Given is = absurd (((each j f.seat f (omega arith)).kept (served j f within) i).0 is)
   reported i j f at within known (Published m) is =
-      let kept = (((each j f.seat f (omega arith)).served (served j f within)).1 i).1 m is in
+      let kept = ((each j f.seat f (omega arith)).kept (served j f within) i).1 m is in
       let e : Ran A = some_of (get_or shifts j f).ran.items kept.0 kept.1 in
       let ran : IsRan work (get_or (get_or shifts j f).ran.items kept.0 e) = (each j f.seat f (omega arith)).ran kept.0 e kept.1 in
       let P : ℕ → Type 0 = λ l. IsLawful work.needed (work.full l) (get_or (get_or shifts j f).ran.items kept.0 e).portion.count in
@@ -153,7 +154,7 @@ module _ {S A : Type 0} (work : Work A) (Is : S → Type 0) (number : S → ℕ)
         let f : Shift S A = some_of shifts j within in
         let shift = each j f.seat f (omega arith) in
         let published : status (get_or shifts j f).seat i ≡ Published n = ap (λ s. status s i) (sym (back_at j f.seat f within)) ∙ as_published f.seat in
-        let (k, there, ran) = ((shift.served (served j f within)).1 i).1 n published in
+        let (k, there, ran) = (shift.kept (served j f within) i).1 n published in
         let e : Ran A = some_of (get_or shifts j f).ran.items k there in
         let made : made_cut (get_or shifts j f).seat i = subst (made_cut (get_or shifts j f).seat) (ran e).0 (shift.cuts k e there (subst (Reaches work.needed) (sym (ran e).1) reached)) in
         closes.least j i inside (λ d. let P : S → Type 0 = λ s. made_cut s i in subst P (sym (back_at j d f within)) made);

@@ -51,8 +51,8 @@ pub some_of : {X : Type 0} (xs : List X) (k : ℕ) → k < length xs → X
 some_of [] k within = absurd (omega arith)
 some_of (x ∷ xs) k within = x
 
-module _ {S A : Type 0} (work : Work A) (Is : S → Type 0) (number : S → ℕ) (status : S → ℕ → Status) (drained : S → Type 0) (made_cut : S → ℕ → Type 0) (seats : List S) (shifts : List (Shift S A)) (all : length shifts ≡ length seats)
-    (each : (k : ℕ) (d : S) (e : Shift S A) → k < length seats → IsShift work Is number status drained made_cut (get_or seats k d) (get_or shifts k e)) where
+module _ {S A : Type 0} (work : Work A) (Is : S → Type 0) (number : S → ℕ) (status : S → ℕ → Status) (made_cut : S → ℕ → Type 0) (seats : List S) (shifts : List (Shift S A)) (all : length shifts ≡ length seats)
+    (each : (k : ℕ) (d : S) (e : Shift S A) → k < length seats → IsShift work Is number status made_cut (get_or seats k d) (get_or shifts k e)) where
   pub shifts_within : (n : ℕ) → n ≡ work.leaves → All (λ s. All (λ r. r.leaf < n) s.ran.items) shifts
   shifts_within n is k e within j d inside =
       let place = ((each k e.seat e (omega arith)).ran j d inside).place in omega arith

@@ -22,6 +22,14 @@ each_of_made Gives seat seats all shift shifts made is_all is_made first each =
     (λ v is. subst (λ xs. Each xs v.items) (sym is_all) (subst (λ ys. Each (seat ∷ seats) ys) (sym is) (first_and_each Gives seat seats shift shifts first each)))
     is_made
 
+-- what holds of the first holds of the list's first
+pub first_of_made : {T E : Type 0} (Ends : T → Type 0) (shift : T) (shifts : List T) (made : Result (Vec T Global) E)
+    → IfOk made (λ v. v.items ≡ shift ∷ shifts) → Ends shift → IfOk made (λ v. (e : T) → Ends (slice_index_or v.items 0 e))
+first_of_made Ends shift shifts made is_made first =
+    IfOk-weaker made (λ v. v.items ≡ shift ∷ shifts) (λ v. (e : _) → Ends (slice_index_or v.items 0 e))
+    (λ v is e. subst (λ l. Ends (slice_index_or l 0 e)) (sym is) first)
+    is_made
+
 -- what holds of each place of a list holds of its head, and of each place behind it
 pub head_of_each : {S : Type 0} (P : S → Type 0) (seat : S) (seats all : List S) → all ≡ seat ∷ seats
     → ((k : ℕ) (d : S) → k < length all → P (slice_index_or all k d))

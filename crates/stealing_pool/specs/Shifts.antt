@@ -32,12 +32,12 @@ abbrev pub CutBy : {S A : Type 0} → Work A → (S → ℕ → Type 0) → S �
 CutBy work made_cut seat r = Reaches work.needed r.portion.count → made_cut seat r.leaf
 
 -- what a worker hands back of the seat that it was given
-pub record IsShift {S A : Type 0} (work : Work A) (Is : S → Type 0) (number : S → ℕ) (status : S → ℕ → Status) (drained : S → Type 0) (made_cut : S → ℕ → Type 0) (seat : S) (shift : Shift S A) : Type 0 where
+pub record IsShift {S A : Type 0} (work : Work A) (Is : S → Type 0) (number : S → ℕ) (status : S → ℕ → Status) (made_cut : S → ℕ → Type 0) (seat : S) (shift : Shift S A) : Type 0 where
   pub of : Is shift.seat
   pub numbered : number shift.seat ≡ number seat
   pub ran : All (IsRan work) shift.ran.items
   pub cuts : All (CutBy work made_cut shift.seat) shift.ran.items
-  pub served : shift.refused ≡ false → drained shift.seat × KeepsShift (status shift.seat) shift.ran.items
+  pub kept : shift.refused ≡ false → KeepsShift (status shift.seat) shift.ran.items
 
 -- what a worker has done so far
 pub record IsBegun {S A : Type 0} (work : Work A) (Is : S → Type 0) (status : S → ℕ → Status) (made_cut : S → ℕ → Type 0) (shift : Shift S A) : Type 0 where

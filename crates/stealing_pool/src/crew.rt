@@ -3,10 +3,10 @@ ghost use Rattle.std.specs.Prelude.{◌≡◌, ◌<◌, ℕ, length, IfOk, All, 
 ghost use Rattle.std.specs.Thread.{IsSync};
 ghost use denote.Param.Send.{IsSend};
 
-use crate::patience::{ForNanos, Patience};
+use crate::patience::{Endless, Patience, Until};
 use std::alloc::{AllocError, Global};
 use std::thread::{Threads, join};
-use std::time::{Clock, Instant};
+use std::time::{Clock, Duration, Instant};
 use std::vec::IntoIter;
 
 /// What one thread does with the seat that it is given, and what it hands back.
@@ -19,23 +19,33 @@ pub trait Worker: Sync {
 
     ghost gives: { Self → Self.Seat → Self.Shift → Type 0 };
 
+    // no work is left behind it
+    ghost ends: { Self → Self.Shift → Type 0 };
+
     // a shift that is not over
     ghost begun: { Self → Self.Seat → Self.Shift → Type 0 };
 
     fn run(&self, seat: Self::Seat) -> Self::Shift
+        requires { accepts self.now seat }
+        ensures gives { gives self.now seat result }
+        ensures ends { ends self.now result };
+
+    /// The shift of a seat that is left idle.
+    fn idle(&self, seat: Self::Seat) -> Self::Shift
         requires { accepts self.now seat }
         ensures { gives self.now seat result };
 
     /// Works as long as there is patience. Says whether it left leaves.
     fn begin<P: Patience>(&self, patience: &P, seat: Self::Seat) -> (Self::Shift, bool)
         requires { accepts self.now seat }
-        ensures over { result.1 ≡ false → gives self.now seat result.0 }
+        ensures over { result.1 ≡ false → gives self.now seat result.0 × ends self.now result.0 }
         ensures left { result.1 ≡ true → begun self.now seat result.0 };
 
     /// Ends a shift that is not over.
     fn finish(&self, shift: Self::Shift) -> Self::Shift
         requires { (seat : Self.Seat) × begun self.now seat shift }
-        ensures { (seat : Self.Seat) → begun self.now seat shift → gives self.now seat result };
+        ensures gives { (seat : Self.Seat) → begun self.now seat shift → gives self.now seat result }
+        ensures ends { ends self.now result };
 }
 
 /// Calls both in threads of their own, and waits for them: where a new thread comes to this one's processor, it need not wait for a share of this
@@ -69,8 +79,8 @@ fn put_first<S: Drop>(first: S, mut others: Vec<S>) -> Result<Vec<S>, AllocError
     Ok(others)
 }
 
-/// Gives each seat to the worker in this thread, from the first on.
-fn run_here<W: Worker>(
+/// Leaves each seat idle, from the first on.
+fn leave_idle<W: Worker>(
     alloc: Global,
     worker: &W,
     mut seats: IntoIter<W::Seat>,
@@ -82,8 +92,8 @@ fn run_here<W: Worker>(
     let Some(seat) = seats.next() else {
         return Ok(Vec::new(alloc));
     };
-    let shift = worker.run(seat);
-    let others = run_here(alloc, worker, seats)?;
+    let shift = worker.idle(seat);
+    let others = leave_idle(alloc, worker, seats)?;
     put_first(shift, others)
 }
 
@@ -98,13 +108,15 @@ fn start_workers<R: Threads + Sync, W: Worker>(
     requires { All (W.accepts worker.now) seats.rest.items }
     ensures len { IfOk result (λ v. length v.items ≡ length seats.rest.items) }
     ensures each { IfOk result (λ v. (k : ℕ) (d : W.Seat) (e : W.Shift) → k < length seats.rest.items → W.gives worker.now (slice_index_or seats.rest.items k d) (slice_index_or v.items k e)) }
+    ensures first { 0 < length seats.rest.items → IfOk result (λ v. (e : W.Shift) → W.ends worker.now (slice_index_or v.items 0 e)) }
 {
     let Some(seat) = seats.next() else {
         return Ok(Vec::new(alloc));
     };
     let first = move || -> W::Shift
         requires { IsSync W.row × W.accepts worker.now seat }
-        ensures { W.gives worker.entry.now seat result }
+        ensures gives { W.gives worker.entry.now seat result }
+        ensures ends { W.ends worker.entry.now result }
     { worker.run(seat) };
     let later = move || -> Result<Vec<W::Shift>, AllocError>
         requires { IsSync R.row × IsSync W.row × All (W.accepts worker.now) seats.rest.items }
@@ -126,12 +138,14 @@ fn end_apart<R: Threads + Sync, W: Worker>(
     requires begun { (seat : W.Seat) × W.begun worker.now seat shift }
     requires others { All (W.accepts worker.now) seats.rest.items }
     ensures first { (seat : W.Seat) → W.begun worker.now seat shift → W.gives worker.now seat result.0 }
+    ensures ends { W.ends worker.now result.0 }
     ensures len { IfOk result.1 (λ v. length v.items ≡ length seats.rest.items) }
     ensures each { IfOk result.1 (λ v. (k : ℕ) (d : W.Seat) (e : W.Shift) → k < length seats.rest.items → W.gives worker.now (slice_index_or seats.rest.items k d) (slice_index_or v.items k e)) }
 {
     let first = move || -> W::Shift
         requires { IsSync W.row × ((seat : W.Seat) × W.begun worker.now seat shift) }
-        ensures { (seat : W.Seat) → W.begun worker.entry.now seat shift → W.gives worker.entry.now seat result }
+        ensures gives { (seat : W.Seat) → W.begun worker.entry.now seat shift → W.gives worker.entry.now seat result }
+        ensures ends { W.ends worker.entry.now result }
     { worker.finish(shift) };
     let later = move || -> Result<Vec<W::Shift>, AllocError>
         requires { IsSync R.row × IsSync W.row × All (W.accepts worker.now) seats.rest.items }
@@ -142,33 +156,37 @@ fn end_apart<R: Threads + Sync, W: Worker>(
 }
 
 /// How many nanoseconds a worker goes on alone: about what it takes to start the others.
-const ALONE: u128 = 50_000;
+const ALONE: u64 = 50_000;
 
-/// Gives the first seat to the worker in this thread, and the others to workers in threads where it has left leaves after a while.
-fn run_patiently<R: Threads + Clock + Sync, W: Worker>(
+/// The moment so many nanoseconds later, where the clock can be read.
+fn moment_after<R: Clock>(clock: &R, nanos: u64) -> Option<Instant> {
+    let now = Instant::now(clock).ok()?;
+    now.checked_add(Duration::from_nanos(nanos))
+}
+
+/// Gives the first seat to the worker in this thread. Where it loses patience before all is done,
+/// the others go to workers in threads, and else they stay idle.
+fn run_patiently<R: Threads + Clock + Sync, W: Worker, P: Patience>(
     rt: &R,
     alloc: Global,
     worker: &W,
+    patience: &P,
     mut seats: IntoIter<W::Seat>,
 ) -> Result<Vec<W::Shift>, AllocError>
     requires { All (W.accepts worker.now) seats.rest.items }
     ensures len { IfOk result (λ v. length v.items ≡ length seats.rest.items) }
     ensures each { IfOk result (λ v. (k : ℕ) (d : W.Seat) (e : W.Shift) → k < length seats.rest.items → W.gives worker.now (slice_index_or seats.rest.items k d) (slice_index_or v.items k e)) }
+    ensures first { 0 < length seats.rest.items → IfOk result (λ v. (e : W.Shift) → W.ends worker.now (slice_index_or v.items 0 e)) }
 {
     let Some(seat) = seats.next() else {
         return Ok(Vec::new(alloc));
     };
-    let patience = ForNanos {
-        clock: rt,
-        since: Instant::now(rt).ok(),
-        nanos: ALONE,
-    };
-    let (shift, left) = worker.begin(&patience, seat);
+    let (shift, left) = worker.begin(patience, seat);
     if left {
         let (shift, others) = end_apart(rt, alloc, worker, shift, seats);
         return put_first(shift, others?);
     }
-    let others = run_here(alloc, worker, seats)?;
+    let others = leave_idle(alloc, worker, seats)?;
     put_first(shift, others)
 }
 
@@ -187,12 +205,17 @@ pub fn run_workers<R: Threads + Clock + Sync, W: Worker>(
     requires { All (W.accepts worker.now) seats.items }
     ensures len { IfOk result (λ v. length v.items ≡ length seats.items) }
     ensures each { IfOk result (λ v. (k : ℕ) (d : W.Seat) (e : W.Shift) → k < length seats.items → W.gives worker.now (slice_index_or seats.items k d) (slice_index_or v.items k e)) }
+    ensures first { 0 < length seats.items → IfOk result (λ v. (e : W.Shift) → W.ends worker.now (slice_index_or v.items 0 e)) }
 {
     if seats.len() < 2 {
-        return run_here(alloc, worker, seats.into_iter());
+        return run_patiently(rt, alloc, worker, &Endless, seats.into_iter());
     }
     if begins_alone {
-        return run_patiently(rt, alloc, worker, seats.into_iter());
+        let patience = Until {
+            clock: rt,
+            moment: moment_after(rt, ALONE),
+        };
+        return run_patiently(rt, alloc, worker, &patience, seats.into_iter());
     }
     start_workers(rt, alloc, worker, seats.into_iter())
 }

@@ -15,7 +15,7 @@ pub trait Gate {
     fn after_stretch(&self) {}
 
     /// Whether the run is to end with no value, as if memory were refused. It is asked before each run, leaf, combination,
-    /// barrier's pass, sort, making of keys and finish of a container, and after each 1,024 items of a leaf.
+    /// barrier's pass and list of it, sort, making of keys and finish of a container, and after each 1,024 items of a leaf.
     fn is_halted(&self) -> bool {
         false
     }

@@ -24,24 +24,20 @@ impl Patience for Endless {
     }
 }
 
-/// Until so many nanoseconds have passed, where the clock can be read.
+/// Until a moment has come, where the clock can be read.
 #[derive(Drop)]
-pub struct ForNanos<'r, R> {
+pub struct Until<'r, R> {
     pub clock: &'r R,
-    pub since: Option<Instant>,
-    pub nanos: u128,
+    pub moment: Option<Instant>,
 }
 
-impl<R: Clock> Patience for ForNanos<'_, R> {
+impl<R: Clock> Patience for Until<'_, R> {
     ghost ends = { λ _. ⊤ };
 
     fn is_over(&self) -> bool {
-        let Some(since) = self.since else {
-            return true;
-        };
-        match since.elapsed(self.clock) {
-            Ok(passed) => passed.as_nanos() >= self.nanos,
-            Err(_) => true,
+        match (self.moment, Instant::now(self.clock)) {
+            (Some(moment), Ok(now)) => moment <= now,
+            _ => true,
         }
     }
 }

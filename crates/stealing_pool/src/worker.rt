@@ -1,5 +1,5 @@
 //! One worker: it draws leaves, runs them and publishes their counts, until all are given out.
-ghost use Rattle.std.specs.Prelude.{◌≡◌, ◌<◌, ◌⊎◌, ℕ, false, true, All, []};
+ghost use Rattle.std.specs.Prelude.{◌≡◌, ◌<◌, ◌⊎◌, ℕ, false, true, All, [], OnOk, vec_len, vec_capacity};
 ghost use Rattle.barriers.specs.Needs.{need_of, Reaches};
 ghost use Rattle.leaf_board.specs.Statuses.{Unknown, Given, StaysSeat};
 ghost use Rattle.stealing_pool.specs.Jobs.{IsCase};
@@ -14,7 +14,7 @@ use barriers::Need;
 use leaf_board::{Draw, Handout};
 use leaf_reading::{LeafEnd, Portion};
 use spliterator::NoMemory;
-use std::alloc::Global;
+use std::alloc::{AllocError, Global};
 
 /// A leaf that was run, and what is kept of it.
 #[derive(Drop)]
@@ -39,6 +39,27 @@ fn may_cut(need: Need, count: u64) -> bool
     match need {
         Need::Never => false,
         Need::Reach(needed) => count > 0 || needed == 0,
+    }
+}
+
+/// Whether a worker that ran so many leaves asks its patience: behind the first, and behind each
+/// second one from there on, since cheap leaves take little longer than a look at the clock.
+fn is_asking(leaves: usize) -> bool {
+    leaves % 2 == 1
+}
+
+/// The most leaves for which a worker makes room at once.
+const ROOM: usize = 32;
+
+/// Makes room for one more leaf, and with the first for others.
+fn make_room<K: Drop>(ran: &mut Vec<Ran<K>>, leaves: usize) -> Result<(), AllocError>
+    ensures same { ran.new.items ≡ ran.old.items }
+    ensures room { OnOk result (vec_len ran.new < vec_capacity ran.new) }
+{
+    if ran.is_empty() {
+        ran.reserve_exact(leaves.min(ROOM).max(1))
+    } else {
+        ran.reserve(1)
     }
 }
 
@@ -138,7 +159,7 @@ impl<B: Handout, J: LeafJob, H: Gate> Crew<'_, B, J, H> {
         ensures cuts { All (CutBy (J.work self.now.job.now) B.made_cut result.0.seat) result.0.ran.items }
         ensures kept { result.0.refused ≡ false → KeepsShift (B.status result.0.seat) result.0.ran.items }
         ensures drained { result.0.refused ≡ false → result.1 ≡ false → B.drained result.0.seat }
-        ensures left { result.1 ≡ true → result.0.refused ≡ false → P.ends patience.now }
+        ensures left { result.1 ≡ true → P.ends patience.now }
     {
         if shift.refused {
             return (shift, false);
@@ -147,17 +168,18 @@ impl<B: Handout, J: LeafJob, H: Gate> Crew<'_, B, J, H> {
         let mut shift = shift;
         let mut more = false;
         'drawing: loop {
-            if more && patience.is_over() {
+            if more && is_asking(shift.ran.len()) && patience.is_over() {
                 return (shift, true);
-            }
-            if shift.ran.reserve(1).is_err() {
-                shift.refused = true;
-                return (shift, more);
             }
             let pass = match self.board.draw(&mut shift.seat) {
                 Draw::Leaf(pass) => pass,
                 Draw::Drained => return (shift, false),
             };
+            if make_room(&mut shift.ran, self.job.leaves()).is_err() {
+                self.board.give_up(&mut shift.seat, pass);
+                shift.refused = true;
+                return (shift, false);
+            }
             // One seat alone draws the leaves in their order.
             more = B::leaf(&pass) < self.job.leaves() - 1;
             match self.serve(worker, &mut shift.seat, pass) {
@@ -165,7 +187,7 @@ impl<B: Handout, J: LeafJob, H: Gate> Crew<'_, B, J, H> {
                 Ok(None) => {}
                 Err(NoMemory) => {
                     shift.refused = true;
-                    return (shift, more);
+                    return (shift, false);
                 }
             }
         }
@@ -196,7 +218,9 @@ where
 
     ghost accepts = { λ w seat. Accepts (J.ready w.job.now) (J.work w.job.now) (B.leaves w.board.now) (B.full w.board.now) (B.need w.board.now) (B.is_of w.board.now seat) (B.status seat) };
 
-    ghost gives = { λ w seat shift. IsShift (J.work w.job.now) (B.is_of w.board.now) B.number B.status B.drained B.made_cut seat shift };
+    ghost gives = { λ w seat shift. IsShift (J.work w.job.now) (B.is_of w.board.now) B.number B.status B.made_cut seat shift };
+
+    ghost ends = { λ w shift. shift.refused ≡ false → B.drained shift.seat };
 
     ghost begun = { λ w seat shift. J.ready w.job.now × IsCase (J.work w.job.now) (B.leaves w.board.now) (B.full w.board.now) (B.need w.board.now)
         × IsBegun (J.work w.job.now) (B.is_of w.board.now) B.status B.made_cut shift × (B.number shift.seat ≡ B.number seat) };
@@ -204,6 +228,10 @@ where
     fn run(&self, seat: B::Seat) -> Shift<B::Seat, J::Kept> {
         let (shift, _) = self.go_on(&Endless, self.fresh(seat));
         shift
+    }
+
+    fn idle(&self, seat: B::Seat) -> Shift<B::Seat, J::Kept> {
+        self.fresh(seat)
     }
 
     fn begin<P: Patience>(&self, patience: &P, seat: B::Seat) -> (Shift<B::Seat, J::Kept>, bool) {

@@ -19,7 +19,7 @@ use Rattle.terminals.proofs.Images.{sorted-contents}
 
 module _ {X : Type 0} (below : X → X → Bool) where
   -- no member is below one in front of it
-  abbrev Ascends : List X → Type 0
+  abbrev pub Ascends : List X → Type 0
   Ascends [] = ⊤
   Ascends (y ∷ s) = All (λ z. below z y ≡ false) s × Ascends s
 
@@ -109,10 +109,13 @@ module _ {X : Type 0} (below : X → X → Bool) where
     sorted-ascends : (l : List X) → Ascends (sorted_of below l)
     sorted-ascends l = (inserted [] [] l (record { ascends = tt; moved = IsPermutation-refl []; keeps = λ c. refl })).ascends
 
+    pub first-ascends : (n : ℕ) (l : List X) → Ascends (first_sorted below n l)
+    first-ascends n l = front-ascends n (sorted_of below l) (sorted-ascends l)
+
     -- the first ones are their own first ones
     pub first-again : (n : ℕ) (l : List X) → first_sorted below n (first_sorted below n l) ≡ first_sorted below n l
     first-again n l =
-        ap (take n) (already (take n (sorted_of below l)) (front-ascends n (sorted_of below l) (sorted-ascends l)))
+        ap (take n) (already (take n (sorted_of below l)) (first-ascends n l))
         ∙ take-take n n (sorted_of below l) (omega arith)
 
 -- items that are put in one after another make the one sorted list

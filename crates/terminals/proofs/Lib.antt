@@ -1,3 +1,4 @@
+mod Behind
 mod Best
 mod Beside
 mod Images

@@ -1,3 +1,4 @@
+pub mod Bounds
 pub mod FirstSorted
 pub mod Insertion
 pub mod Reversed

@@ -1,14 +1,16 @@
 //! The first of sorted pairs.
-ghost use Rattle.std.specs.Prelude.{◌≡◌, ◌++◌, OnOk, List};
+ghost use Rattle.std.specs.Prelude.{◌≡◌, OnOk, List, [], true};
 ghost use Rattle.std.specs.Cmp.{IsTotalOrder};
 ghost use Rattle.collectors.specs.Grouping.{contents};
 ghost use Rattle.terminals.specs.Sorted.{IsSortedList, by_key};
-ghost use Rattle.terminals.specs.Insertion.{sorted_of, first_sorted, add_first};
+ghost use Rattle.terminals.specs.Insertion.{sorted_of, first_sorted, add_first, merge_first};
 ghost use Rattle.terminals.specs.FirstSorted.{key_below};
+ghost use Rattle.terminals.specs.Bounds.{IsBehind, IsBounded};
 
 use crate::ordering::sort_pairs_here;
+use derived_collectors::Best;
 use spliterator::{SortedValue, Value};
-use std::alloc::AllocError;
+use std::alloc::{AllocError, Global};
 
 /// How many pairs there may be beside twice as many as are wanted.
 const ROOM: usize = 64;
@@ -20,50 +22,87 @@ fn promise_sorted<J: SortedValue, T: Value>(_sorted: &Vec<(J, T)>)
         → seen _sorted.now.items ≡ sorted_of (key_below J.order) (seen list) }
 {}
 
-/// Sorts pairs by their first parts, and keeps the first ones, which stay the first ones.
-pub fn keep_first<J: SortedValue + Drop, T: Value + Drop>(
-    pairs: &mut Vec<(J, T)>,
-    number: usize,
-) -> Result<(), AllocError>
-    ensures first { let seen = contents J.content T.content in
-        let first = first_sorted (key_below J.order) number in
-        OnOk result (seen pairs.new.items ≡ first (seen pairs.old.items)) }
-    ensures same { let seen = contents J.content T.content in
-        let first = first_sorted (key_below J.order) number in
-        OnOk result (first (seen pairs.new.items) ≡ first (seen pairs.old.items)) }
-{
-    sort_pairs_here(pairs)?;
-    promise_sorted(pairs);
-    pairs.truncate(number);
-    Ok(())
+/// Pairs, of which so many of the first ones are known to be no greater than the last of these.
+#[derive(Drop)]
+pub struct FirstPairs<J: SortedValue, T: Value> {
+    pub pairs: Vec<(J, T)>,
+    bounded: usize,
+    ghost bound: { IsBounded (key_below J.order) bounded (contents J.content T.content pairs.items) },
 }
 
-/// Keeps the first pairs where there are many others. The first ones stay the same.
-pub fn shrink<J: SortedValue + Drop, T: Value + Drop>(
-    pairs: &mut Vec<(J, T)>,
-    number: usize,
-) -> Result<(), AllocError>
-    ensures { let seen = contents J.content T.content in
-        let first = first_sorted (key_below J.order) number in
-        OnOk result (first (seen pairs.new.items) ≡ first (seen pairs.old.items)) }
-{
-    if pairs.len() < number.saturating_mul(2).saturating_add(ROOM) {
-        return Ok(());
+impl<J: SortedValue + Drop, T: Value + Drop> FirstPairs<J, T> {
+    /// No pairs.
+    pub fn new(alloc: Global) -> FirstPairs<J, T>
+        ensures { result.pairs.items ≡ [] }
+    {
+        FirstPairs {
+            pairs: Vec::new(alloc),
+            bounded: 0,
+        }
     }
-    keep_first(pairs, number)
-}
 
-/// Takes a pair in.
-pub fn put<J: SortedValue + Drop, T: Value + Drop>(
-    pairs: &mut Vec<(J, T)>,
-    number: usize,
-    pair: (J, T),
-) -> Result<(), AllocError>
-    ensures { let seen = contents J.content T.content in
-        let first = first_sorted (key_below J.order) number in
-        let added = add_first (key_below J.order) number (first (seen pairs.old.items)) in
-        OnOk result (first (seen pairs.new.items) ≡ added (J.content pair.0, T.content pair.1)) }
-{
-    pairs.push(pair)?;
-    shrink(pairs, number)
+    /// Whether an item of this key is known to stand behind so many first ones.
+    pub fn stands_behind(&self, number: usize, key: &J) -> bool
+        ensures { let seen = contents J.content T.content self.now.pairs.items in
+            result ≡ true → (c : T.Content) → IsBehind (key_below J.order) number (J.content key.now, c) seen }
+    {
+        if number == 0 || self.bounded != number {
+            return false;
+        }
+        match self.pairs.get(number - 1) {
+            Some((bound, _)) => !Best::Least.is_better(key, bound),
+            None => false,
+        }
+    }
+
+    /// Sorts the pairs by their first parts, and keeps the first ones, which stay the first ones.
+    pub fn keep_first(&mut self, number: usize) -> Result<(), AllocError>
+        ensures first { let seen = contents J.content T.content in
+            let first = first_sorted (key_below J.order) number in
+            OnOk result (seen self.new.pairs.items ≡ first (seen self.old.pairs.items)) }
+        ensures same { let seen = contents J.content T.content in
+            let first = first_sorted (key_below J.order) number in
+            OnOk result (first (seen self.new.pairs.items) ≡ first (seen self.old.pairs.items)) }
+    {
+        self.bounded = 0;
+        sort_pairs_here(&mut self.pairs)?;
+        promise_sorted(&self.pairs);
+        self.pairs.truncate(number);
+        self.bounded = self.pairs.len();
+        Ok(())
+    }
+
+    /// Keeps the first pairs where there are many others. The first ones stay the same.
+    fn shrink(&mut self, number: usize) -> Result<(), AllocError>
+        ensures { let seen = contents J.content T.content in
+            let first = first_sorted (key_below J.order) number in
+            OnOk result (first (seen self.new.pairs.items) ≡ first (seen self.old.pairs.items)) }
+    {
+        if self.pairs.len() < number.saturating_mul(2).saturating_add(ROOM) {
+            return Ok(());
+        }
+        self.keep_first(number)
+    }
+
+    /// Takes a pair in.
+    pub fn put(&mut self, number: usize, pair: (J, T)) -> Result<(), AllocError>
+        ensures { let seen = contents J.content T.content in
+            let first = first_sorted (key_below J.order) number in
+            let added = add_first (key_below J.order) number (first (seen self.old.pairs.items)) in
+            OnOk result (first (seen self.new.pairs.items) ≡ added (J.content pair.0, T.content pair.1)) }
+    {
+        self.pairs.push(pair)?;
+        self.shrink(number)
+    }
+
+    /// Takes other pairs in, behind those that are there.
+    pub fn append(&mut self, number: usize, mut others: Vec<(J, T)>) -> Result<(), AllocError>
+        ensures { let seen = contents J.content T.content in
+            let first = first_sorted (key_below J.order) number in
+            let merged = merge_first (key_below J.order) number (first (seen self.old.pairs.items)) in
+            OnOk result (first (seen self.new.pairs.items) ≡ merged (first (seen others.items))) }
+    {
+        self.pairs.append(&mut others)?;
+        self.shrink(number)
+    }
 }

@@ -6,7 +6,7 @@ ghost use Rattle.terminals.specs.Sorted.{by_key};
 ghost use Rattle.terminals.specs.Insertion.{first_sorted, merge_first};
 ghost use Rattle.terminals.specs.FirstSorted.{key_below, add_keyed, first_laws, IsFrontOfSorted};
 
-use crate::first_pairs::{keep_first, put, shrink};
+use crate::first_pairs::FirstPairs;
 use crate::keys::second_parts;
 use collectors::Collector;
 use spliterator::{NoMemory, SortedValue, Value};
@@ -53,7 +53,7 @@ where
 {
     type Item = T;
 
-    type Acc = Vec<(K::Out, T)>;
+    type Acc = FirstPairs<K::Out, T>;
 
     type Out = Vec<T>;
 
@@ -61,7 +61,7 @@ where
 
     ghost Content = { List (K.Out.Content × T.Content) };
 
-    ghost content = { λ c pairs. first_sorted (key_below K.Out.order) c.number (contents K.Out.content T.content pairs.items) };
+    ghost content = { λ c first. first_sorted (key_below K.Out.order) c.number (contents K.Out.content T.content first.pairs.items) };
 
     ghost empty = { λ _. [] };
 
@@ -73,39 +73,43 @@ where
 
     ghost laws = { λ c. first_laws K.Out.order (K.image c.key) K.Out.order_total c.number T.is_value };
 
-    fn supply(&self) -> Result<Vec<(K::Out, T)>, NoMemory> {
-        Ok(Vec::new(self.alloc))
+    fn supply(&self) -> Result<FirstPairs<K::Out, T>, NoMemory> {
+        Ok(FirstPairs::new(self.alloc))
     }
 
-    fn accumulate(&self, acc: &mut Vec<(K::Out, T)>, x: &T) -> Result<(), NoMemory> {
+    fn accumulate(&self, acc: &mut FirstPairs<K::Out, T>, x: &T) -> Result<(), NoMemory> {
         let key = self.key.image(x)?;
-        let item = x.clone()?;
-        put(acc, self.number, (key, item))?;
+        if acc.stands_behind(self.number, &key) {
+            return Ok(());
+        }
+        acc.put(self.number, (key, x.clone()?))?;
         Ok(())
     }
 
-    fn accumulate_owned(&self, acc: &mut Vec<(K::Out, T)>, x: T) -> Result<(), NoMemory> {
+    fn accumulate_owned(&self, acc: &mut FirstPairs<K::Out, T>, x: T) -> Result<(), NoMemory> {
         let key = self.key.image(&x)?;
-        put(acc, self.number, (key, x))?;
+        if acc.stands_behind(self.number, &key) {
+            return Ok(());
+        }
+        acc.put(self.number, (key, x))?;
         Ok(())
     }
 
     fn combine(
         &self,
-        left: &mut Vec<(K::Out, T)>,
-        mut right: Vec<(K::Out, T)>,
+        left: &mut FirstPairs<K::Out, T>,
+        right: FirstPairs<K::Out, T>,
     ) -> Result<(), NoMemory> {
-        left.append(&mut right)?;
-        shrink(left, self.number)?;
+        left.append(self.number, right.pairs)?;
         Ok(())
     }
 
-    fn finish(&self, mut acc: Vec<(K::Out, T)>) -> Result<Vec<T>, NoMemory> {
-        keep_first(&mut acc, self.number)?;
-        Ok(second_parts(self.alloc, acc)?)
+    fn finish(&self, mut acc: FirstPairs<K::Out, T>) -> Result<Vec<T>, NoMemory> {
+        acc.keep_first(self.number)?;
+        Ok(second_parts(self.alloc, acc.pairs)?)
     }
 
-    fn is_light(&self, acc: &Vec<(K::Out, T)>) -> bool {
-        acc.len() <= LIGHT_PAIRS
+    fn is_light(&self, acc: &FirstPairs<K::Out, T>) -> bool {
+        acc.pairs.len() <= LIGHT_PAIRS
     }
 }

@@ -1,2 +1,1 @@
-pub mod SummaryLaws
 pub mod Texts

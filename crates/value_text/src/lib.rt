@@ -2,15 +2,11 @@
 #![tactic(auto)]
 
 mod joined_text;
-mod list_text;
 mod rope;
-mod spelled;
 mod summarizes;
 mod written;
 
-pub use joined_text::JoinedText;
-pub use list_text::ListText;
+pub use joined_text::{JoinedText, ListText};
 pub use rope::Rope;
-pub use spelled::Spelled;
 pub use summarizes::{Both, Summarizes, grouped, write_result};
-pub use written::{Written, text_of};
+pub use written::{Spelled, Written, text_of};

@@ -5,8 +5,7 @@ ghost use Rattle.either.specs.Either.{either};
 ghost use Rattle.stages.specs.Wrapping.{wrapped};
 ghost use Rattle.collectors.specs.Reductions.{reduced, first};
 ghost use Rattle.collectors.specs.Sums.{int_sum};
-ghost use Rattle.value_text.specs.Texts.{groups_text, parts_text, merged_text, optional_text, partition_text, pair_text};
-ghost use Rattle.value_text.specs.SummaryLaws.{optional_tells, either_tells, groups_tell, merged_tells};
+ghost use Rattle.value_text.specs.Texts.{groups_text, parts_text, merged_text, optional_text, partition_text, pair_text, optional_tells, either_tells, groups_tell, merged_tells};
 ghost use Rattle.std.proofs.Common.{ap, ap₂, ◌∙◌};
 ghost use Rattle.collectors.specs.NestedLaws.{fails};
 

@@ -1,6 +1,7 @@
 //! The texts of values, written behind one another into one text.
+
 ghost use Rattle.either.specs.Either.{either};
-ghost use Rattle.std.specs.Prelude.{◌≡◌, ◌++◌, ℕ, List, IfOk, OnOk, string_bytes};
+ghost use Rattle.std.specs.Prelude.{◌≡◌, ◌++◌, ℕ, List, IfOk, OnOk, string_bytes, refl};
 ghost use Rattle.std.specs.Fmt.{signed_decimal};
 ghost use Rattle.value_text.specs.Texts.{truth_text, optional_text, entry_text, map_text, partition_text, pair_text};
 
@@ -9,7 +10,7 @@ use collectors::Partition;
 use either::{Either, Left, Right};
 use indexmap::IndexMap;
 use itoa::Buffer;
-use spliterator::NoMemory;
+use spliterator::{NoMemory, Value};
 use std::alloc::Global;
 use std::hash::{BuildHasher, Hash};
 
@@ -184,4 +185,30 @@ impl<A: Written, B: Written> Written for Either<A, B> {
             Right(value) => value.write_to(out),
         }
     }
+}
+
+/// A value whose text follows from its content.
+pub trait Spelled: Value + Written {
+    // the text of a content
+    ghost spelling: { Self.Content → List ℕ };
+
+    ghost spelled: { (x : Self) → Self.text x ≡ spelling (Self.content x) };
+}
+
+impl Spelled for i64 {
+    ghost spelling = { signed_decimal };
+
+    ghost spelled = { λ _. refl };
+}
+
+impl Spelled for &str {
+    ghost spelling = { λ text. text };
+
+    ghost spelled = { λ _. refl };
+}
+
+impl Spelled for String {
+    ghost spelling = { λ text. text };
+
+    ghost spelled = { λ _. refl };
 }

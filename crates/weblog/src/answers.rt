@@ -6,6 +6,7 @@ use program_frame::Both;
 use std::fmt::{self, Display, Formatter, Write};
 use std::hash::RandomState;
 use std::io::Read;
+use std::sync::Wait;
 use std::thread::Threads;
 use std::time::Clock;
 
@@ -36,7 +37,7 @@ impl Display for Faults {
     fn fmt<W: Write>(&self, f: &mut Formatter<W>) -> fmt::Result {
         write!(f, "bad lines: {}", self.number)?;
         for (line, place) in self.first.iter().zip(&self.places) {
-            if let Err(fault) = line {
+            if let Err(fault) = &line.0 {
                 write!(f, "\nline {}: {fault}", place.saturating_add(1))?;
             }
         }
@@ -61,7 +62,7 @@ impl Display for Answers {
             writeln!(f, "path {path}: {count}")?;
         }
         match failure {
-            Some(Ok(failure)) => writeln!(f, "first failure: {} {}", failure.status, failure.path)?,
+            Some(Parsed(Ok(it))) => writeln!(f, "first failure: {} {}", it.status, it.path)?,
             _ => writeln!(f, "first failure: none")?,
         }
         writeln!(f, "clients: {}", clients.len())?;
@@ -72,7 +73,7 @@ impl Display for Answers {
 
 /// What five collectors make of one pass over the lines of a reader.
 fn pass<L: LineStream, A, P, C, H, F>(
-    engine: &Engine<'_, impl Threads + Clock + Sync, impl Gate + Sync>,
+    engine: &Engine<'_, impl Threads + Clock + Wait + Sync, impl Gate + Sync>,
     log: L,
     lines: A,
     paths: P,
@@ -108,21 +109,24 @@ where
     log.collect_on(engine, &Teeing::new(lines, asked, Both))
 }
 
-/// What one pass over the log finds. Strangers choose what is hashed, so the hasher is a random one.
-fn find(
-    engine: &Engine<'_, impl Threads + Clock + Sync, impl Gate + Sync>,
-    reader: impl Read + Send + Drop,
+/// What one pass over the log finds of its requests, and what a collector makes of its lines. Strangers choose what is hashed, so the hasher is a random
+/// one.
+fn find_asked<L: LineStream<Item = Parsed>, A: Collector<Item = Parsed> + Sync + Drop>(
+    engine: &Engine<'_, impl Threads + Clock + Wait + Sync, impl Gate + Sync>,
+    log: L,
+    lines: A,
     hashes: RandomState,
-) -> Result<(Lines, Asked), LinesError> {
+) -> Result<(A::Out, Asked), LinesError>
+where
+    A::Acc: Send,
+    A::Out: Send,
+    requires log { L.ready log }
+    requires lines { A.ready lines }
+{
     let alloc = engine.alloc;
-    let count = Counting::<Parsed>::new;
     let is_request = Composed(Figure::Status, Above(0));
-    let is_bad = Not(is_request);
-    let first = FirstSorted::<Parsed, _>::new(alloc, Figure::Status, MOST_TOLD);
-    let places = FirstPlaces::<Parsed, _>::new(alloc, is_bad, MOST_TOLD);
-    let first = Teeing::new(FilteringTo::new(is_bad, first), places, Both);
-    let lines = Teeing::new(GroupingBy::new(alloc, Figure::Status, count()), first, Both);
-    let paths = GroupingBy::with_hasher(alloc, Name::Path(alloc), count(), hashes);
+    let count = Counting::<Parsed>::new();
+    let paths = GroupingBy::with_hasher(alloc, Name::Path(alloc), count, hashes);
     let paths = FilteringTo::new(is_request, paths);
     let clients = ToSet::<String, _>::with_hasher(alloc, hashes);
     let clients = FilteringTo::new(is_request, MappingTo::new(Name::Client(alloc), clients));
@@ -130,13 +134,28 @@ fn find(
     let hours = FilteringTo::new(is_request, hours);
     let is_failure = Composed(Figure::Status, Above(499));
     let failure = FilteringTo::new(is_failure, First::<Parsed>::new());
-    let log = lines_of(reader).map_lines(Requests(alloc));
     pass(engine, log, lines, paths, clients, hours, failure)
+}
+
+/// What one pass over the log finds.
+fn find(
+    engine: &Engine<'_, impl Threads + Clock + Wait + Sync, impl Gate + Sync>,
+    reader: impl Read + Send + Drop,
+    hashes: RandomState,
+) -> Result<(Lines, Asked), LinesError> {
+    let alloc = engine.alloc;
+    let is_bad = Not(Composed(Figure::Status, Above(0)));
+    let first = FirstSorted::<Parsed, _>::new(alloc, Figure::Status, MOST_TOLD);
+    let places = FirstPlaces::<Parsed, _>::new(alloc, is_bad, MOST_TOLD);
+    let first = Teeing::new(FilteringTo::new(is_bad, first), places, Both);
+    let statuses = GroupingBy::new(alloc, Figure::Status, Counting::<Parsed>::new());
+    let log = lines_of(reader).map_lines(Requests(alloc));
+    find_asked(engine, log, Teeing::new(statuses, first, Both), hashes)
 }
 
 /// The answers to the log that a reader gives.
 pub fn answer(
-    engine: &Engine<'_, impl Threads + Clock + Sync, impl Gate + Sync>,
+    engine: &Engine<'_, impl Threads + Clock + Wait + Sync, impl Gate + Sync>,
     reader: impl Read + Send + Drop,
     hashes: RandomState,
 ) -> Result<Answers, LinesError> {

@@ -1,5 +1,7 @@
 //! What a line of the log says.
-ghost use Rattle.std.specs.Prelude.{◌≡◌, ◌<◌, ◌==◌, ℕ, suc, option_map};
+ghost use Rattle.std.specs.Prelude.{◌≡◌, ◌<◌, ◌==◌, ℕ, suc, MatchResult, option_map};
+ghost use Rattle.std.specs.Result.{result_cmp, result_eq, result_map_both};
+ghost use Rattle.spliterator.specs.Results.{result_cmp-ties, result_cmp-total, result_eq-decides};
 ghost use Rattle.mohairjade.specs.Words.{both, both-decides, by_first, by_first-ties, by_first-total, bytes_cmp-ties, bytes_cmp-total, bytes_eq, bytes_eq-decides, int_cmp, int_cmp-ties, int_cmp-total, int_eq, int_eq-decides, nat_cmp, piece, slice_cmp, string_bytes, ⊤};
 ghost use Rattle.weblog.specs.Log.{IsRequest, fault, figure, figure-value, name, parsed, parsed-value};
 ghost use Rattle.weblog.specs.Log as spec;
@@ -35,7 +37,8 @@ pub enum Fault {
 }
 
 /// A line's request, or its fault.
-pub type Parsed = Result<Request, Fault>;
+#[derive(Clone, Drop)]
+pub struct Parsed(pub Result<Request, Fault>);
 
 /// Makes of a line what it says.
 #[derive(Drop)]
@@ -56,17 +59,17 @@ impl LineFunction for Requests {
         let status = number(piece_of(tail, ' ', 1));
         let bytes = number(sent(tail));
         if let Some(fault) = lack_of(client, hour, path, status, bytes) {
-            return Ok(Err(fault));
+            return Ok(Parsed(Err(fault)));
         }
         let client = String::from_str(self.0, client)?;
         let path = String::from_str(self.0, path)?;
-        Ok(Ok(Request {
+        Ok(Parsed(Ok(Request {
             status,
             hour,
             bytes,
             client,
             path,
-        }))
+        })))
     }
 }
 
@@ -160,52 +163,31 @@ fn lack_of(client: &str, hour: i64, path: &str, status: i64, bytes: i64) -> Opti
     }
 }
 
-impl Value for Request {
-    type Content = (i64, (i64, (i64, (LinkedList<u8>, LinkedList<u8>))));
+impl Value for Parsed {
+    type Content = Result<(i64, (i64, (i64, (LinkedList<u8>, LinkedList<u8>)))), i64>;
 
-    ghost content = { λ o. (o.status, (o.hour, (o.bytes, (string_bytes o.client, string_bytes o.path)))) };
+    ghost content = { λ p. result_map_both (λ o. (o.status, (o.hour, (o.bytes, (string_bytes o.client, string_bytes o.path))))) fault p.0 };
 
-    ghost same = { both int_eq (both int_eq (both int_eq (both bytes_eq bytes_eq))) };
+    ghost same = { result_eq (both int_eq (both int_eq (both int_eq (both bytes_eq bytes_eq)))) int_eq };
 
-    ghost is_value = { IsRequest };
+    ghost is_value = { λ line. MatchResult line IsRequest (λ _. ⊤) };
 
-    ghost same_decides = { both-decides int_eq (both int_eq (both int_eq (both bytes_eq bytes_eq))) int_eq-decides (both-decides int_eq (both int_eq (both bytes_eq bytes_eq)) int_eq-decides (both-decides int_eq (both bytes_eq bytes_eq) int_eq-decides (both-decides bytes_eq bytes_eq bytes_eq-decides bytes_eq-decides))) };
+    ghost same_decides = { result_eq-decides (both int_eq (both int_eq (both int_eq (both bytes_eq bytes_eq)))) int_eq (both-decides int_eq (both int_eq (both int_eq (both bytes_eq bytes_eq))) int_eq-decides (both-decides int_eq (both int_eq (both bytes_eq bytes_eq)) int_eq-decides (both-decides int_eq (both bytes_eq bytes_eq) int_eq-decides (both-decides bytes_eq bytes_eq bytes_eq-decides bytes_eq-decides)))) int_eq-decides };
 
     fn is_value(&self) -> bool {
-        self.status.is_value() && self.hour.is_value() && self.bytes.is_value()
+        match &self.0 {
+            Ok(it) => it.status.is_value() && it.hour.is_value() && it.bytes.is_value(),
+            Err(_) => true,
+        }
     }
 }
 
-impl OrderedValue for Request {
-    ghost order = { by_first int_cmp (by_first int_cmp (by_first int_cmp (by_first (slice_cmp nat_cmp) (slice_cmp nat_cmp)))) };
+impl OrderedValue for Parsed {
+    ghost order = { result_cmp (by_first int_cmp (by_first int_cmp (by_first int_cmp (by_first (slice_cmp nat_cmp) (slice_cmp nat_cmp))))) int_cmp };
 
-    ghost order_total = { by_first-total int_cmp-total (by_first-total int_cmp-total (by_first-total int_cmp-total (by_first-total bytes_cmp-total bytes_cmp-total))) };
+    ghost order_total = { result_cmp-total (by_first-total int_cmp-total (by_first-total int_cmp-total (by_first-total int_cmp-total (by_first-total bytes_cmp-total bytes_cmp-total)))) int_cmp-total };
 
-    ghost order_ties = { by_first-ties int_eq (both int_eq (both int_eq (both bytes_eq bytes_eq))) int_cmp (by_first int_cmp (by_first int_cmp (by_first (slice_cmp nat_cmp) (slice_cmp nat_cmp)))) int_cmp-ties (by_first-ties int_eq (both int_eq (both bytes_eq bytes_eq)) int_cmp (by_first int_cmp (by_first (slice_cmp nat_cmp) (slice_cmp nat_cmp))) int_cmp-ties (by_first-ties int_eq (both bytes_eq bytes_eq) int_cmp (by_first (slice_cmp nat_cmp) (slice_cmp nat_cmp)) int_cmp-ties (by_first-ties bytes_eq bytes_eq (slice_cmp nat_cmp) (slice_cmp nat_cmp) bytes_cmp-ties bytes_cmp-ties))) };
-}
-
-impl Value for Fault {
-    type Content = i64;
-
-    ghost content = { fault };
-
-    ghost same = { int_eq };
-
-    ghost is_value = { λ _. ⊤ };
-
-    ghost same_decides = { int_eq-decides };
-
-    fn is_value(&self) -> bool {
-        true
-    }
-}
-
-impl OrderedValue for Fault {
-    ghost order = { int_cmp };
-
-    ghost order_total = { int_cmp-total };
-
-    ghost order_ties = { int_cmp-ties };
+    ghost order_ties = { result_cmp-ties (both int_eq (both int_eq (both int_eq (both bytes_eq bytes_eq)))) int_eq (by_first int_cmp (by_first int_cmp (by_first int_cmp (by_first (slice_cmp nat_cmp) (slice_cmp nat_cmp))))) int_cmp (by_first-ties int_eq (both int_eq (both int_eq (both bytes_eq bytes_eq))) int_cmp (by_first int_cmp (by_first int_cmp (by_first (slice_cmp nat_cmp) (slice_cmp nat_cmp)))) int_cmp-ties (by_first-ties int_eq (both int_eq (both bytes_eq bytes_eq)) int_cmp (by_first int_cmp (by_first (slice_cmp nat_cmp) (slice_cmp nat_cmp))) int_cmp-ties (by_first-ties int_eq (both bytes_eq bytes_eq) int_cmp (by_first (slice_cmp nat_cmp) (slice_cmp nat_cmp)) int_cmp-ties (by_first-ties bytes_eq bytes_eq (slice_cmp nat_cmp) (slice_cmp nat_cmp) bytes_cmp-ties bytes_cmp-ties)))) int_cmp-ties };
 }
 
 /// A number of a request, and 0 of a fault.
@@ -230,7 +212,7 @@ impl Mapping<Parsed> for Figure {
 
 impl PlainMapping<Parsed> for Figure {
     fn image_of(&self, x: &Parsed) -> i64 {
-        match (self, x) {
+        match (self, &x.0) {
             (_, Err(_)) => 0,
             (Figure::Status, Ok(request)) => request.status,
             (Figure::Hour, Ok(request)) => request.hour,
@@ -254,7 +236,7 @@ impl Mapping<Parsed> for Name {
     ghost images_are_values = { λ _ _ _. tt };
 
     fn image(&self, x: &Parsed) -> Result<String, NoMemory> {
-        match (self, x) {
+        match (self, &x.0) {
             (Name::Client(_), Ok(request)) => Ok(request.client.clone()?),
             (Name::Path(_), Ok(request)) => Ok(request.path.clone()?),
             (Name::Client(alloc) | Name::Path(alloc), Err(_)) => Ok(String::new(*alloc)),

@@ -9,6 +9,7 @@ use program_frame::{Answer, Failure, Host, Task, Watch, Words, ended, given_word
 use std::io::IsTerminal;
 use std::process::ExitCode;
 use std::rt::Files;
+use std::sync::Wait;
 use std::thread::Threads;
 use std::time::Clock;
 
@@ -24,7 +25,7 @@ fn main(rt: HostRuntime) -> ExitCode {
 }
 
 /// The answers to the log that the command line names.
-fn command<R: Host + Files + Input + Threads + Clock + Sync>(
+fn command<R: Host + Files + Input + Threads + Clock + Wait + Sync>(
     rt: &R,
     is_terminal: bool,
 ) -> Result<Answer, Failure>
@@ -40,7 +41,7 @@ where
 }
 
 /// The answers, and the lines that are bad as what is wrong with the data.
-fn text<R: Host + Files + Input + Threads + Clock + Sync>(
+fn text<R: Host + Files + Input + Threads + Clock + Wait + Sync>(
     task: &Task<'_, '_, R>,
 ) -> Result<Answer, Failure>
 where

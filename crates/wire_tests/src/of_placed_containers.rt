@@ -96,6 +96,48 @@ fn parts_in_any_order_and_in_any_groups(rt: HostRuntime) -> Result<(), PartsErro
     Ok(())
 }
 
+/// Parts that overlap or are empty, how many lines tell of them once they are joined, and the places that are missing.
+type Overlap<'a> = (&'a [(u64, u64)], usize, &'a [(u64, u64)]);
+
+static OVERLAPS: [Overlap<'static>; 11] = [
+    (&[(0, 5), (0, 7), (5, 10)], 3, &[]),
+    (&[(0, 4), (4, 6), (4, 10)], 3, &[]),
+    (&[(0, 6), (2, 6), (6, 10)], 3, &[]),
+    (&[(0, 3), (3, 6), (6, 8), (6, 8), (8, 10), (0, 3)], 1, &[]),
+    (&[(0, 0), (0, 5), (5, 5), (5, 10), (10, 10)], 1, &[]),
+    (&[(5, 5), (0, 0)], 1, &[(0, 10)]),
+    (&[(0, 5), (3, 10)], 2, &[(5, 10)]),
+    (&[(2, 5), (2, 3), (5, 7)], 2, &[(0, 2), (7, 10)]),
+    (
+        &[(1, 2), (2, 3), (5, 6), (6, 7)],
+        2,
+        &[(0, 1), (3, 5), (7, 10)],
+    ),
+    (&[(0, 7), (3, 7), (3, 3)], 2, &[(7, 10)]),
+    (&[(0, 2), (2, 10), (0, 9), (9, 10)], 4, &[]),
+];
+
+#[test]
+fn parts_that_overlap(rt: HostRuntime) -> Result<(), PartsError> {
+    let alloc = rt.alloc();
+    let list = ToList::<i64>::new(alloc);
+    let job = Job {
+        name: "numbers",
+        collector: &list,
+    };
+    for &(parts, number, gaps) in &OVERLAPS {
+        let mut lines = Vec::with_capacity(alloc, parts.len())?;
+        for &(from, to) in parts {
+            lines.push(line_of(alloc, &job, from, to)?)?;
+        }
+        ends_so(&rt, alloc, &job, lines.as_slice(), gaps)?;
+        let joined = job.combine_parts(alloc, lent(alloc, lines.as_slice())?.as_slice())?;
+        assert!(&rt; joined.len() == number);
+        ends_so(&rt, alloc, &job, joined.as_slice(), gaps)?;
+    }
+    Ok(())
+}
+
 /// Lines, and what is said of them.
 type Refused<'a> = (&'a [&'a str], &'a str);
 

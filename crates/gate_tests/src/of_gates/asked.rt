@@ -10,6 +10,7 @@ use sources::RangeSplit;
 use spliterator::NoMemory;
 use stages::WrapAdd;
 use std::process::Abort;
+use std::sync::Wait;
 use std::test::Fail;
 use std::thread::Threads;
 use std::time::{Clock, Duration, Instant};
@@ -31,32 +32,63 @@ enum Task {
     Concat,
 }
 
-/// A task, whether a limit stands in front of it, the numbers from 1 up to so many, the estimate of a leaf, what the task makes of them, and what is asked in
-/// turn: before a (r)un, a (l)eaf, a (c)ombination, a barrier's (p)ass, the (f)inish of a container, (k)eys, a (s)ort, and (w)ithin a leaf, after each stretch of
-/// 1,024 items: also a last one that is shorter, where it is read as a block.
-static ASKED: [(Task, bool, i64, u64, i64, &str); 15] = [
-    (Task::Sum, false, 2, 1, 3, "rllcf"),
-    (Task::Sum, false, 4, 1, 10, "rllllcccf"),
-    (Task::Sum, false, 5_000, 5_000, 12_502_500, "rlwwwwf"),
-    (Task::Join, false, 2, 1, 3, "rllcf"),
-    (Task::Report, false, 2, 1, 3, "rllcf"),
-    (Task::First, false, 2, 1, 1, "rlf"),
-    (Task::Any, false, 2, 1, 0, "rllc"),
-    (Task::List, false, 2, 1, 2, "rllf"),
-    (Task::Sort, false, 2, 1, 1, "rllfs"),
-    (Task::SortByKey, false, 2, 1, 2, "rllfks"),
-    (Task::Concat, false, 2, 1, 6, "rllcrllccf"),
-    (Task::Sum, true, 2, 1, 3, "rllcprlwlwcf"),
+/// What stands in front of a task.
+#[derive(Clone, Copy)]
+enum Before {
+    Nothing,
+    Limit,
+    Distinct,
+}
+
+/// A task, what stands in front of it, the numbers from 1 up to so many, the estimate of a leaf, what the task makes of them, and what is asked in turn: before
+/// a (r)un, a (l)eaf, a (c)ombination, a barrier's (p)ass and each list of it, the (f)inish of a container, (k)eys, a (s)ort, and (w)ithin a leaf, after each
+/// stretch of 1,024 items: also a last one that is shorter, where it is read as a block.
+static ASKED: [(Task, Before, i64, u64, i64, &str); 17] = [
+    (Task::Sum, Before::Nothing, 2, 1, 3, "rllcf"),
+    (Task::Sum, Before::Nothing, 4, 1, 10, "rllllcccf"),
     (
         Task::Sum,
-        true,
+        Before::Nothing,
+        5_000,
+        5_000,
+        12_502_500,
+        "rlwwwwf",
+    ),
+    (Task::Join, Before::Nothing, 2, 1, 3, "rllcf"),
+    (Task::Report, Before::Nothing, 2, 1, 3, "rllcf"),
+    (Task::First, Before::Nothing, 2, 1, 1, "rlf"),
+    (Task::Any, Before::Nothing, 2, 1, 0, "rllc"),
+    (Task::List, Before::Nothing, 2, 1, 2, "rllf"),
+    (Task::List, Before::Nothing, 5_000, 5_000, 5_000, "rlwwwwf"),
+    (Task::Sort, Before::Nothing, 2, 1, 1, "rllfs"),
+    (Task::SortByKey, Before::Nothing, 2, 1, 2, "rllfks"),
+    (Task::Concat, Before::Nothing, 2, 1, 6, "rllcrllccf"),
+    (Task::Sum, Before::Limit, 2, 1, 3, "rllcprlwlwcf"),
+    (
+        Task::Sum,
+        Before::Limit,
         5_000,
         5_000,
         12_502_500,
         "rlwwprlwwwrlwwprlwwwcf",
     ),
-    (Task::Any, true, 2, 1, 0, "rllcprlwlwc"),
-    (Task::Any, true, 5_000, 5_000, 0, "rlwwprlwwwrlwwprlwwwc"),
+    (Task::Any, Before::Limit, 2, 1, 0, "rllcprlwlwc"),
+    (
+        Task::Any,
+        Before::Limit,
+        5_000,
+        5_000,
+        0,
+        "rlwwprlwwwrlwwprlwwwc",
+    ),
+    (
+        Task::Sum,
+        Before::Distinct,
+        5_000,
+        1_250,
+        12_502_500,
+        "rlwlwcppprlwwlwwcrlwlwcppprlwwlwwccf",
+    ),
 ];
 
 fn first_of(numbers: &[i64]) -> i64 {
@@ -94,28 +126,18 @@ fn made_of<R: Threads + Clock + Sync, H: Gate + Sync, X: Stream<Item = i64> + Sy
     }
 }
 
-fn made_behind<R: Threads + Clock + Sync, H: Gate + Sync, X: Stream<Item = i64> + Drop + Sync>(
-    engine: &Engine<'_, R, H>,
-    items: X,
-    task: Task,
-) -> Result<i64, NoMemory>
-    requires { X.ready items }
-{
-    made_of(engine, &items.limit(9_000), task)
-}
-
 fn made<R: Threads + Clock + Sync, H: Gate + Sync, X: Stream<Item = i64> + Drop + Sync>(
     engine: &Engine<'_, R, H>,
     items: X,
-    is_limited: bool,
+    before: Before,
     task: Task,
 ) -> Result<i64, NoMemory>
     requires { X.ready items }
 {
-    if is_limited {
-        made_behind(engine, items, task)
-    } else {
-        made_of(engine, &items, task)
+    match before {
+        Before::Nothing => made_of(engine, &items, task),
+        Before::Limit => made_of(engine, &items.limit(9_000), task),
+        Before::Distinct => made_of(engine, &items.distinct(), task),
     }
 }
 
@@ -127,7 +149,7 @@ static ASKED_OF_LINES: [(bool, bool, &str); 4] = [
     (true, true, "rllfprllcf"),
 ];
 
-fn number_of<R: Threads + Clock + Sync, H: Gate + Sync, L: LineStream<Item = String>>(
+fn number_of<R: Threads + Clock + Wait + Sync, H: Gate + Sync, L: LineStream<Item = String>>(
     engine: &Engine<'_, R, H>,
     lines: L,
     is_handed: bool,
@@ -174,7 +196,7 @@ fn is_told(
 
 #[test]
 fn a_halt_is_noticed_wherever_it_is_asked(rt: HostRuntime) -> Result<(), Fail> {
-    for &(task, is_limited, last, target, wanted, asked) in &ASKED {
+    for &(task, before, last, target, wanted, asked) in &ASKED {
         for place in 0..=asked.len() {
             let (clock, gate) = (Ticks::of(1), Counts::new());
             let at = moment(&clock, place)?;
@@ -189,7 +211,7 @@ fn a_halt_is_noticed_wherever_it_is_asked(rt: HostRuntime) -> Result<(), Fail> {
             };
             let engine = Engine::new(&rt, rt.alloc(), &run).expect(&rt, "an engine");
             let numbers = of(RangeSplit::range(0, last).expect(&rt, "a range")).map(Plus(1));
-            let answer = made(&engine, numbers, is_limited, task).ok();
+            let answer = made(&engine, numbers, before, task).ok();
             assert!(&rt;
                 is_told(&until, answer, wanted, asked, place),
                 "{asked} {place} {}",

@@ -96,6 +96,55 @@ fn sorted_by<R: Threads + Clock + Sync, X: Stream<Item = i64> + Sync>(
     }
 }
 
+/// Whether a list that was made is that of all these numbers.
+fn made(found: Result<Vec<i64>, NoMemory>, items: u32) -> Result<bool, NoMemory> {
+    Ok(are_all(found?.as_slice(), items))
+}
+
+/// Whether a number that was found is this one.
+fn is(found: Result<usize, NoMemory>, wanted: usize) -> Result<bool, NoMemory> {
+    Ok(found? == wanted)
+}
+
+/// How many numbers differ.
+fn apart<R: Threads + Clock + Sync, X: Stream<Item = i64> + Sync>(
+    engine: &Engine<'_, R, Workers>,
+    all: &X,
+) -> Result<usize, NoMemory>
+    requires { X.ready all.now }
+{
+    Ok(all.to_set(engine)?.len())
+}
+
+/// The numbers in the order in which a sink sees them.
+fn seen<R: Threads + Clock + Sync, X: Stream<Item = i64> + Sync>(
+    engine: &Engine<'_, R, Workers>,
+    all: &X,
+) -> Result<Vec<i64>, NoMemory>
+    requires { X.ready all.now }
+{
+    let mut seen = Vec::new(engine.alloc);
+    all.for_each_ordered(engine, &mut seen)?;
+    Ok(seen)
+}
+
+/// The first hundred in their order.
+fn first_sorted<R: Threads + Clock + Sync, X: Stream<Item = i64> + Sync>(
+    engine: &Engine<'_, R, Workers>,
+    all: &X,
+) -> Result<Vec<i64>, NoMemory>
+    requires { X.ready all.now }
+{
+    let first = FirstSorted::<i64, _>::new(engine.alloc, Itself, 100);
+    all.collect_on(engine, &first)
+}
+
+/// Whether the numbers by their last digits are so many and in that order.
+fn are_sorted_by_digits(found: Result<Vec<i64>, NoMemory>, items: u32) -> Result<bool, NoMemory> {
+    let found = found?;
+    Ok(found.len() == items as usize && are_by_digits(found.as_slice(), i64::from(items)))
+}
+
 /// Whether the answer over the numbers from 0 on, so many, at least one and no multiple of the prime number, is right. What is sorted whole came in
 /// another order.
 pub fn is_right<R: Threads + Clock + Sync, X: Stream<Item = i64> + Drop + Sync>(
@@ -106,30 +155,23 @@ pub fn is_right<R: Threads + Clock + Sync, X: Stream<Item = i64> + Drop + Sync>(
 ) -> Result<bool, NoMemory>
     requires { X.ready all }
 {
-    let alloc = engine.alloc;
-    Ok(match list {
-        List::ToList => are_all(all.to_list(engine)?.as_slice(), items),
-        List::ToSet => all.to_set(engine)?.len() == items as usize,
-        List::ForEachOrdered => {
-            let mut seen = Vec::new(alloc);
-            all.for_each_ordered(engine, &mut seen)?;
-            are_all(seen.as_slice(), items)
-        }
-        List::Joining => joined_length(engine, items)?
-            == (items as usize).wrapping_mul(2).wrapping_sub(1),
-        List::StrictMap => entries(engine, &all)? == items as usize,
+    let count = items as usize;
+    match list {
+        List::ToList => made(all.to_list(engine), items),
+        List::ToSet => is(apart(engine, &all), count),
+        List::ForEachOrdered => made(seen(engine, &all), items),
+        List::Joining => is(
+            joined_length(engine, items),
+            count.wrapping_mul(2).wrapping_sub(1),
+        ),
+        List::StrictMap => is(entries(engine, &all), count),
         List::Sorted | List::SortedList => {
             let shuffled = all.map(Times(PRIME)).map(below(items));
-            are_all(sorted_by(engine, &shuffled, list)?.as_slice(), items)
+            made(sorted_by(engine, &shuffled, list), items)
         }
         List::SortedByKey => {
-            let found = all.sorted_by_key(engine, &Modulo::by(10))?;
-            found.len() == items as usize && are_by_digits(found.as_slice(), i64::from(items))
+            are_sorted_by_digits(all.sorted_by_key(engine, &Modulo::by(10)), items)
         }
-        List::FirstSorted => {
-            let first = FirstSorted::<i64, _>::new(alloc, Itself, 100);
-            let found = all.collect_on(engine, &first)?;
-            are_all(found.as_slice(), items.min(100))
-        }
-    })
+        List::FirstSorted => made(first_sorted(engine, &all), items.min(100)),
+    }
 }

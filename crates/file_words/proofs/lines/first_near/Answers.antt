@@ -1,7 +1,7 @@
 use Rattle.std.proofs.Common.{◌≤◌, eqb, length, arith, w8}
 use Rattle.std.specs.Simd.Lanes.{chunk}
 use Rattle.std.proofs.lemmas.Simd.{bitmask_splat, length-chunk}
-use Rattle.file_words.proofs.NearLemmas.{near_found}
+use Rattle.file_words.proofs.LineLemmas.{near_found}
 use Rattle.file_words.proofs.lines.first_near.Goals as goal
 
 pub returns-then-marks-ne0 : goal.returns-then-marks-ne0

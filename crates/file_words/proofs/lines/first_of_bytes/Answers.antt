@@ -1,6 +1,5 @@
 use Rattle.std.proofs.Common.{◌∙◌, sym, arith, length, le_refl}
-use Rattle.std.proofs.lemmas.Bool.{eqb-false}
-use Rattle.std.proofs.lemmas.Slice.{between_to_end}
+use Rattle.std.proofs.lemmas.{Bool.eqb-false, Slice.between_to_end}
 use Rattle.file_words.proofs.LineLemmas.{line_alone, line_cut}
 use Rattle.file_words.proofs.lines.first_of_bytes.Goals as goal
 

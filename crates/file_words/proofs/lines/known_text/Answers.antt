@@ -1,5 +1,4 @@
-use Rattle.std.proofs.Common.{refl}
-use Rattle.std.proofs.lemmas.Str.{is_utf8-from_IsUtf8}
+use Rattle.std.proofs.{Common.refl, lemmas.Str.is_utf8-from_IsUtf8}
 use Rattle.file_words.proofs.lines.known_text.Goals as goal
 
 pub returns : goal.returns

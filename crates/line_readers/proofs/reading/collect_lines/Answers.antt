@@ -1,7 +1,7 @@
 use Rattle.std.proofs.Common.{string_bytes, ◌∙◌}
 use Rattle.std.specs.Io.KnownBytes.{prepend_known}
 use Rattle.line_blocks.specs.Blocks.{IsFolded}
-use Rattle.line_blocks.proofs.Cuts.{folded-more, folded-none}
+use Rattle.line_blocks.proofs.Cuts.{folded-more}
 use Rattle.line_readers.proofs.Behind.{decided-given, if-given, last-given, none-taken, over-given, taken_of}
 use Rattle.line_readers.proofs.reading.collect_lines.Invariants.{made, way}
 use Rattle.line_readers.proofs.reading.collect_lines.Goals.{In_ok-more}
@@ -40,6 +40,11 @@ loop-preserved g c =
       longest = (rw c.in_ok-behind.was at c.in_ok-more.ensures.longest) ∙ c.loop.invariant.longest;
       last = rw c.in_ok-behind.was at c.in_ok-more.ensures.last;
     }
+
+pub returns-then-may_fly-clause-value : goal.returns-then-may_fly-clause-value
+returns-then-may_fly-clause-value g c =
+    let ahead = c.loop.invariant.ahead in
+    c.pass_on.ensures.value (way g c.args.steps.now).whole (g.I.Read.remaining c.args.reader) ahead.0 ahead.1 ahead.2
 
 pub returns-then-block-clause-value : goal.returns-then-block-clause-value
 returns-then-block-clause-value g c =

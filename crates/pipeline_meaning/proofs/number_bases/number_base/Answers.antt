@@ -2,10 +2,8 @@ use Rattle.std.proofs.Common.{rules, ap, sym, ◌∙◌}
 -- The first item is what keeping the earlier of two leaves.
 use Rattle.std.specs.Fmt.{signed_decimal}
 use Rattle.collectors.specs.Reductions.{reduced}
-use Rattle.pipeline_meaning.specs.Prepared.{merging_join}
-use Rattle.value_text.specs.SummaryLaws.{reduced-first_of}
-use Rattle.pipeline_meaning.specs.Summaries.{number_base_text}
-use Rattle.value_text.specs.Texts.{optional_text}
+use Rattle.pipeline_meaning.specs.{Functions.merging_join, Summaries.number_base_text}
+use Rattle.value_text.specs.Texts.{reduced-first_of, optional_text}
 use Rattle.pipeline_meaning.proofs.number_bases.number_base.Goals as goal
 
 pub returns-in-First-clause-summary : goal.returns-in-First-clause-summary

@@ -2,7 +2,7 @@ use Rattle.std.proofs.Common.{rules, subst, sym, ap, ◌∙◌, ◌≡◌, ◌�
 use Rattle.std.proofs.Math.ListN.{replicate}
 use Rattle.std.proofs.lemmas.List.{map-id, nil_from_length}
 use Rattle.pipeline_meaning.specs.NumberSteps.{copies}
-use Rattle.pipeline_meaning.proofs.Copies.{no-repeats, first-repeat, part-and-rest, some-and-rest}
+use Rattle.pipeline_meaning.proofs.NumberFronts.{no-repeats, first-repeat, part-and-rest, some-and-rest}
 use Rattle.pipeline_meaning.proofs.number_copies.+repeating.Goals as goal
 
 pub feed_repeated-returns-in-None-clause-taken : goal.feed_repeated-returns-in-None-clause-taken

@@ -1,9 +1,8 @@
 use Rattle.std.proofs.Common.{◌∙◌, sym, ap}
-use Rattle.std.specs.Prelude.{flat_map}
-use Rattle.std.proofs.lemmas.List.{drop_all}
+use Rattle.std.{specs.Prelude.flat_map, proofs.lemmas.List.drop_all}
 use Rattle.pipeline_meaning.specs.NumberSteps.{number_step_images, steps_images}
 use Rattle.stages.specs.Passing.{flat_map-one}
-use Rattle.pipeline_meaning.proofs.Blocks.{step_over}
+use Rattle.pipeline_meaning.proofs.NumberFronts.{step_over}
 use Rattle.pipeline_meaning.proofs.number_steps.run_all.Goals as goal
 
 pub loop-step-preserved : goal.loop-step-preserved

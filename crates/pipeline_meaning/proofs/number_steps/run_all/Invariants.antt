@@ -1,5 +1,4 @@
-use Rattle.std.proofs.Common.{◌≡◌, drop}
-use Rattle.std.specs.Prelude.{flat_map}
+use Rattle.std.proofs.Common.{◌≡◌, drop, flat_map}
 use Rattle.pipeline_meaning.specs.NumberSteps.{steps_images}
 use Rattle.pipeline_meaning.proofs.number_steps.run_all.Given as goal
 

@@ -1,8 +1,7 @@
 -- The groups by the prepared key are those by the file's.
 use Rattle.std.proofs.Common.{ap, sym, ◌∙◌}
-use Rattle.std.specs.Fmt.{signed_decimal}
-use Rattle.std.specs.Ordering.{int_eq}
-use Rattle.value_text.specs.SummaryLaws.{groups-same}
+use Rattle.std.specs.{Fmt.signed_decimal, Ordering.int_eq}
+use Rattle.value_text.specs.Texts.{groups-same}
 use Rattle.pipeline_meaning.specs.Summaries.{number_summary_text}
 use Rattle.pipeline_meaning.proofs.number_summaries.number_summary.Goals as goal
 

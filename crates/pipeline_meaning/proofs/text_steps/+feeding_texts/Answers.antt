@@ -1,7 +1,6 @@
 use Rattle.std.proofs.Common.{arith, subst, ◌≤◌, ◌-◌, ℕ, List, flat_map}
 use Rattle.std.proofs.Math.ListN.{replicate}
-use Rattle.pipeline_meaning.specs.TextSteps.{text_images}
-use Rattle.pipeline_meaning.specs.WalkLaws.{copies-all}
+use Rattle.pipeline_meaning.specs.{TextSteps.text_images, Walks.copies-all}
 use Rattle.pipeline_meaning.proofs.text_steps.+feeding_texts.Goals as goal
 
 pub feed_copies-returns-then-is_full-clause-taken :

@@ -1,10 +1,7 @@
 -- The groups of the inner collector's texts.
 use Rattle.std.proofs.Common.{refl, ap, sym, ◌∙◌}
-use Rattle.std.specs.Prelude.{bytes_eq}
-use Rattle.std.specs.Fmt.{signed_decimal}
-use Rattle.std.specs.Ordering.{int_eq}
-use Rattle.value_text.specs.SummaryLaws.{groups-same}
-use Rattle.value_text.specs.Texts.{itself}
+use Rattle.std.specs.{Prelude.bytes_eq, Fmt.signed_decimal, Ordering.int_eq}
+use Rattle.value_text.specs.Texts.{groups-same, itself}
 use Rattle.pipeline_meaning.specs.Summaries.{text_groups_text, text_inner_text}
 use Rattle.pipeline_meaning.proofs.text_summaries.text_groups.Goals as goal
 

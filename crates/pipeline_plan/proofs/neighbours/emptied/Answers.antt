@@ -1,4 +1,4 @@
-use Rattle.pipeline_plan.specs.Neighbours.{nothing-first}
+use Rattle.pipeline_plan.specs.Rules.{nothing-first}
 use Rattle.pipeline_plan.proofs.neighbours.emptied.Goals as goal
 
 pub returns-then-makes_none : goal.returns-then-makes_none

@@ -1,4 +1,4 @@
-use Rattle.pipeline_plan.specs.Neighbours.{section-before-copies}
+use Rattle.pipeline_plan.specs.Rules.{section-before-copies}
 use Rattle.pipeline_plan.proofs.neighbours.section_before_copies.Goals as goal
 
 pub returns : goal.returns

@@ -1,5 +1,5 @@
 use Rattle.std.proofs.Common.{sym, ◌∙◌}
-use Rattle.pipeline_plan.specs.Neighbours.{section-first}
+use Rattle.pipeline_plan.specs.Rules.{section-first}
 use Rattle.pipeline_plan.proofs.neighbours.section_first.Goals as goal
 
 pub returns-then-is_section_behind_map : goal.returns-then-is_section_behind_map

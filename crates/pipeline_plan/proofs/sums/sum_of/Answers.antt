@@ -1,8 +1,6 @@
 use Rattle.std.proofs.Common.{rules, ◌≡◌, ◌+◌, ◌∷◌, ◌∙◌, ◌+ℤ◌, neg_ℤ, ap, ap₂, arith, fold, length, of_z, pos, suc, sym, to_z, FitsSigned, w64}
-use Rattle.std.specs.Int.{int_wrap}
-use Rattle.std.proofs.lemmas.Int.{to_z_pos}
-use Rattle.sources.specs.Progressions.{progression}
-use Rattle.sources.specs.ProgressionLaws.{length-progression}
+use Rattle.std.{specs.Int.int_wrap, proofs.lemmas.Int.to_z_pos}
+use Rattle.sources.specs.{Progressions.progression, ProgressionLaws.length-progression}
 use Rattle.stages.specs.Wrapping.{wrapped, wrapped_sum}
 use Rattle.stages.specs.Products.{wrapped_product}
 use Rattle.pipeline_plan.specs.Sums.{made-sum, pairs_of, steps-read, steps-sum}

@@ -1,5 +1,4 @@
-use Rattle.std.proofs.Common.{rules}
-use Rattle.std.proofs.lemmas.Int.{wraps}
+use Rattle.std.proofs.{Common.rules, lemmas.Int.wraps}
 use Rattle.pipeline_plan.proofs.sums.wrapping_difference.Goals as goal
 
 pub returns : goal.returns

@@ -1,6 +1,5 @@
 use Rattle.std.proofs.Common.{rules, ◌≡◌, ◌+◌, ap, subst, sym, map, drop, length, arith, ℕ, List, [], ◌∷◌, Err, Vec, Global, Bor}
-use Rattle.std.proofs.lemmas.List.{length-append}
-use Rattle.std.proofs.lemmas.Str.{is_utf8-from_IsUtf8}
+use Rattle.std.proofs.lemmas.{List.length-append, Str.is_utf8-from_IsUtf8}
 use Rattle.pipeline_language.specs.FileReading.{Reads, first_text}
 use Rattle.file_words.specs.Words.{lines_of}
 use Rattle.pipeline_reader.proofs.LoopLemmas.{text_stops, texts_end, texts_more, text_found, no_text_found}

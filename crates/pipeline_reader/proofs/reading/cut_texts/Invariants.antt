@@ -1,5 +1,4 @@
-use Rattle.std.proofs.Common.{◌≡◌, ◌+◌, ◌-◌, ◌≤◌, map, length}
-use Rattle.std.specs.Prelude.{IsUtf8}
+use Rattle.std.proofs.Common.{◌≡◌, ◌+◌, ◌-◌, ◌≤◌, map, length, IsUtf8}
 use Rattle.pipeline_language.specs.FileReading.{texts_from, in_front}
 use Rattle.file_words.specs.Words.{lines_of}
 use Rattle.pipeline_reader.proofs.reading.cut_texts.Given as goal

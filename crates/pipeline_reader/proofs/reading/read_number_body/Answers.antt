@@ -1,10 +1,8 @@
 use Rattle.std.proofs.Common.{◌≡◌, ◌+◌, ◌∙◌, ap, map, length, arith, Ok, ℕ, [], ◌∷◌}
-use Rattle.std.proofs.lemmas.List.{length-append}
-use Rattle.std.proofs.lemmas.Result.{err_from_is_err_and}
-use Rattle.pipeline_language.specs.Content.{number_body, number_stage}
-use Rattle.pipeline_language.specs.Kinds.{number_line_content}
+use Rattle.std.proofs.lemmas.{List.length-append, Result.err_from_is_err_and}
+use Rattle.pipeline_language.specs.Content.{number_body, number_stage, number_line_content}
 use Rattle.pipeline_language.specs.Syntax.{NumberKind, comes}
-use Rattle.pipeline_language.proofs.BodyLemmas.{in_front_of_none}
+use Rattle.pipeline_language.proofs.FileLemmas.{in_front_of_none}
 use Rattle.pipeline_reader.proofs.LoopLemmas.{first_behind, told_behind, stage_more, number_keeps}
 use Rattle.pipeline_reader.proofs.reading.read_number_body.Goals as goal
 

@@ -1,6 +1,5 @@
 use Rattle.std.proofs.Common.{subst}
-use Rattle.pipeline_language.specs.Content.{program_of}
-use Rattle.pipeline_language.specs.FileReading.{Reads}
+use Rattle.pipeline_language.specs.{Content.program_of, FileReading.Reads}
 use Rattle.pipeline_language.proofs.FileLemmas.{reads_means, reads_fault, means_is_read, fault_of_file_is_read}
 use Rattle.pipeline_reader.proofs.reading.read_pipeline.Goals as goal
 

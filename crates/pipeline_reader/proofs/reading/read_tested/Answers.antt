@@ -1,6 +1,5 @@
 use Rattle.std.proofs.Common.{◌≡◌, ◌+◌, ap, map, length, arith, ℕ, List, [], ◌∷◌, Vec, Global, Bor}
-use Rattle.std.proofs.lemmas.List.{length-append}
-use Rattle.std.proofs.lemmas.Result.{err_from_is_err_and}
+use Rattle.std.proofs.lemmas.{List.length-append, Result.err_from_is_err_and}
 use Rattle.pipeline_reader.proofs.LoopLemmas.{text_stops, texts_end, texts_more}
 use Rattle.pipeline_reader.proofs.reading.read_tested.Goals as goal
 

@@ -1,8 +1,6 @@
 use Rattle.std.proofs.Common.{◌≡◌, ◌+◌, ◌∙◌, ap, map, length, arith, Ok, ℕ, [], ◌∷◌}
-use Rattle.std.proofs.lemmas.List.{length-append}
-use Rattle.std.proofs.lemmas.Result.{err_from_is_err_and}
-use Rattle.pipeline_language.specs.Content.{text_body, text_stage}
-use Rattle.pipeline_language.specs.Kinds.{text_line_content}
+use Rattle.std.proofs.lemmas.{List.length-append, Result.err_from_is_err_and}
+use Rattle.pipeline_language.specs.Content.{text_body, text_stage, text_line_content}
 use Rattle.pipeline_language.specs.Syntax.{TextKind, comes}
 use Rattle.pipeline_reader.proofs.LoopLemmas.{first_behind, told_behind, stage_more, text_keeps, lengths_read, lengths_told}
 use Rattle.pipeline_reader.proofs.reading.read_text_body.Goals as goal

@@ -1,6 +1,6 @@
 use Rattle.std.proofs.Common.{◌∙◌, inl, inr, sym}
 use Rattle.std.proofs.lemmas.Option.{IfSome_then}
-use Rattle.pipeline_runner.proofs.CommandLemmas.{asked_for_help, has_a_fault, on_file, told_fault, told_key}
+use Rattle.pipeline_runner.proofs.RunLemmas.{asked_for_help, has_a_fault, on_file, told_fault, told_key}
 use Rattle.pipeline_runner.proofs.command_line.command.Goals as goal
 
 pub returns-in-Ok-run-clause-answered : goal.returns-in-Ok-run-clause-answered

@@ -2,7 +2,7 @@ use Rattle.std.proofs.Common.{◌≡◌, ◌∙◌, ap, ap₂, map, refl, subst,
 use Rattle.std.proofs.lemmas.Result.{IfOk-weaker}
 use Rattle.clap.specs.Simple.{app_of_fields, on_top}
 use Rattle.clap.specs.Words.{FailsBy, app_of, fault_of, is_simple, is_simple_and_free, matches_of, with_rule}
-use Rattle.pipeline_runner.specs.CommandLine.{bare_program, program}
+use Rattle.pipeline_runner.specs.Command.{bare_program, program}
 use Rattle.pipeline_runner.proofs.command_line.parse.Goals as goal
 
 pub returns : goal.returns

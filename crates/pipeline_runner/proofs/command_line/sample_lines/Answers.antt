@@ -1,7 +1,7 @@
 use Rattle.std.proofs.Common.{◌∷◌, [], codes, inl, refl}
 use Rattle.clap.specs.declared.error.kind.ErrorKind.TheVariants.{MissingRequiredArgument, UnknownArgument, ValueValidation}
 use Rattle.clap.proofs.OnLiterals.{clap_on_literals}
-use Rattle.pipeline_runner.specs.CommandLine.{AsksForHelp, HasLineFault, NamesFile}
+use Rattle.pipeline_runner.specs.Command.{AsksForHelp, HasLineFault, NamesFile}
 use Rattle.pipeline_runner.proofs.command_line.sample_lines.Goals as goal
 
 name : NamesFile (codes "row" ∷ []) (codes "row")

@@ -1,5 +1,4 @@
-use Rattle.std.proofs.lemmas.Result.{err_from_is_err_and}
-use Rattle.std.proofs.Common.{◌∙◌}
+use Rattle.std.proofs.{lemmas.Result.err_from_is_err_and, Common.◌∙◌}
 use Rattle.pipeline_language.specs.Content.{program_of}
 use Rattle.pipeline_runner.proofs.RunLemmas.{value_told}
 use Rattle.pipeline_runner.proofs.runner.whole_text.Goals as goal

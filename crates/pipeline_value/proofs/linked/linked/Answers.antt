@@ -1,7 +1,5 @@
 use Rattle.std.proofs.Common.{◌<◌, ◌++◌, ◌∷◌, [], ap, arith, length, ◌∙◌}
-use Rattle.std.specs.Prelude.{flat_map}
-use Rattle.std.proofs.lemmas.Bool.{MatchBool-at_true}
-use Rattle.std.proofs.lemmas.List.{take_all}
+use Rattle.std.{specs.Prelude.flat_map, proofs.lemmas.Bool.MatchBool-at_true, proofs.lemmas.List.take_all}
 use Rattle.std.proofs.lemmas.List.Elements.{All-push, All-same}
 use Rattle.barriers.specs.AnyBarriers.{any_can_carry, any_ready, any_value}
 use Rattle.chained_streams.specs.Chains.{link_value, through_links}

@@ -1,5 +1,4 @@
-use Rattle.std.proofs.Common.{◌≡◌, All, List, take}
-use Rattle.std.specs.Prelude.{flat_map}
+use Rattle.std.proofs.Common.{◌≡◌, All, List, take, flat_map}
 use Rattle.barriers.specs.AnyBarriers.{any_can_carry, any_ready, any_value}
 use Rattle.chained_streams.specs.Chains.{link_value, through_links}
 use Rattle.pipeline_meaning.specs.Walks.{one_after_other}

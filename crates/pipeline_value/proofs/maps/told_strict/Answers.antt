@@ -1,7 +1,6 @@
 -- The text of the map, or of the key that is the first to come again.
-use Rattle.std.specs.Prelude.{Ok, Err, map}
-use Rattle.std.proofs.Common.{sym, ap, subst, ◌∙◌}
-use Rattle.value_text.specs.SummaryLaws.{contents_tell}
+use Rattle.std.proofs.Common.{sym, ap, subst, ◌∙◌, Ok, Err, map}
+use Rattle.value_text.specs.Texts.{contents_tell}
 use Rattle.pipeline_value.specs.Value.{Tells, Told}
 use Rattle.pipeline_value.proofs.Strict.{map-told, repeat-told}
 use Rattle.pipeline_value.proofs.maps.told_strict.Goals as goal

@@ -1,5 +1,4 @@
-use Rattle.std.specs.Fmt.{signed_decimal}
-use Rattle.std.specs.Ordering.{int_eq}
+use Rattle.std.specs.{Fmt.signed_decimal, Ordering.int_eq}
 use Rattle.std.proofs.Common.{ap₂, subst}
 use Rattle.pipeline_value.specs.Value.{Tells, Told, strict_told}
 use Rattle.pipeline_value.proofs.number_end.number_end.Goals as goal

@@ -1,6 +1,5 @@
 use Rattle.std.proofs.Common.{ℤ, List, subst}
-use Rattle.pipeline_value.specs.Typed.{number_told}
-use Rattle.pipeline_value.specs.Value.{Tells}
+use Rattle.pipeline_value.specs.{Typed.number_told, Value.Tells}
 use Rattle.pipeline_value.proofs.numbers.number_value.Goals as goal
 
 pub returns : goal.returns

@@ -1,5 +1,4 @@
-use Rattle.std.proofs.Common.{◌++◌, Ok, ap, append-nil, map-id, sym, ◌∙◌}
-use Rattle.std.specs.Prelude.{◌≡◌}
+use Rattle.std.proofs.Common.{◌++◌, Ok, ap, append-nil, map-id, sym, ◌∙◌, ◌≡◌}
 use Rattle.pipeline_language.specs.declared.grammar.Joint.TheVariants.{Plain, Within}
 use Rattle.pipeline_language.specs.declared.grammar.Terminal.TheVariants.{Own}
 use Rattle.collectors.specs.Reductions.{delimited}

@@ -1,8 +1,7 @@
 use Rattle.std.proofs.Common.{ℤ, List, subst}
 use Rattle.std.proofs.lemmas.List.Concat.{flat_map_single}
 use Rattle.pipeline_meaning.specs.Functions.{text_length}
-use Rattle.pipeline_value.specs.Typed.{number_body_told}
-use Rattle.pipeline_value.specs.Value.{Tells}
+use Rattle.pipeline_value.specs.{Typed.number_body_told, Value.Tells}
 use Rattle.pipeline_value.proofs.texts.lengths_value.Goals as goal
 
 pub returns : goal.returns

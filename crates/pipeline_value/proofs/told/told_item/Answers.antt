@@ -1,7 +1,6 @@
 -- The text of the item is that of its content.
-use Rattle.std.specs.Prelude.{ℕ, List, Ok, refl}
-use Rattle.std.proofs.Common.{subst}
-use Rattle.value_text.specs.SummaryLaws.{optional_tells}
+use Rattle.std.proofs.Common.{subst, ℕ, List, Ok, refl}
+use Rattle.value_text.specs.Texts.{optional_tells}
 use Rattle.pipeline_value.specs.Value.{Tells}
 use Rattle.pipeline_value.proofs.told.told_item.Goals as goal
 

@@ -1,7 +1,5 @@
 use Rattle.std.proofs.Common.{rules, subst, sym}
-use Rattle.pipeline_value.specs.Typed.{pipeline_told}
-use Rattle.pipeline_value.specs.Value.{Tells}
-use Rattle.pipeline_value.proofs.ContentTold.{told_by_content}
+use Rattle.pipeline_value.{specs.Typed.pipeline_told, specs.Value.Tells, proofs.ByKind.told_by_content}
 use Rattle.pipeline_value.proofs.value.pipeline_value.Goals as goal
 
 pub returns-in-Numbers : goal.returns-in-Numbers

@@ -1,8 +1,12 @@
-use Rattle.std.proofs.Common.{◌≡◌, ◌∙◌, All, IsTrue, rules, sym, subst, true≢false}
-use Rattle.std.proofs.lemmas.List.{take_all}
+use Rattle.std.proofs.Common.{◌≡◌, ◌+◌, ℕ, List, Bor, ◌∷◌, [], ◌++◌, ◌∙◌, All, IsTrue, take, rules, sym, subst, true≢false}
+use Rattle.std.specs.List.{AllZip}
+use Rattle.std.proofs.lemmas.List.{take_all, take_more}
 use Rattle.std.proofs.lemmas.List.Elements.{All-more, All-push, All-weaker}
 use Rattle.collectors.specs.Laws.{IsContainerOf}
-use Rattle.placed_containers.specs.Parts.{IsOfJob, IsPart}
+use Rattle.placed_containers.specs.Parts.{IsAt, IsOfJob, IsPart}
+use Rattle.placed_containers.specs.declared.pieces.Part.{Part}
+use Rattle.placed_containers.specs.Ways.{begin_of, end_of}
+use Rattle.placed_containers.proofs.Telling.{zip-push}
 use Rattle.placed_containers.proofs.job.read_parts.Goals as goal
 
 pub returns-in_err-part-clause-known : goal.returns-in_err-part-clause-known
@@ -28,7 +32,12 @@ loop-at-preserved g c =
     let made = IsContainerOf g.C.Item.Value.is_value (C.content it) (C.empty it) (C.add it) in
     let lines = c.args.lines.now in
     let at = c.loop-at.at in record {
-      own = All-more (λ line. IsOfJob c.args.job.now.name.now line.now) lines at _ c.loop-at-test.true c.loop-at.invariant.own c.in_ok-part.ensures.own;
+      own = All-more (λ line. IsOfJob c.args.job.now.name.now line.now) lines at _ c.loop-at-test.true c.loop-at.invariant.own (begin_of c.in_ok-part.part, end_of c.in_ok-part.part, c.in_ok-part.part.places.of, c.in_ok-part.ensures.places);
+      places =
+          let tells : Part g.row.C-Acc.Denot → Bor (List ℕ) → Type 0 = λ part line. IsAt c.args.job.now.name.now (begin_of part) (end_of part) part.places.of line.now in
+          let both = zip-push tells c.loop-at.parts.items (take at lines) c.in_ok-part.part _ c.loop-at.invariant.places c.in_ok-part.ensures.places in
+          subst (λ ps. AllZip tells ps (take (at + 1) lines)) (sym c.in_ok-push.ensures.items)
+          (subst (AllZip tells (c.loop-at.parts.items ++ c.in_ok-part.part ∷ [])) (sym (take_more lines at _ c.loop-at-test.true)) both);
       parts = λ between n all.
           let is_part = IsPart made between n in
           let part = c.in_ok-part.ensures.part between n (all at _ c.loop-at-test.true) in
@@ -38,3 +47,7 @@ loop-at-preserved g c =
 
 pub returns-clause-own : goal.returns-clause-own
 returns-clause-own g c = subst (All (λ line. IsOfJob c.args.job.now.name.now line.now)) (take_all c.loop-at.at c.args.lines.now c.loop-at-test.false) c.loop-at.invariant.own
+
+pub returns-clause-places : goal.returns-clause-places
+returns-clause-places g c =
+    subst (AllZip (λ part line. IsAt c.args.job.now.name.now (begin_of part) (end_of part) part.places.of line.now) c.loop-at.parts.items) (take_all c.loop-at.at c.args.lines.now c.loop-at-test.false) c.loop-at.invariant.places

@@ -3,8 +3,8 @@ use Rattle.collectors.specs.Laws.{IsContainerOf}
 use Rattle.placed_containers.proofs.Joined.{between-joined}
 use Rattle.placed_containers.proofs.pieces.extend_piece.Goals as goal
 
-pub returns-in_ok-combine_containers : goal.returns-in_ok-combine_containers
-returns-in_ok-combine_containers g c = λ between n joins old next.
+pub returns-clause-part : goal.returns-clause-part
+returns-clause-part g c = λ between n joins old next.
     let C = g.C.Collector in
     let it = c.args.collector.now in
     let piece = c.args.piece.now.places in

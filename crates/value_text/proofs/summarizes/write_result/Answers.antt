@@ -1,6 +1,5 @@
 -- The text of a result is that of the items.
-use Rattle.std.proofs.Common.{◌≡◌, ◌++◌, subst}
-use Rattle.std.specs.Prelude.{OnOk, string_bytes}
+use Rattle.std.proofs.Common.{◌≡◌, ◌++◌, subst, OnOk, string_bytes}
 use Rattle.value_text.proofs.summarizes.write_result.Goals as goal
 
 pub returns : goal.returns

@@ -1,6 +1,5 @@
 use Rattle.std.proofs.Common.{◌≤◌, ◌+◌, length, subst, sym}
-use Rattle.file_words.specs.Words.{lines_of}
-use Rattle.file_words.proofs.LineLemmas.{line_count}
+use Rattle.file_words.{specs.Words.lines_of, proofs.LineLemmas.line_count}
 use Rattle.file_words.proofs.lines.Lines.new.Goals as goal
 
 pub returns-clause-count : goal.returns-clause-count

@@ -1,7 +1,5 @@
-use Rattle.std.proofs.Common.{subst, sym}
-use Rattle.std.specs.Prelude.{All, IsSome, IsUtf8}
-use Rattle.file_words.specs.Pieces.{piece_bytes}
-use Rattle.file_words.proofs.LineLemmas.{given_as_text}
+use Rattle.std.proofs.Common.{subst, sym, All, IsSome, IsUtf8}
+use Rattle.file_words.{specs.Pieces.piece_bytes, proofs.LineLemmas.given_as_text}
 use Rattle.file_words.proofs.lines.Lines.text.Goals as goal
 
 pub returns-clause-given : goal.returns-clause-given

@@ -1,6 +1,5 @@
 use Rattle.std.proofs.Common.{◌∙◌, ap, sym}
-use Rattle.file_words.specs.WordReading.{ended}
-use Rattle.file_words.proofs.WordLemmas.{left_over}
+use Rattle.file_words.{specs.WordReading.ended, proofs.LineLemmas.left_over}
 use Rattle.file_words.proofs.words.Words.end.Goals as goal
 
 pub returns-then-is_some : goal.returns-then-is_some

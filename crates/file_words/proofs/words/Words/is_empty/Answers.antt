@@ -1,6 +1,5 @@
 use Rattle.std.proofs.Common.{◌∙◌, ap}
-use Rattle.file_words.specs.WordReading.{is_done}
-use Rattle.file_words.proofs.WordLemmas.{is_empty}
+use Rattle.file_words.{specs.WordReading.is_done, proofs.LineLemmas.is_empty}
 use Rattle.file_words.proofs.words.Words.is_empty.Goals as goal
 
 pub returns : goal.returns

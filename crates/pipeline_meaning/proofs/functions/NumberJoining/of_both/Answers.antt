@@ -1,5 +1,4 @@
-use Rattle.std.proofs.Common.{rules}
-use Rattle.std.proofs.lemmas.Int.{wraps}
+use Rattle.std.proofs.{Common.rules, lemmas.Int.wraps}
 use Rattle.pipeline_meaning.proofs.functions.NumberJoining.of_both.Goals as goal
 
 pub returns-in-Sum : goal.returns-in-Sum

@@ -1,7 +1,5 @@
 use Rattle.std.proofs.Common.{rules, ap, ◌∙◌}
-use Rattle.std.specs.Prelude.{◌==◌}
-use Rattle.std.specs.List.{starts_with}
-use Rattle.std.proofs.lemmas.Str.Pattern.{starts_text}
+use Rattle.std.{specs.Prelude.◌==◌, specs.List.starts_with, proofs.lemmas.Str.Pattern.starts_text}
 use Rattle.pipeline_meaning.proofs.functions.TextCheckTest.holds.Goals as goal
 
 pub returns-in-Starts : goal.returns-in-Starts

@@ -1,5 +1,5 @@
 use Rattle.std.proofs.Common.{ap}
-use Rattle.pipeline_meaning.specs.Rows.{size_of}
+use Rattle.pipeline_meaning.specs.Walks.{size_of}
 use Rattle.pipeline_meaning.proofs.NumberFronts.{no-size, no-steps}
 use Rattle.pipeline_meaning.proofs.number_steps.NumberSteps.new.Goals as goal
 

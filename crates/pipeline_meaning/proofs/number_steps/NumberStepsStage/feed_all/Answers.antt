@@ -1,7 +1,6 @@
 use Rattle.std.proofs.Common.{OnOk, List, ℤ, sym, ap, subst, ◌∙◌, flat_map}
 use Rattle.std.proofs.lemmas.List.{map-id}
-use Rattle.pipeline_meaning.specs.NumberSteps.{number_images}
-use Rattle.pipeline_meaning.proofs.Copies.{steps-and-copies}
+use Rattle.pipeline_meaning.{specs.NumberSteps.number_images, proofs.NumberFronts.steps-and-copies}
 use Rattle.pipeline_meaning.proofs.number_steps.NumberStepsStage.feed_all.Goals as goal
 
 pub returns-clause-taken : goal.returns-clause-taken

@@ -1,6 +1,5 @@
 use Rattle.std.proofs.Common.{rules}
-use Rattle.pipeline_meaning.specs.declared.text_steps.TextSteps.{TextSteps}
-use Rattle.pipeline_meaning.proofs.TextFronts.{step-follows}
+use Rattle.pipeline_meaning.{specs.declared.text_steps.TextSteps.TextSteps, proofs.TextFronts.step-follows}
 use Rattle.pipeline_meaning.proofs.text_steps.TextSteps.put.Goals as goal
 
 pub returns-in_ok-push-in-Some : goal.returns-in_ok-push-in-Some

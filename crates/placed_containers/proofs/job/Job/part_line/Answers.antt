@@ -31,3 +31,12 @@ returns-clause-told g c = λ between made.
     let back = c.in_ok-to_string.ensures.reads_back deep ∙ ap Some c.in_ok-value.ensures in
     let order : places.from ≤ places.to × places.to ≤ places.of = search rules in
     (places.from, places.to, inner, order.0, order.1, back, (c.args.container, made, sym c.in_ok-container.ensures))
+
+pub returns-clause-places : goal.returns-clause-places
+returns-clause-places g c =
+    let job = c.args.self.now.name.now in
+    let places = c.args.places in
+    let inner = view c.in_ok-container.container in
+    let shallow : depth inner ≤ 126 = omega (arith, ap depth c.in_ok-container.ensures, g.met.C.WireForm.shallow c.args.self.now.collector.now c.args.container, c.requires) in
+    let deep : depth (view c.in_ok-value.value) ≤ 127 = subst (λ d. depth d ≤ 127) (sym c.in_ok-value.ensures) (part_form-shallow job places.from places.to places.of inner shallow) in
+    (inner, c.in_ok-to_string.ensures.reads_back deep ∙ ap Some c.in_ok-value.ensures)

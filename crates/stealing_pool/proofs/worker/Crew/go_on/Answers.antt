@@ -6,9 +6,7 @@ use Rattle.stealing_pool.proofs.Drawn.{shift_same, shift_skipped, shift_publishe
 use Rattle.stealing_pool.proofs.worker.Crew.go_on.Goals as goal
 
 pub returns-in-Drained-clause-kept : goal.returns-in-Drained-clause-kept
-returns-in-Drained-clause-kept g c = λ done.
-    let P : List _ → Type 0 = λ ran. KeepsShift (g.B.Handout.status c.draw.new.seat) ran in
-    subst P (sym c.reserve.ensures.items) (shift_same _ _ c.drawing.invariant.served _ c.in-Drained.ensures.draws.0)
+returns-in-Drained-clause-kept g c = λ done. shift_same _ _ c.drawing.invariant.served _ c.in-Drained.ensures.draws.0
 
 pub returns-in-Drained-clause-drained : goal.returns-in-Drained-clause-drained
 returns-in-Drained-clause-drained g c = λ done stayed. c.in-Drained.ensures.draws.1
@@ -20,7 +18,7 @@ drawing-preserved-in-Ok-Some g c =
     let drawn = c.in-Leaf.ensures in
     let served = rw c.in-Ok-Some.field-0-is at c.in-Ok-Some.ensures.serves in
     let stays = c.in-Ok-Some.ensures.seat in
-    let more : c.push_reserved.new.self.items ≡ c.drawing.shift.ran.items ++ c.in-Ok-Some.one ∷ [] = c.push_reserved.ensures.items ∙ ap (λ xs. xs ++ c.in-Ok-Some.one ∷ []) c.reserve.ensures.items in record {
+    let more : c.push_reserved.new.self.items ≡ c.drawing.shift.ran.items ++ c.in-Ok-Some.one ∷ [] = c.push_reserved.ensures.items ∙ ap (λ xs. xs ++ c.in-Ok-Some.one ∷ []) c.make_room.ensures.same in record {
       of = stays.of;
       numbered = stays.numbered ∙ drawn.number ∙ c.drawing.invariant.numbered;
       ran = All-same Q _ _ more (All-push Q _ _ c.drawing.invariant.ran served.1);
@@ -42,10 +40,10 @@ drawing-preserved g c =
     let P : List _ → Type 0 = λ ran. KeepsShift (g.B.Handout.status c.serve.new.seat) ran in record {
       of = stays.of;
       numbered = stays.numbered ∙ drawn.number ∙ c.drawing.invariant.numbered;
-      ran = All-same Q _ _ c.reserve.ensures.items c.drawing.invariant.ran;
+      ran = All-same Q _ _ c.make_room.ensures.same c.drawing.invariant.ran;
       cuts =
           let Cut : Ran g.row.J-Kept.Denot → Type 0 = CutBy work g.B.Handout.made_cut c.serve.new.seat in
-          All-same Cut _ _ c.reserve.ensures.items (λ k e within reached. stays.cuts _ (drawn.cuts _ (c.drawing.invariant.cuts k e within reached)));
-      served = subst P (sym c.reserve.ensures.items) (shift_skipped _ _ c.drawing.invariant.served _ _ _ drawn.draws.2 served);
+          All-same Cut _ _ c.make_room.ensures.same (λ k e within reached. stays.cuts _ (drawn.cuts _ (c.drawing.invariant.cuts k e within reached)));
+      served = subst P (sym c.make_room.ensures.same) (shift_skipped _ _ c.drawing.invariant.served _ _ _ drawn.draws.2 served);
       goes_on = c.drawing.invariant.goes_on;
     }

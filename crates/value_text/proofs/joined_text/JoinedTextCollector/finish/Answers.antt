@@ -1,5 +1,4 @@
-use Rattle.std.proofs.Common.{◌≡◌, ◌++◌, [], ◌∙◌, sym, ap, ap₂, append-nil, ℕ, List, Option, None, map, unwrap_or}
-use Rattle.std.specs.Prelude.{fold}
+use Rattle.std.proofs.Common.{◌≡◌, ◌++◌, [], ◌∙◌, sym, ap, ap₂, append-nil, ℕ, List, Option, None, map, unwrap_or, fold}
 use Rattle.collectors.specs.NestedLaws.{add_image, fold-image}
 use Rattle.collectors.specs.Reductions.{delimited, reduce_add}
 use Rattle.collectors.specs.Texts.{join_with, joined}

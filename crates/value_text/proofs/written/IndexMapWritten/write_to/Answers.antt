@@ -1,6 +1,5 @@
 -- One more entry was written behind its separator.
-use Rattle.std.proofs.Common.{rules, ◌≡◌, ◌++◌, ◌∷◌, map, sym, ap, ◌∙◌}
-use Rattle.std.specs.Prelude.{string_bytes}
+use Rattle.std.proofs.Common.{rules, ◌≡◌, ◌++◌, ◌∷◌, map, sym, ap, ◌∙◌, string_bytes}
 use Rattle.value_text.specs.Texts.{entry_text}
 use Rattle.value_text.proofs.Separated.{behind, behind-next}
 use Rattle.value_text.proofs.written.IndexMapWritten.write_to.Goals as goal

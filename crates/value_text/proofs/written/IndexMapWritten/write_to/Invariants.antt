@@ -1,6 +1,5 @@
 -- The text so far, with what the entries left add to it, is that with all of them.
-use Rattle.std.proofs.Common.{◌≡◌, ◌++◌, map, codes}
-use Rattle.std.specs.Prelude.{string_bytes}
+use Rattle.std.proofs.Common.{◌≡◌, ◌++◌, map, codes, string_bytes}
 use denote.Text.{Utf8}
 use denote.Shadow.{shadow}
 use Rattle.value_text.specs.Texts.{with_commas, entry_text}

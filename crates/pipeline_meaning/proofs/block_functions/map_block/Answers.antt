@@ -1,5 +1,0 @@
-use Rattle.pipeline_meaning.proofs.Blocks.{itself-all}
-use Rattle.pipeline_meaning.proofs.block_functions.map_block.Goals as goal
-
-pub returns-in-Itself : goal.returns-in-Itself
-returns-in-Itself c = itself-all c.args.mapping c.args.items.now.items c.in-Itself.is

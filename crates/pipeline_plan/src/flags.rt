@@ -1,0 +1,53 @@
+//! What the library's flags tell of items before anything runs. The number of the items is left out.
+
+ghost use Rattle.std.specs.Prelude.{◌≡◌, List};
+ghost use Rattle.pipeline_meaning.specs.Stages.{stage_list, stages_list};
+ghost use Rattle.pipeline_plan.specs.PlanFlags.{AreFlags, operation_of};
+
+use crate::{Kind, StageOf};
+use pipeline_language::{Barrier, Stage};
+use spliterator::Spliterator;
+use stages::{Operation, StreamFlags};
+
+/// The flags of a source's items.
+pub(crate) fn flags_of<S: Spliterator>(source: &S) -> StreamFlags
+    ensures { AreFlags S.Item.order result (S.items source.now) }
+{
+    StreamFlags::of_source(source).after(Operation::Filter)
+}
+
+/// The operation that a stage is.
+fn operation_of<F, P, E>(stage: &Stage<F, P, E>) -> Operation
+    ensures { result ≡ operation_of stage.now }
+{
+    match stage {
+        Stage::Map(_) => Operation::Map,
+        Stage::Filter(_) => Operation::Filter,
+        Stage::FlatMap(_) => Operation::FlatMap,
+        Stage::Barrier(Barrier::Distinct) => Operation::Distinct,
+        Stage::Barrier(Barrier::Limit(_)) => Operation::Limit,
+        Stage::Barrier(Barrier::Skip(_)) => Operation::Skip,
+        Stage::Barrier(Barrier::TakeWhile(_)) => Operation::TakeWhile,
+        Stage::Barrier(Barrier::DropWhile(_)) => Operation::DropWhile,
+    }
+}
+
+/// The flags of what a stage makes of items.
+fn flags_behind<K: Kind>(flags: StreamFlags, stage: &StageOf<K>) -> StreamFlags
+    ensures { (l : List K.Item.Content) → AreFlags K.Item.order flags l
+        → AreFlags K.Item.order result (stage_list K.means stage.now l) }
+{
+    flags.after(operation_of(stage))
+}
+
+/// The flags of what stages make of items.
+pub(crate) fn flags_through<K: Kind>(flags: StreamFlags, stages: &[StageOf<K>]) -> StreamFlags
+    ensures { (l : List K.Item.Content) → AreFlags K.Item.order flags l
+        → AreFlags K.Item.order result (stages_list K.means stages.now l) }
+{
+    let mut behind = flags;
+    for stage in stages {
+        behind = flags_behind::<K>(behind, stage);
+    }
+    behind
+}

@@ -1,6 +1,0 @@
-use Rattle.std.proofs.Common.{rules}
-use Rattle.terminals.proofs.first_pairs.shrink.Goals as goal
-
--- bounded: a wrong body would search to its limit
-pub returns : goal.returns
-returns g c = search rules fits 60 depth 3
