@@ -4,14 +4,14 @@
 use crate::item_count::ItemCount;
 
 /// What stands for numbers or for texts alone.
-#[derive(Clone, Copy)]
+#[derive(Clone, Copy, PartialEq)]
 pub enum OfKind<N, T> {
     OfNumbers(N),
     OfTexts(T),
 }
 
 /// What one item is mapped to.
-#[derive(Clone, Copy)]
+#[derive(Clone, Copy, PartialEq)]
 pub enum Function {
     Add(i64),
     Mul(i64),
@@ -22,7 +22,7 @@ pub enum Function {
 }
 
 /// What is asked of one item.
-#[derive(Clone, Copy)]
+#[derive(Clone, Copy, PartialEq)]
 pub enum Condition<T> {
     Less(i64),
     Greater(i64),
@@ -34,7 +34,7 @@ pub enum Condition<T> {
 }
 
 /// What becomes of two values of one key.
-#[derive(Clone, Copy)]
+#[derive(Clone, Copy, PartialEq)]
 pub enum Merge {
     First,
     Last,
@@ -44,7 +44,7 @@ pub enum Merge {
 }
 
 /// What `flatmap` puts in an item's place.
-#[derive(Clone, Copy)]
+#[derive(Clone, Copy, PartialEq)]
 pub enum Expansion {
     /// So many copies, at most 1,000.
     Repeat(u64),
@@ -53,7 +53,7 @@ pub enum Expansion {
 }
 
 /// A stage that looks at more than one item.
-#[derive(Clone, Copy)]
+#[derive(Clone, Copy, PartialEq)]
 pub enum Barrier<P, N = ItemCount> {
     Distinct,
     Limit(N),
@@ -63,7 +63,7 @@ pub enum Barrier<P, N = ItemCount> {
 }
 
 /// A stage. E is what it may put in an item's place.
-#[derive(Clone, Copy)]
+#[derive(Clone, Copy, PartialEq)]
 pub enum Stage<F, P, E, N = ItemCount> {
     Map(F),
     Filter(P),
@@ -72,7 +72,7 @@ pub enum Stage<F, P, E, N = ItemCount> {
 }
 
 /// What is made of items at once. O is what is made of one kind alone: a `NumberOnly`, or the text that joins texts.
-#[derive(Clone, Copy)]
+#[derive(Clone, Copy, PartialEq)]
 pub enum Base<O> {
     /// `count`, or `counting`.
     Count,
@@ -82,7 +82,7 @@ pub enum Base<O> {
 }
 
 /// What is made of numbers alone.
-#[derive(Clone, Copy)]
+#[derive(Clone, Copy, PartialEq)]
 pub enum NumberOnly {
     Sum,
     Max,
@@ -90,7 +90,7 @@ pub enum NumberOnly {
 }
 
 /// What is made of items inside another collector. M is a function with what is made of its values, B what is made at once.
-#[derive(Clone, Copy)]
+#[derive(Clone, Copy, PartialEq)]
 pub enum Inner<M, P, B> {
     Base(B),
     /// Of the values of the items.
@@ -100,7 +100,7 @@ pub enum Inner<M, P, B> {
 }
 
 /// What is made of some of the items. I is what is made inside.
-#[derive(Clone, Copy)]
+#[derive(Clone, Copy, PartialEq)]
 pub enum Summary<F, M, P, B, I> {
     Base(B),
     /// Of the values of the items.
@@ -112,7 +112,7 @@ pub enum Summary<F, M, P, B, I> {
 }
 
 /// What is made of all numbers alone.
-#[derive(Clone, Copy)]
+#[derive(Clone, Copy, PartialEq)]
 pub enum NumberTotal {
     Sum,
     Product,
@@ -121,14 +121,14 @@ pub enum NumberTotal {
 }
 
 /// What stands between texts, and also in front of them and behind them.
-#[derive(Clone, Copy)]
+#[derive(Clone, Copy, PartialEq)]
 pub enum Joint<T> {
     Plain(T),
     Within(T, T, T),
 }
 
 /// What is made of all the items. S is what is made of some of them, V the value in a map with its merge.
-#[derive(Clone, Copy)]
+#[derive(Clone, Copy, PartialEq)]
 pub enum Terminal<F, P, S, V, O> {
     Count,
     FindFirst,

@@ -3,7 +3,7 @@
 ghost use Rattle.std.specs.Prelude.{◌≡◌, ◌≢◌, ◌<◌, ◌≤◌, ◌+◌, ◌*◌, ◌^◌, ℕ, min, IfNone, IfSome};
 
 /// A number of items: below 2^63.
-#[derive(Clone, Copy)]
+#[derive(Clone, Copy, PartialEq)]
 pub struct ItemCount {
     pub number: u64,
     ghost fits: { number < 2 ^ 63 },

@@ -47,7 +47,7 @@ pub enum NumberSource {
 }
 
 /// What one number is mapped to. Sums and products wrap.
-#[derive(Clone, Copy)]
+#[derive(Clone, Copy, PartialEq)]
 pub enum NumberFunction {
     Add(i64),
     Mul(i64),
@@ -59,7 +59,7 @@ pub enum NumberFunction {
 }
 
 /// What one text is mapped to.
-#[derive(Clone, Copy)]
+#[derive(Clone, Copy, PartialEq)]
 pub enum TextFunction {
     /// The number of its bytes.
     Length,
@@ -68,7 +68,7 @@ pub enum TextFunction {
 }
 
 /// What is asked of one number.
-#[derive(Clone, Copy)]
+#[derive(Clone, Copy, PartialEq)]
 pub enum NumberTest {
     Less(i64),
     Greater(i64),
@@ -78,7 +78,7 @@ pub enum NumberTest {
 }
 
 /// What is asked of one text.
-#[derive(Clone, Copy)]
+#[derive(Clone, Copy, PartialEq)]
 pub enum TextTest<'a> {
     Empty,
     Starts(&'a str),
@@ -87,14 +87,14 @@ pub enum TextTest<'a> {
 }
 
 /// A value of a text, and what follows by its kind: L behind the length, I behind the text itself.
-#[derive(Clone, Copy)]
+#[derive(Clone, Copy, PartialEq)]
 pub enum Mapped<L, I> {
     Length(L),
     Itself(I),
 }
 
 /// What becomes of two texts of one key.
-#[derive(Clone, Copy)]
+#[derive(Clone, Copy, PartialEq)]
 pub enum TextMerge {
     First,
     Last,
