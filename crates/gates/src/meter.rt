@@ -217,8 +217,4 @@ impl<R: Clock + Eprint> Gate for Meter<'_, R> {
         self.stretches.fetch_add(1, Ordering::SeqCst);
         self.draw_if(false);
     }
-
-    fn may_hold(&self) -> bool {
-        false
-    }
 }

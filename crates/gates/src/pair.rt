@@ -56,9 +56,9 @@ impl<A: Gate, B: Gate> Gate for GatePair<A, B> {
         first || self.second.as_ref().is_some_and(|gate| gate.is_halted())
     }
 
-    fn may_hold(&self) -> bool {
-        let first = self.first.as_ref().is_some_and(|gate| gate.may_hold());
-        let second = self.second.as_ref().is_some_and(|gate| gate.may_hold());
+    fn heeds_leaves(&self) -> bool {
+        let first = self.first.as_ref().is_some_and(|gate| gate.heeds_leaves());
+        let second = self.second.as_ref().is_some_and(|gate| gate.heeds_leaves());
         first || second
     }
 }

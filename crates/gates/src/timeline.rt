@@ -111,10 +111,6 @@ impl<R: Clock> Gate for Timeline<'_, R> {
             slot.end.store(self.watch.nanos(), Ordering::SeqCst);
         }
     }
-
-    fn may_hold(&self) -> bool {
-        false
-    }
 }
 
 impl<R: Clock> Display for Timeline<'_, R> {

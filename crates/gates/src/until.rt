@@ -77,7 +77,7 @@ impl<E: Halt + Sync, H: Gate + Sync> Gate for Until<'_, E, H> {
         self.gate.is_halted() || self.halt.reason().is_some()
     }
 
-    fn may_hold(&self) -> bool {
-        self.gate.may_hold()
+    fn heeds_leaves(&self) -> bool {
+        self.gate.heeds_leaves()
     }
 }

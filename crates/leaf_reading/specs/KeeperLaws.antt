@@ -27,3 +27,14 @@ module _ {D N C : Type 0} where
       let P : D → Type 0 = λ z. is_need z n in
       let Q : D → Type 0 = λ z. ready z g in
       (subst Q (sym h) (subst (ready d) (sym j) r.0), subst P (sym h) (subst (is_need d) (sym i) r.1))
+
+module _ {B : Type 0} where
+  -- The same between two states of a container that is filled, whose collector stays.
+  pub fills-both : {T A : Type 0} (keeps : B → List T → A → Type 0) {c d e : B} (f g h : A) (xs ys : List T)
+      → (d ≡ c) × Offers (keeps c) f xs g → (e ≡ d) × Offers (keeps d) g ys h → (e ≡ c) × Offers (keeps c) f (xs ++ ys) h
+  fills-both keeps {c} {d} {e} f g h xs ys p q =
+      let P : B → Type 0 = λ z. Offers (keeps z) g ys h in
+      (q.0 ∙ p.0, offers-both (keeps c) f g h xs ys p.1 (subst P p.0 q.1))
+
+  pub fills-ready : (ready : B → Type 0) {c d : B} → d ≡ c → ready c → ready d
+  fills-ready ready h r = subst ready (sym h) r

@@ -1,5 +1,5 @@
 //! A leaf's items go to a sink, a stretch at a time.
-ghost use Rattle.std.specs.Prelude.{◌≡◌, ◌<◌, flat_map, length, MatchBool, OnOk, IfOk, IfNone, IfSome};
+ghost use Rattle.std.specs.Prelude.{◌≡◌, ◌<◌, flat_map, length, MatchBool, OnOk, IfOk, IfNone, IfSome, false};
 ghost use Rattle.leaf_board.specs.Statuses.{SameFrom, StaysSeat};
 ghost use Rattle.leaf_reading.specs.Stretches.{TakesOn};
 
@@ -317,5 +317,50 @@ pub fn feed_whole<P: Pause, S: Spliterator, G: Stage<In = S::Item>, K: Sink<G::O
             return Ok(());
         }
         pause.goes_on()?;
+    }
+}
+
+/// How long one thread goes on reading by itself.
+pub trait Patience {
+    /// Whether it is over, where so many items were read, and about so many are left as far as the source tells. Refuses to go on where the reading is to
+    /// end, as if memory were refused.
+    fn is_over(&self, read: u64, left: Option<u64>) -> Result<bool, NoMemory>;
+}
+
+/// Feeds the first of a source's items through a stage to a sink, until patience is over. Says whether more may make a difference.
+///
+/// It asks behind the first item, and then behind four times as many each time, up to a stretch.
+pub fn feed_front<P: Patience, S: Spliterator, G: Stage<In = S::Item>, K: Sink<G::Out>>(
+    alloc: Global,
+    patience: &P,
+    stage: &G,
+    source: &mut S,
+    sink: &mut K,
+) -> Result<bool, NoMemory>
+    requires stage { G.ready stage.now }
+    requires sink { K.ready sink.old }
+    ensures taken { OnOk result (TakesOn K.takes (flat_map (G.expand stage.now)) (S.items source.old) sink.old (S.items source.new) sink.new) }
+    ensures ready { OnOk result (K.ready sink.new) }
+    ensures end { IfOk result (λ more. more ≡ false → K.takes sink.new (flat_map (G.expand stage.now) (S.items source.new)) sink.new) }
+{
+    let mut room = Vec::new(alloc);
+    let mut read: u64 = 0;
+    let mut number: u64 = 1;
+    'reading: loop {
+        let more = if number < STRETCH {
+            feed_some(stage, source, sink, number)?
+        } else {
+            feed_stretch(stage, source, false, &mut room, sink)?
+        };
+        if !more {
+            return Ok(false);
+        }
+        read = read.saturating_add(number);
+        if patience.is_over(read, source.exact_size())? {
+            return Ok(true);
+        }
+        if number < STRETCH {
+            number *= 4;
+        }
     }
 }

@@ -29,7 +29,7 @@ impl<H: Gate> Gate for Lane<'_, H> {
         self.gate.is_halted()
     }
 
-    fn may_hold(&self) -> bool {
-        self.gate.may_hold()
+    fn heeds_leaves(&self) -> bool {
+        self.gate.heeds_leaves()
     }
 }

@@ -8,3 +8,4 @@ pub mod Listing
 pub mod SegmentLaws
 pub mod Searching
 pub mod Stack
+pub mod Fronts

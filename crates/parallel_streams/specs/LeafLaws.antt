@@ -1,18 +1,22 @@
 -- The lists of leaves, through stages.
-use Rattle.std.specs.Prelude.{◌≡◌, ◌+◌, ℕ, zero, suc, List, [], ◌∷◌, ◌++◌, Some, None, map, flat_map, drop, length, slice_index_or, slice_get, refl}
+use Rattle.std.specs.Prelude.{◌≡◌, ◌+◌, ℕ, zero, suc, List, [], ◌∷◌, ◌++◌, Option, Some, None, IfSome, map, flat_map, drop, length, slice_index_or, slice_get, refl}
 use Rattle.std.proofs.Common.{sym, ap, ◌∙◌, arith}
 use Rattle.std.proofs.lemmas.List.{length-map}
 use Rattle.std.proofs.lemmas.List.Concat.{flat_map-append}
 use Rattle.stealing_pool.specs.Spans.{joined}
 
 -- a stage's items through another are the items through both
-flat_map-fused : {A B C : Type 0} (f : A → List B) (g : B → List C) (l : List A) → flat_map (λ x. flat_map g (f x)) l ≡ flat_map g (flat_map f l)
+pub flat_map-fused : {A B C : Type 0} (f : A → List B) (g : B → List C) (l : List A) → flat_map (λ x. flat_map g (f x)) l ≡ flat_map g (flat_map f l)
 flat_map-fused f g [] = refl
 flat_map-fused f g (x ∷ l) = ap (λ m. flat_map g (f x) ++ m) (flat_map-fused f g l) ∙ sym (flat_map-append g (f x) (flat_map f l))
 
-flat_map-alone : {A : Type 0} (l : List A) → flat_map (λ x. x ∷ []) l ≡ l
+pub flat_map-alone : {A : Type 0} (l : List A) → flat_map (λ x. x ∷ []) l ≡ l
 flat_map-alone [] = refl
 flat_map-alone (x ∷ l) = ap (λ m. x ∷ m) (flat_map-alone l)
+
+pub some-weaker : {A : Type 0} (o : Option A) (P Q : A → Type 0) → ((x : A) → P x → Q x) → IfSome o P → IfSome o Q
+some-weaker None P Q f h = tt
+some-weaker (Some x) P Q f h = f x h
 
 -- each list through two stages as one
 pub map-fused : {A B C : Type 0} (f : A → List B) (g : B → List C) (lists : List (List A)) → map (flat_map (λ x. flat_map g (f x))) lists ≡ map (flat_map g) (map (flat_map f) lists)

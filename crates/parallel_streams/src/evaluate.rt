@@ -1,6 +1,7 @@
 //! The runs of a segment of a stream, one after another, each on the workers.
 ghost use Rattle.std.specs.Prelude.{◌≡◌, ◌<◌, ◌++◌, ◌∷◌, [], ℕ, List, None, true, false, IfOk};
 ghost use Rattle.barriers.specs.Needs.{no_item};
+ghost use Rattle.collectors.specs.Laws.{IsContainerOf};
 ghost use Rattle.leaf_reading.specs.Fronts.{folding};
 ghost use Rattle.stealing_pool.specs.Spans.{work_of, joined};
 ghost use Rattle.leaf_board.specs.Closing.{Outcome};
@@ -298,6 +299,38 @@ where
         None if engine.run.workers == 1 => list_over(engine, stream, progress, collector),
         None => run_last(engine, stream, progress, &Whole, collector),
     }
+}
+
+/// The container of the present segment's items.
+pub fn collect_segment<
+    R: Threads + Clock + Sync,
+    X: Plumbing,
+    C: Collector<Item = X::Item> + Sync,
+    H: Gate + Sync,
+>(
+    engine: &Engine<'_, R, H>,
+    stream: &X,
+    progress: X::Progress,
+    collector: &C,
+) -> Result<(X::Progress, C::Acc), NoMemory>
+where
+    C::Acc: Send,
+    C::Out: Send,
+    requires stream { X.ready stream.now }
+    requires collector { C.ready collector.now }
+    requires holds { X.holds stream.now progress }
+    ensures holds { IfOk result (λ r. X.holds stream.now r.0) }
+    ensures still { IfOk result (λ r. X.still stream.now r.0 ≡ X.still stream.now progress) }
+    ensures read { (from to : ℕ) → X.reads stream.now progress from to
+        → IfOk result (λ r. X.read stream.now r.0 to) }
+    ensures made { let it = collector.now in
+        let made = IsContainerOf X.Item.is_value (C.content it) (C.empty it) (C.add it) in
+        IfOk result (λ r. (items : List X.Item.Content)
+        × (X.left stream.now progress ≡ items ++ X.behind stream.now r.0) × made items r.1) }
+{
+    let (mut progress, _) = run_barriers(engine, stream, progress)?;
+    let (acc, _) = run_whole(engine, stream, &mut progress, collector)?;
+    Ok((progress, acc))
 }
 
 /// Runs the barriers over the whole source, one after another, and then all that they leave into a collector.

@@ -1,6 +1,7 @@
 //! Lazy streams that run in parallel.
 #![tactic(auto)]
 
+mod alone;
 mod barred;
 mod carry;
 mod contrary;

@@ -10,6 +10,7 @@ ghost use Rattle.leaf_board.specs.Closing.{Outcome, count_of, cut_of};
 ghost use Rattle.stealing_pool.specs.Reports.{Reports};
 ghost use Rattle.stealing_pool.specs.Spans.{joined, work_of};
 ghost use Rattle.leaf_reading.specs.Fronts.{folding};
+ghost use Rattle.leaf_reading.specs.Stretches.{TakesOn};
 ghost use Rattle.parallel_streams.specs.Cuts.{cut_at};
 ghost use Rattle.parallel_streams.specs.Ends.{ends_of};
 ghost use Rattle.parallel_streams.specs.Progress.{IsCut};
@@ -21,7 +22,7 @@ use crate::kept::Listed;
 use barriers::{Demand, Need};
 use collectors::Collector;
 use leaf_board::Handout;
-use leaf_reading::{LeafEnd, Pause, Reading};
+use leaf_reading::{LeafEnd, Patience, Pause, Reading};
 use split_tree::Tree;
 use spliterator::{NoMemory, OrderedValue};
 use stages::{Sink, Stage, StreamFlags};
@@ -141,6 +142,31 @@ pub trait Plumbing: Sync {
         ensures nothing { IfOk result (λ _. front self.now 0 ≡ []) }
         ensures reads { IfOk result (λ progress. (to : ℕ) × reads self.now progress 0 to
             × (fine self.now → most ≢ None → to ≤ first_segment)) };
+
+    /// About how many items the source has: 2^64 - 1 where it can't tell. It is no promise.
+    fn source_estimate(&self) -> u64;
+
+    /// Feeds the first items through a stage to a sink in this thread, until patience is over. Answers what stands behind them, as one segment: nothing where
+    /// they are all.
+    fn feed_front<R, H, P: Patience, G: Stage<In = Self::Item>, K: Sink<G::Out>>(
+        &self,
+        engine: &Engine<'_, R, H>,
+        patience: &P,
+        stage: &G,
+        sink: &mut K,
+    ) -> Result<Option<Self::Progress>, NoMemory>
+        requires ready { ready self.now }
+        requires unbarred { barred self.now ≡ false }
+        requires stage { G.ready stage.now }
+        requires sink { K.ready sink.old }
+        ensures ready { OnOk result (K.ready sink.new) }
+        ensures holds { IfOk result (λ rest. IfSome rest (holds self.now)) }
+        ensures last { IfOk result (λ rest. IfSome rest (λ progress. still self.now progress ≡ 0)) }
+        ensures all { let images = flat_map (G.expand stage.now) in
+            IfOk result (λ rest. IfNone rest (K.takes sink.old (images (value self.now)) sink.new)) }
+        ensures front { let images = flat_map (G.expand stage.now) in
+            IfOk result (λ rest. IfSome rest (λ progress. TakesOn K.takes images
+            (value self.now) sink.old (left self.now progress) sink.new)) };
 
     /// Whether no item comes behind the present segment.
     fn is_last(&self, progress: &Self::Progress) -> bool

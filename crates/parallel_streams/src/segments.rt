@@ -8,7 +8,8 @@ ghost use Rattle.parallel_streams.specs.Reading.{ReadsLittle};
 ghost use Rattle.parallel_streams.specs.Searches.{DecidesOrHits, IsFound};
 ghost use Rattle.parallel_streams.specs.Terminals.{any_meets};
 
-use crate::evaluate::{run_barriers, run_last, run_whole};
+use crate::alone::{begins_alone, collect_alone};
+use crate::evaluate::{collect_segment, run_barriers, run_last};
 use crate::source::FIRST;
 use crate::{Engine, Plumbing, Run};
 use barriers::{Demand, Total};
@@ -95,38 +96,6 @@ fn engine_of<'e, R, H>(engine: &Engine<'e, R, H>, extent: &Extent) -> Engine<'e,
     }
 }
 
-// The container of the present segment's items.
-fn collect_segment<
-    R: Threads + Clock + Sync,
-    X: Plumbing,
-    C: Collector<Item = X::Item> + Sync,
-    H: Gate + Sync,
->(
-    engine: &Engine<'_, R, H>,
-    stream: &X,
-    progress: X::Progress,
-    collector: &C,
-) -> Result<(X::Progress, C::Acc), NoMemory>
-where
-    C::Acc: Send,
-    C::Out: Send,
-    requires stream { X.ready stream.now }
-    requires collector { C.ready collector.now }
-    requires holds { X.holds stream.now progress }
-    ensures holds { IfOk result (λ r. X.holds stream.now r.0) }
-    ensures still { IfOk result (λ r. X.still stream.now r.0 ≡ X.still stream.now progress) }
-    ensures read { (from to : ℕ) → X.reads stream.now progress from to
-        → IfOk result (λ r. X.read stream.now r.0 to) }
-    ensures made { let it = collector.now in
-        let made = IsContainerOf X.Item.is_value (C.content it) (C.empty it) (C.add it) in
-        IfOk result (λ r. (items : List X.Item.Content)
-        × (X.left stream.now progress ≡ items ++ X.behind stream.now r.0) × made items r.1) }
-{
-    let (mut progress, _) = run_barriers(engine, stream, progress)?;
-    let (acc, _) = run_whole(engine, stream, &mut progress, collector)?;
-    Ok((progress, acc))
-}
-
 // The container of a stream's items, one segment after another. Segments grow, and end where nothing matters that is still to come: of a source that
 // splits finely, little more is read than decides.
 fn collect_segments<
@@ -186,6 +155,9 @@ where
         let made = IsContainerOf X.Item.is_value (C.content it) (C.empty it) (C.add it) in
         IfOk result (made (X.value stream.now)) }
 {
+    if begins_alone(engine, stream) {
+        return collect_alone(engine, stream, collector);
+    }
     let (_, acc) = collect_segments(engine, stream, collector)?;
     Ok(acc)
 }

@@ -11,7 +11,7 @@ use crate::{Engine, Plumbing};
 use barriers::{Demand, Need};
 use collectors::Collector;
 use leaf_board::Handout;
-use leaf_reading::{LeafEnd, Pause, Portion, Reading, feed_whole, read_leaf};
+use leaf_reading::{LeafEnd, Patience, Pause, Portion, Reading, feed_front, feed_whole, read_leaf};
 use sources::RowsSplit;
 use split_tree::{Plan, PlanError, Tree};
 use spliterator::{NoMemory, Spliterator};
@@ -51,6 +51,9 @@ pub fn rows<'a, T>(items: &'a [T]) -> Source<RowsSplit<'a, T>>
 
 /// The most items of the first segment. Those behind it grow by what was read.
 pub const FIRST: u64 = 1 << 12;
+
+// The estimate of a segment that is known to be worth threads.
+const LONG: u64 = u64::MAX;
 
 /// How far a source has come: the present segment, cut into leaves, its estimate, and the parts of the source behind it, of which the last stands
 /// next. And how many items the segments up to the present one have, where that is known.
@@ -252,6 +255,30 @@ where
             rest,
             read,
         })
+    }
+
+    fn source_estimate(&self) -> u64 {
+        self.split.estimate_size()
+    }
+
+    fn feed_front<R, H, P: Patience, G: Stage<In = S::Item>, K: Sink<G::Out>>(
+        &self,
+        engine: &Engine<'_, R, H>,
+        patience: &P,
+        stage: &G,
+        sink: &mut K,
+    ) -> Result<Option<SourceProgress<S>>, NoMemory> {
+        let mut source = self.split;
+        if !feed_front(engine.alloc, patience, stage, &mut source, sink)? {
+            return Ok(None);
+        }
+        let plan = plan_segment(engine.alloc, source, engine.run.workers, engine.run.target)?;
+        Ok(Some(SourceProgress {
+            plan,
+            size: LONG,
+            rest: Vec::new(engine.alloc),
+            read: None,
+        }))
     }
 
     fn is_last(&self, progress: &SourceProgress<S>) -> bool {

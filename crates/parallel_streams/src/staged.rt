@@ -9,7 +9,7 @@ use crate::{Engine, Plumbing};
 use barriers::{Demand, Need};
 use collectors::Collector;
 use leaf_board::Handout;
-use leaf_reading::{LeafEnd, Pause, Reading};
+use leaf_reading::{LeafEnd, Patience, Pause, Reading};
 use split_tree::Tree;
 use spliterator::NoMemory;
 use stages::{Sink, Stage, StreamFlags, Then};
@@ -121,6 +121,21 @@ where
         most: Option<u64>,
     ) -> Result<U::Progress, NoMemory> {
         self.upstream.start(alloc, workers, target, most)
+    }
+
+    fn source_estimate(&self) -> u64 {
+        self.upstream.source_estimate()
+    }
+
+    fn feed_front<R, H, P: Patience, G: Stage<In = A::Out>, K: Sink<G::Out>>(
+        &self,
+        engine: &Engine<'_, R, H>,
+        patience: &P,
+        stage: &G,
+        sink: &mut K,
+    ) -> Result<Option<U::Progress>, NoMemory> {
+        let fused = Then::new(&self.stage, stage);
+        self.upstream.feed_front(engine, patience, &fused, sink)
     }
 
     fn is_last(&self, progress: &U::Progress) -> bool {

@@ -156,7 +156,7 @@ fn end_apart<R: Threads + Sync, W: Worker>(
 }
 
 /// How many nanoseconds a worker goes on alone: about what it takes to start the others.
-const ALONE: u64 = 50_000;
+pub const ALONE: u64 = 50_000;
 
 /// The moment so many nanoseconds later, where the clock can be read.
 fn moment_after<R: Clock>(clock: &R, nanos: u64) -> Option<Instant> {

@@ -29,8 +29,8 @@ pub trait Gate {
         }
     }
 
-    /// Whether it may hold a worker until another one comes. Then all workers start at once, and else the first begins alone.
-    fn may_hold(&self) -> bool {
+    /// Whether it heeds what it is told of leaves. Where it doesn't, one worker begins alone, and few items are read with no leaf.
+    fn heeds_leaves(&self) -> bool {
         true
     }
 }
@@ -44,7 +44,7 @@ impl Gate for NoGate {
 
     fn after_leaf(&self, _worker: u32, _leaf: usize) {}
 
-    fn may_hold(&self) -> bool {
+    fn heeds_leaves(&self) -> bool {
         false
     }
 }

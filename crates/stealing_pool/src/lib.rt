@@ -14,8 +14,10 @@ mod report;
 mod run;
 mod worker;
 
+pub use crew::ALONE;
 pub use gate::{Gate, NoGate};
 pub use job::LeafJob;
 pub use job_run::{Gathered, run_job};
 pub use plan_run::run_leaves;
+pub use run::FEW_ITEMS;
 pub use report::{RunEntry, RunReport};

@@ -34,7 +34,7 @@ pub struct Closed<K, R> {
 }
 
 /// The most items of a run that begins in one thread. Of more, four workers at least would lose by it.
-const FEW_ITEMS: u64 = 1 << 18;
+pub const FEW_ITEMS: u64 = 1 << 18;
 
 /// Whether no worker but the first ran a leaf.
 fn is_one_alone<T, K>(shifts: &[Shift<T, K>]) -> bool {
@@ -78,7 +78,7 @@ where
         job,
         gate,
     };
-    let begins_alone = !gate.may_hold() && job.estimate() <= FEW_ITEMS;
+    let begins_alone = !gate.heeds_leaves() && job.estimate() <= FEW_ITEMS;
     let shifts = run_workers(rt, alloc, &crew, begins_alone, seats)?;
     let workers = if begins_alone && is_one_alone(shifts.as_slice()) {
         1

@@ -40,7 +40,7 @@ impl<R> Clock for Ticking<'_, R> {
 /// Counts the leaves of the first worker, and those of the others. Where others are to come, it holds the first at its second leaf until one has.
 #[derive(Drop)]
 struct Shares {
-    may_hold: bool,
+    heeds_leaves: bool,
     waits: bool,
     own: AtomicU64,
     others: AtomicU64,
@@ -61,8 +61,8 @@ impl Gate for Shares {
 
     fn after_leaf(&self, _worker: u32, _leaf: usize) {}
 
-    fn may_hold(&self) -> bool {
-        self.may_hold
+    fn heeds_leaves(&self) -> bool {
+        self.heeds_leaves
     }
 }
 
@@ -73,7 +73,7 @@ fn is_told<R: Threads + Sync>(
     alloc: Global,
     shape: Shape,
     step: u64,
-    may_hold: bool,
+    heeds_leaves: bool,
     told: (bool, bool),
 ) -> Result<bool, NoMemory>
     requires { (1 ≤ shape.workers) × (shape.workers ≤ 64) }
@@ -85,7 +85,7 @@ fn is_told<R: Threads + Sync>(
     };
     let (is_read, comes) = told;
     let shares = Shares {
-        may_hold,
+        heeds_leaves,
         waits: comes,
         own: AtomicU64::new(0),
         others: AtomicU64::new(0),
@@ -107,10 +107,10 @@ fn is_told<R: Threads + Sync>(
 }
 
 // A clock that stands never ends the first worker's time alone, and one of great steps ends it behind its first leaf. Of many items, under a gate that
-// may hold a worker, and for one worker or one leaf no clock is read.
+// heeds leaves, and for one worker or one leaf no clock is read.
 #[test]
 fn few_cheap_items_start_no_thread(rt: HostRuntime) -> Result<(), Fail> {
-    for (end, workers, step, may_hold, told) in [
+    for (end, workers, step, heeds_leaves, told) in [
         (1_000, 4u32, 0, false, (true, false)),
         (1_000, 4, 50_000, false, (true, true)),
         (300_000, 4, 0, false, (false, true)),
@@ -124,7 +124,7 @@ fn few_cheap_items_start_no_thread(rt: HostRuntime) -> Result<(), Fail> {
             target: 0,
             workers,
         };
-        let holds = is_told(&rt, rt.alloc(), shape, step, may_hold, told)?;
+        let holds = is_told(&rt, rt.alloc(), shape, step, heeds_leaves, told)?;
         assert!(rt; holds, "{end} items, {workers} workers, steps of {step}");
     }
     Ok(())
