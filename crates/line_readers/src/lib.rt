@@ -7,7 +7,6 @@
 //! ```
 #![tactic(auto)]
 
-mod ahead;
 mod barred;
 mod between;
 mod ending;
@@ -22,7 +21,6 @@ mod reading;
 mod steps;
 mod stream;
 
-pub use ahead::fold_ahead;
 pub use barred::BarredLines;
 pub use between::{Between, NoBarrier};
 pub use flatten::Flatten;

@@ -75,7 +75,6 @@ pub use line_readers::LineStream;
 pub use line_readers::LinesOf;
 pub use line_readers::OwnLine;
 pub use line_readers::ReadLines;
-pub use line_readers::fold_ahead;
 pub use line_readers::lines_of;
 pub use parallel_streams::Barred;
 pub use parallel_streams::Engine;

@@ -10,7 +10,7 @@ use spliterator::NoMemory;
 use stages::Nothing;
 use std::thread::Threads;
 use std::time::{Clock, Instant};
-use stealing_pool::{ALONE, FEW_ITEMS, Gate};
+use stealing_pool::{ALONE_NANOS, FEW_ITEMS, Gate};
 
 // How long one thread goes on where there may be others: until as much time has gone as other threads take to start, and what is left is likely to take as much.
 #[derive(Drop)]
@@ -31,13 +31,13 @@ impl<R: Clock, H: Gate> Patience for Alone<'_, R, H> {
             return Ok(true);
         };
         let gone = now.duration_since(begun).as_nanos();
-        if gone < u128::from(ALONE) {
+        if gone < u128::from(ALONE_NANOS) {
             return Ok(false);
         }
         let Some(left) = left else {
             return Ok(true);
         };
-        let worth = u128::from(read) * u128::from(ALONE);
+        let worth = u128::from(read) * u128::from(ALONE_NANOS);
         Ok(worth <= gone.saturating_mul(u128::from(left)))
     }
 }

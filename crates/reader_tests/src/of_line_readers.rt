@@ -7,12 +7,11 @@ use crate::slow::{ThreeBytes, fails_behind, slow};
 use collectors::{Counting, ToList};
 use derived_collectors::{Trying, UpToError};
 use line_blocks::LinesError;
-use line_readers::{LineFunction, LineStream, OwnLine, ReadLines, fold_ahead, lines_of};
+use line_readers::{LineFunction, LineStream, OwnLine, ReadLines, lines_of};
 use parallel_streams::{Engine, Run};
 use spliterator::NoMemory;
 use stages::{Nothing, Sink};
 use std::alloc::Global;
-use std::cell::Cell;
 use std::process::Abort;
 use std::sync::Wait;
 use std::thread::Threads;
@@ -561,57 +560,6 @@ fn pieces_of_lines_in_their_order(rt: HostRuntime) -> Result<(), LinesError> {
             let pieces = lines.flat_map_lines(Pieces::new(alloc, ','));
             let texts = pieces.collect_on(&engine, &ToList::<String>::new(alloc))?;
             assert!(&rt; are(&texts, wanted));
-        }
-    }
-    Ok(())
-}
-
-/// Items that an iterator gives, how many are folded, and what comes of it: the items in their order, or the first error.
-type Ahead<'a> = (&'a [Result<i64, i64>], u32, Result<&'a [i64], i64>);
-
-/// A number below zero can't be folded.
-static AHEAD: [Ahead<'static>; 9] = [
-    (&[], 0, Ok(&[])),
-    (&[Ok(1)], 1, Ok(&[1])),
-    (&[Ok(1), Ok(2), Ok(3)], 3, Ok(&[1, 2, 3])),
-    (&[Err(5), Ok(1)], 0, Err(5)),
-    (&[Ok(1), Err(5), Err(6)], 1, Err(5)),
-    (&[Ok(1), Err(5), Ok(-2)], 1, Err(5)),
-    (&[Ok(1), Ok(-2), Ok(3)], 2, Err(-2)),
-    (&[Ok(1), Ok(-2), Err(5)], 2, Err(-2)),
-    (&[Ok(1), Ok(2), Ok(-3)], 3, Err(-3)),
-];
-
-/// The items, as long as none is below zero, and how many were folded.
-fn listed<R: Threads + Wait>(
-    engine: &Engine<'_, R, NoGate>,
-    items: &[Result<i64, i64>],
-) -> (Result<Vec<i64>, Option<i64>>, u32) {
-    let number = Cell::new(0u32);
-    let given = items.iter().map(|item| item.map_err(Some));
-    let none = Vec::new(engine.alloc);
-    let list = fold_ahead(engine, given, none, |mut list: Vec<i64>, x: i64| {
-        number.set(number.get().wrapping_add(1));
-        if x < 0 {
-            return Err(Some(x));
-        }
-        list.push(x).map_err(|_| None)?;
-        Ok(list)
-    });
-    (list, number.get())
-}
-
-#[test]
-fn items_are_folded_while_the_next_is_made(rt: HostRuntime) -> Result<(), NoMemory> {
-    for workers in [1, 4] {
-        let engine = engine_of(&rt, workers);
-        for &(items, number, wanted) in &AHEAD {
-            let (list, folded) = listed(&engine, items);
-            match list {
-                Err(None) => return Err(NoMemory),
-                Err(Some(error)) => assert!(&rt; wanted == Err(error) && folded == number),
-                Ok(list) => assert!(&rt; wanted == Ok(list.as_slice()) && folded == number),
-            }
         }
     }
     Ok(())

@@ -156,7 +156,7 @@ fn end_apart<R: Threads + Sync, W: Worker>(
 }
 
 /// How many nanoseconds a worker goes on alone: about what it takes to start the others.
-pub const ALONE: u64 = 50_000;
+pub const ALONE_NANOS: u64 = 50_000;
 
 /// The moment so many nanoseconds later, where the clock can be read.
 fn moment_after<R: Clock>(clock: &R, nanos: u64) -> Option<Instant> {
@@ -213,7 +213,7 @@ pub fn run_workers<R: Threads + Clock + Sync, W: Worker>(
     if begins_alone {
         let patience = Until {
             clock: rt,
-            moment: moment_after(rt, ALONE),
+            moment: moment_after(rt, ALONE_NANOS),
         };
         return run_patiently(rt, alloc, worker, &patience, seats.into_iter());
     }

@@ -14,7 +14,7 @@ mod report;
 mod run;
 mod worker;
 
-pub use crew::ALONE;
+pub use crew::ALONE_NANOS;
 pub use gate::{Gate, NoGate};
 pub use job::LeafJob;
 pub use job_run::{Gathered, run_job};
