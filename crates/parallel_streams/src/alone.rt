@@ -42,11 +42,12 @@ impl<R: Clock, H: Gate> Patience for Alone<'_, R, H> {
     }
 }
 
-/// Whether one thread begins with a stream by itself: it is read but once, its source is short, and nobody heeds its leaves.
+/// Whether one thread begins with a stream by itself: its items are read once, its source is short, and nobody asks for leaves or heeds them.
 pub fn begins_alone<R, X: Plumbing, H: Gate>(engine: &Engine<'_, R, H>, stream: &X) -> bool
     ensures { result ≡ true → X.barred stream.now ≡ false }
 {
-    !engine.run.gate.heeds_leaves() && !stream.has_barrier() && stream.source_estimate() <= FEW_ITEMS
+    let is_free = engine.run.target == 0 && !engine.run.gate.heeds_leaves();
+    is_free && !stream.has_barrier() && stream.source_estimate() <= FEW_ITEMS
 }
 
 /// The container of a stream's items: of those that this thread reads by itself, and of those behind them, where others come.

@@ -19,5 +19,5 @@ pub use gate::{Gate, NoGate};
 pub use job::LeafJob;
 pub use job_run::{Gathered, run_job};
 pub use plan_run::run_leaves;
-pub use run::FEW_ITEMS;
 pub use report::{RunEntry, RunReport};
+pub use run::FEW_ITEMS;

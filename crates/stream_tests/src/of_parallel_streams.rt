@@ -1,5 +1,6 @@
 //! Streams by real threads: rows with 1, 2, 7 and 64 workers, at target 1 and at the default.
 
+mod alone;
 mod answers;
 mod asked_once;
 mod functions;

@@ -40,10 +40,13 @@ enum Before {
     Distinct,
 }
 
-/// A task, what stands in front of it, the numbers from 1 up to so many, the estimate of a leaf, what the task makes of them, and what is asked in turn: before
+/// A task, what stands in front of it, the numbers from 1 up to so many, the estimate of a leaf or 0 where nobody heeds leaves, what the task makes of them, and what is asked in turn: before
 /// a (r)un, a (l)eaf, a (c)ombination, a barrier's (p)ass and each list of it, the (f)inish of a container, (k)eys, a (s)ort, and (w)ithin a leaf, after each
-/// stretch of 1,024 items: also a last one that is shorter, where it is read as a block.
-static ASKED: [(Task, Before, i64, u64, i64, &str); 17] = [
+/// stretch of 1,024 items: also a last one that is shorter, where it is read as a block. Where there is no leaf, after 1, 4, 16, 64, 256 items, and so on.
+static ASKED: [(Task, Before, i64, u64, i64, &str); 20] = [
+    (Task::Sum, Before::Nothing, 1, 0, 1, "rwf"),
+    (Task::Join, Before::Nothing, 100, 0, 5_050, "rwwwwf"),
+    (Task::List, Before::Nothing, 5_000, 0, 5_000, "rwwwwwwwwwf"),
     (Task::Sum, Before::Nothing, 2, 1, 3, "rllcf"),
     (Task::Sum, Before::Nothing, 4, 1, 10, "rllllcccf"),
     (
@@ -198,7 +201,7 @@ fn is_told(
 fn a_halt_is_noticed_wherever_it_is_asked(rt: HostRuntime) -> Result<(), Fail> {
     for &(task, before, last, target, wanted, asked) in &ASKED {
         for place in 0..=asked.len() {
-            let (clock, gate) = (Ticks::of(1), Counts::new());
+            let (clock, gate) = (Ticks::of(1), Counts::heeding(target > 0));
             let at = moment(&clock, place)?;
             let until = Until {
                 halt: Deadline { clock: &clock, at },

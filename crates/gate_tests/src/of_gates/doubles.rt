@@ -14,13 +14,19 @@ use stealing_pool::Gate;
 /// Counts the runs and the leaves that begin.
 #[derive(Drop)]
 pub struct Counts {
+    heeds_leaves: bool,
     runs: AtomicU64,
     begun: AtomicU64,
 }
 
 impl Counts {
     pub fn new() -> Counts {
+        Counts::heeding(true)
+    }
+
+    pub fn heeding(heeds_leaves: bool) -> Counts {
         Counts {
+            heeds_leaves,
             runs: AtomicU64::new(0),
             begun: AtomicU64::new(0),
         }
@@ -45,6 +51,10 @@ impl Gate for Counts {
     }
 
     fn after_leaf(&self, _worker: u32, _leaf: usize) {}
+
+    fn heeds_leaves(&self) -> bool {
+        self.heeds_leaves
+    }
 }
 
 /// Each number as it is. It counts the numbers, and sets a stop at one of them.

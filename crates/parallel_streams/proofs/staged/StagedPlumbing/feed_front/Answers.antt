@@ -32,6 +32,6 @@ returns-clause-front g c =
     let apart : List g.row.U-Item-Content.Denot → List _ = λ l. flat_map h (flat_map f l) in
     IfOk-weaker c.feed_front.result (λ rest. IfSome rest (P fused)) (λ rest. IfSome rest (P apart))
     (λ rest. some-weaker rest (P fused) (P apart) (λ p on end took.
-      subst (λ l. before l end) (flat_map-fused f h (U.value s.upstream))
-      (on end (subst (λ l. after l end) (sym (flat_map-fused f h (U.left s.upstream p))) took))))
+    subst (λ l. before l end) (flat_map-fused f h (U.value s.upstream))
+    (on end (subst (λ l. after l end) (sym (flat_map-fused f h (U.left s.upstream p))) took))))
     both

@@ -1,0 +1,98 @@
+//! Few items that one thread reads by itself, by a clock of the tests' own.
+
+use collectors::{SummingLong, ToList};
+use parallel_streams::{Engine, Run, Stream, StreamError, of};
+use sources::RangeSplit;
+use std::alloc::Global;
+use std::io;
+use std::sync::atomic::{AtomicU64, Ordering};
+use std::thread::Threads;
+use std::time::{Clock, Duration};
+use stream_functions::{Even, Itself, Times};
+
+/// A runtime whose clock goes on by so many nanoseconds at each reading, and counts these.
+#[derive(Drop)]
+struct Ticking<'a, R> {
+    _rt: &'a R,
+    step: u64,
+    readings: AtomicU64,
+}
+
+impl<R: Threads> Threads for Ticking<'_, R> {}
+
+impl<R> Clock for Ticking<'_, R> {
+    fn monotonic(&self) -> io::Result<Duration> {
+        let earlier = self.readings.fetch_add(1, Ordering::SeqCst);
+        Ok(Duration::from_nanos(earlier.saturating_mul(self.step)))
+    }
+
+    fn since_1970(&self) -> io::Result<Duration> {
+        Ok(Duration::ZERO)
+    }
+}
+
+/// Numbers from 0, workers, the clock's steps, and how often it is read: before the first item, and behind 1, 4, 16, 64, 256 items, and each 1,024 more,
+/// until 50 microseconds have gone and what is left is likely to take as long. Of more than 2^18 numbers all is planned at once.
+static ALONE: [(i64, u32, u64, u64); 18] = [
+    (0, 4, 0, 1),
+    (1, 4, 0, 2),
+    (5, 4, 0, 3),
+    (6, 4, 0, 3),
+    (85, 4, 0, 5),
+    (341, 4, 0, 6),
+    (1_365, 4, 0, 6),
+    (5_000, 4, 0, 10),
+    (5_000, 1, 50_000, 1),
+    (1, 4, 50_000, 2),
+    (2, 4, 50_000, 2),
+    (100, 4, 50_000, 2),
+    (6, 4, 30_000, 3),
+    (100, 4, 30_000, 3),
+    (100, 4, 16_700, 4),
+    (5_000, 4, 10_000, 6),
+    (262_144, 4, 50_000, 2),
+    (262_145, 4, 50_000, 0),
+];
+
+/// Whether the even numbers, three times each, have their list and their sum, and each run reads the clock so often.
+fn is_right<R: Threads + Sync>(
+    rt: &R,
+    alloc: Global,
+    (end, workers, step, readings): (i64, u32, u64, u64),
+) -> Result<bool, StreamError> {
+    let ticking = Ticking {
+        _rt: rt,
+        step,
+        readings: AtomicU64::new(0),
+    };
+    let engine = Engine::new(&ticking, alloc, &Run::new(workers))?;
+    let Ok(range) = RangeSplit::range(0, end) else {
+        return Ok(false);
+    };
+    let tripled = of(range).filter(Even).map(Times(3));
+    let list = tripled.collect_on(&engine, &ToList::new(alloc))?;
+    let read = ticking.readings.swap(0, Ordering::SeqCst);
+    let sum = tripled.collect_on(&engine, &SummingLong::new(Itself))?;
+    let again = ticking.readings.load(Ordering::SeqCst);
+    let evens = end / 2 + end % 2;
+    let total = evens.wrapping_mul(evens - 1).wrapping_mul(3);
+    let is_listed = list
+        .iter()
+        .copied()
+        .eq((0..evens).map(|x| x.wrapping_mul(6)));
+    Ok(is_listed && sum == total && (read, again) == (readings, readings))
+}
+
+#[test]
+fn few_items_are_read_by_one_thread(rt: HostRuntime) -> Result<(), StreamError> {
+    for &row in &ALONE {
+        assert!(&rt;
+            is_right(&rt, rt.alloc(), row)?,
+            "{} {} {}",
+            row.0,
+            row.1,
+            row.2
+        );
+    }
+    Ok(())
+}
