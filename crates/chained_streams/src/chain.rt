@@ -18,7 +18,7 @@ ghost use Rattle.chained_streams.specs.ChainLaws.{KeepsSound-links, chain-leaves
 use barriers::{Barrier, Behind, Demand, Need};
 use collectors::{Collector, ToList};
 use leaf_board::Handout;
-use leaf_reading::{LeafEnd, Pause, Portion, Reading, feed_whole, read_leaf};
+use leaf_reading::{LeafEnd, Patience, Pause, Portion, Reading, feed_whole, read_leaf};
 use parallel_streams::{Engine, Kept, Listed, Plumbing, end_before, end_own, list_kept};
 use sources::SliceSplit;
 use split_tree::Tree;
@@ -321,6 +321,33 @@ where
             listed: None,
             longest_list: 0,
         })
+    }
+
+    fn source_estimate(&self) -> u64 {
+        self.upstream.source_estimate()
+    }
+
+    // Without a barrier the chain has no link.
+    fn feed_front<R, H, P: Patience, G: Stage<In = U::Item>, K: Sink<G::Out>>(
+        &self,
+        engine: &Engine<'_, R, H>,
+        patience: &P,
+        stage: &G,
+        sink: &mut K,
+    ) -> Result<Option<ChainProgress<U::Progress, B::State, U::Item>>, NoMemory> {
+        match self.upstream.feed_front(engine, patience, stage, sink)? {
+            None => Ok(None),
+            Some(before) => {
+                let states = fresh_states(engine.alloc, &self.links)?;
+                Ok(Some(ChainProgress {
+                    before,
+                    states,
+                    run: 0,
+                    listed: None,
+                    longest_list: 0,
+                }))
+            }
+        }
     }
 
     fn is_last(&self, progress: &ChainProgress<U::Progress, B::State, U::Item>) -> bool {
