@@ -8,6 +8,7 @@ use std::io;
 use std::sync::atomic::{AtomicU64, Ordering};
 use std::thread::Threads;
 use std::time::{Clock, Duration};
+use stealing_pool::NoGate;
 use stream_functions::{Even, Itself, Times};
 
 /// A runtime whose clock goes on by so many nanoseconds at each reading, and counts these.
@@ -31,41 +32,48 @@ impl<R> Clock for Ticking<'_, R> {
     }
 }
 
-/// Numbers from 0, workers, the clock's steps, and how often it is read: before the first item, and behind 1, 4, 16, 64, 256 items, and each 1,024 more,
-/// until 50 microseconds have gone and what is left is likely to take as long. Of more than 2^18 numbers all is planned at once.
-static ALONE: [(i64, u32, u64, u64); 18] = [
-    (0, 4, 0, 1),
-    (1, 4, 0, 2),
-    (5, 4, 0, 3),
-    (6, 4, 0, 3),
-    (85, 4, 0, 5),
-    (341, 4, 0, 6),
-    (1_365, 4, 0, 6),
-    (5_000, 4, 0, 10),
-    (5_000, 1, 50_000, 1),
-    (1, 4, 50_000, 2),
-    (2, 4, 50_000, 2),
-    (100, 4, 50_000, 2),
-    (6, 4, 30_000, 3),
-    (100, 4, 30_000, 3),
-    (100, 4, 16_700, 4),
-    (5_000, 4, 10_000, 6),
-    (262_144, 4, 50_000, 2),
-    (262_145, 4, 50_000, 0),
+/// Numbers from 0, workers, a target, the clock's steps, and how often it is read: before the first item, and behind 1, 4, 16, 64, 256 items, and each 1,024 more,
+/// until 50 microseconds have gone and what is left is likely to take as long. More than 2^18 numbers are planned at once, and so are those of a target, whose
+/// first worker reads it before a leaf, and behind the first, the third and the fifth of six.
+static ALONE: [(i64, u32, u64, u64, u64); 19] = [
+    (0, 4, 0, 0, 1),
+    (1, 4, 0, 0, 2),
+    (5, 4, 0, 0, 3),
+    (6, 4, 0, 0, 3),
+    (85, 4, 0, 0, 5),
+    (341, 4, 0, 0, 6),
+    (1_365, 4, 0, 0, 6),
+    (5_000, 4, 0, 0, 10),
+    (5_000, 1, 0, 50_000, 1),
+    (1, 4, 0, 50_000, 2),
+    (2, 4, 0, 50_000, 2),
+    (100, 4, 0, 50_000, 2),
+    (6, 4, 0, 30_000, 3),
+    (100, 4, 0, 30_000, 3),
+    (100, 4, 0, 16_700, 4),
+    (5_000, 4, 0, 10_000, 6),
+    (262_144, 4, 0, 50_000, 2),
+    (262_145, 4, 0, 50_000, 0),
+    (6, 4, 1, 0, 4),
 ];
 
 /// Whether the even numbers, three times each, have their list and their sum, and each run reads the clock so often.
 fn is_right<R: Threads + Sync>(
     rt: &R,
     alloc: Global,
-    (end, workers, step, readings): (i64, u32, u64, u64),
+    (end, workers, target, step, readings): (i64, u32, u64, u64, u64),
 ) -> Result<bool, StreamError> {
     let ticking = Ticking {
         _rt: rt,
         step,
         readings: AtomicU64::new(0),
     };
-    let engine = Engine::new(&ticking, alloc, &Run::new(workers))?;
+    let run = Run {
+        workers,
+        target,
+        gate: &NoGate,
+    };
+    let engine = Engine::new(&ticking, alloc, &run)?;
     let Ok(range) = RangeSplit::range(0, end) else {
         return Ok(false);
     };
