@@ -327,7 +327,6 @@ where
         self.upstream.source_estimate()
     }
 
-    // Without a barrier the chain has no link.
     fn feed_front<R, H, P: Patience, G: Stage<In = U::Item>, K: Sink<G::Out>>(
         &self,
         engine: &Engine<'_, R, H>,
@@ -335,6 +334,10 @@ where
         stage: &G,
         sink: &mut K,
     ) -> Result<Option<ChainProgress<U::Progress, B::State, U::Item>>, NoMemory> {
+        if !self.links.is_empty() {
+            let whole = self.start(engine.alloc, engine.run.workers, engine.run.target, None)?;
+            return Ok(Some(whole));
+        }
         match self.upstream.feed_front(engine, patience, stage, sink)? {
             None => Ok(None),
             Some(before) => {

@@ -61,7 +61,6 @@ where
     C::Acc: Send,
     C::Out: Send,
     requires stream { X.ready stream.now }
-    requires unbarred { X.barred stream.now ≡ false }
     requires collector { C.ready collector.now }
     ensures made { let it = collector.now in
         let made = IsContainerOf X.Item.is_value (C.content it) (C.empty it) (C.add it) in

@@ -10,7 +10,7 @@ use crate::{Engine, Plumbing};
 use barriers::{Barrier, Behind, Demand, Need};
 use collectors::{Collector, ToList};
 use leaf_board::Handout;
-use leaf_reading::{LeafEnd, Patience, Pause, Reading, feed_whole, read_leaf};
+use leaf_reading::{LeafEnd, Pause, Reading, feed_whole, read_leaf};
 use sources::SliceSplit;
 use split_tree::Tree;
 use spliterator::{NoMemory, OrderedValue};
@@ -177,16 +177,6 @@ where
 
     fn source_estimate(&self) -> u64 {
         self.upstream.source_estimate()
-    }
-
-    fn feed_front<R, H, P: Patience, G: Stage<In = U::Item>, K: Sink<G::Out>>(
-        &self,
-        _engine: &Engine<'_, R, H>,
-        _patience: &P,
-        _stage: &G,
-        _sink: &mut K,
-    ) -> Result<Option<Self::Progress>, NoMemory> {
-        unreachable!()
     }
 
     fn is_last(&self, progress: &BarredProgress<U::Progress, B::State, U::Item>) -> bool {

@@ -138,6 +138,7 @@ pub trait Plumbing: Sync {
         ensures holds { IfOk result (holds self.now) }
         ensures left { IfOk result (λ progress. left self.now progress ≡ value self.now) }
         ensures planned { most ≡ None → IfOk result (planned self.now workers target) }
+        ensures whole { most ≡ None → IfOk result (λ progress. still self.now progress ≡ 0) }
         ensures entries { IfOk result (λ progress. told_so_far self.now workers target progress []) }
         ensures nothing { IfOk result (λ _. front self.now 0 ≡ []) }
         ensures reads { IfOk result (λ progress. (to : ℕ) × reads self.now progress 0 to
@@ -147,26 +148,29 @@ pub trait Plumbing: Sync {
     fn source_estimate(&self) -> u64;
 
     /// Feeds the first items through a stage to a sink in this thread, until patience is over. Answers what stands behind them, as one segment: nothing where
-    /// they are all.
+    /// they are all. A stream with a barrier feeds none.
     fn feed_front<R, H, P: Patience, G: Stage<In = Self::Item>, K: Sink<G::Out>>(
         &self,
         engine: &Engine<'_, R, H>,
-        patience: &P,
-        stage: &G,
-        sink: &mut K,
+        _patience: &P,
+        _stage: &G,
+        _sink: &mut K,
     ) -> Result<Option<Self::Progress>, NoMemory>
         requires ready { ready self.now }
-        requires unbarred { barred self.now ≡ false }
-        requires stage { G.ready stage.now }
-        requires sink { K.ready sink.old }
-        ensures ready { OnOk result (K.ready sink.new) }
+        requires stage { G.ready _stage.now }
+        requires sink { K.ready _sink.old }
+        ensures ready { OnOk result (K.ready _sink.new) }
         ensures holds { IfOk result (λ rest. IfSome rest (holds self.now)) }
         ensures last { IfOk result (λ rest. IfSome rest (λ progress. still self.now progress ≡ 0)) }
-        ensures all { let images = flat_map (G.expand stage.now) in
-            IfOk result (λ rest. IfNone rest (K.takes sink.old (images (value self.now)) sink.new)) }
-        ensures front { let images = flat_map (G.expand stage.now) in
+        ensures all { let images = flat_map (G.expand _stage.now) in
+            IfOk result (λ rest. IfNone rest (K.takes _sink.old (images (value self.now)) _sink.new)) }
+        ensures front { let images = flat_map (G.expand _stage.now) in
             IfOk result (λ rest. IfSome rest (λ progress. TakesOn K.takes images
-            (value self.now) sink.old (left self.now progress) sink.new)) };
+            (value self.now) _sink.old (left self.now progress) _sink.new)) }
+    {
+        let whole = self.start(engine.alloc, engine.run.workers, engine.run.target, None)?;
+        Ok(Some(whole))
+    }
 
     /// Whether no item comes behind the present segment.
     fn is_last(&self, progress: &Self::Progress) -> bool

@@ -112,6 +112,7 @@ fn first_of<S: Spliterator>(source: S, most: Option<u64>, rest: &mut Vec<S>) -> 
     ensures items { let behind = items_behind S.items in
         IfOk result (λ front. S.items front ++ behind rest.new.items ≡ S.items source ++ behind rest.old.items) }
     ensures whole { most ≡ None → IfOk result (λ front. front ≡ source) }
+    ensures alone { most ≡ None → rest.new ≡ rest.old }
     ensures fine { let fine = SplitsFinely S.estimate S.told S.split_gives in
         fine source → Each fine rest.old.items → IfOk result (λ front. fine front × Each fine rest.new.items) }
     ensures short { let fine = SplitsFinely S.estimate S.told S.split_gives in

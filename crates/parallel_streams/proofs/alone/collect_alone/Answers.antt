@@ -13,7 +13,7 @@ returns-in_default g c =
     let made : g.row.C.Denot → List g.row.X-Item-Content.Denot → g.row.C-Acc.Denot → Type 0 = λ it. IsContainerOf is_value (C.content it) (C.empty it) (C.add it) in
     let alone : List g.row.X-Item-Content.Denot → List g.row.X-Item-Content.Denot = flat_map (λ x. x ∷ []) in
     let all = g.X.Plumbing.value c.args.stream.now in
-    let new = c.feed_front.new.sink in
+    let new = c.feed_front.new._sink in
     let took = took-all (record { collector = c.args.collector; acc = c.in_ok-acc.acc }) new
     (λ f xs e. (e.collector ≡ f.collector) × Offers (made f.collector.now) f.acc xs e.acc) alone all c.in_ok-rest.rest c.in_default.is c.in_ok-rest.ensures.all in
     record { made = subst (λ l. made c.args.collector.now l new.acc) (flat_map-alone all) (took.1 [] (All-nil is_value, c.in_ok-acc.ensures)) }
@@ -27,7 +27,7 @@ returns g c =
     let made : g.row.C.Denot → List g.row.X-Item-Content.Denot → g.row.C-Acc.Denot → Type 0 = λ it. IsContainerOf is_value (C.content it) (C.empty it) (C.add it) in
     let alone : List g.row.X-Item-Content.Denot → List g.row.X-Item-Content.Denot = flat_map (λ x. x ∷ []) in
     let all = X.value stream in
-    let new = c.feed_front.new.sink in
+    let new = c.feed_front.new._sink in
     let end = c.combine_containers.new.left in
     let next = c.in_ok-after.ensures.made in
     let left : X.left stream c.in-Some.progress ≡ next.0 = next.1 ∙ ap (λ l. next.0 ++ l) (c.if-not-is_last.ensures.last refl) ∙ append-nil next.0 in

@@ -7,7 +7,7 @@ pub returns-clause-all : goal.returns-clause-all
 returns-clause-all g c =
     let s = c.args.self.now in
     let items = g.U.Plumbing.value s.upstream in
-    let P : List _ → Type 0 = λ l. IfOk c.feed_front.result (λ rest. IfNone rest (g.K.Sink.takes c.args.sink.now l c.feed_front.new.sink)) in
+    let P : List _ → Type 0 = λ l. IfOk c.feed_front.result (λ rest. IfNone rest (g.K.Sink.takes c.args.sink.now l c.feed_front.new._sink)) in
     let Q : g.row.A.Denot → Type 0 = λ a. P (flat_map (λ x. flat_map (g.G.Stage.expand c.new-fused.result.second.now) (g.A.Stage.expand a x)) items) in
     let R : g.row.G.Denot → Type 0 = λ b. P (flat_map (λ x. flat_map (g.G.Stage.expand b) (g.A.Stage.expand s.stage x)) items) in
     let first = subst Q (ap (λ r. r.now) c.new-fused.ensures.first) c.feed_front.ensures.all in
@@ -21,7 +21,7 @@ returns-clause-front g c =
     let f = g.A.Stage.expand s.stage in
     let h = g.G.Stage.expand c.args.stage.now in
     let before : List _ → g.row.K.Denot → Type 0 = g.K.Sink.takes c.args.sink.now in
-    let after : List _ → g.row.K.Denot → Type 0 = g.K.Sink.takes c.feed_front.new.sink in
+    let after : List _ → g.row.K.Denot → Type 0 = g.K.Sink.takes c.feed_front.new._sink in
     let P : (List g.row.U-Item-Content.Denot → List _) → g.row.U-Progress.Denot → Type 0 = λ images p. (end : g.row.K.Denot) → after (images (U.left s.upstream p)) end → before (images (U.value s.upstream)) end in
     let T : (List g.row.U-Item-Content.Denot → List _) → Type 0 = λ images. IfOk c.feed_front.result (λ rest. IfSome rest (P images)) in
     let Q : g.row.A.Denot → Type 0 = λ a. T (flat_map (λ x. flat_map (g.G.Stage.expand c.new-fused.result.second.now) (g.A.Stage.expand a x))) in
