@@ -11,8 +11,9 @@ use Rattle.pipeline_language.specs.declared.grammar.Line.TheVariants as body_lin
 use Rattle.pipeline_language.specs.declared.grammar.Merge.TheVariants as merges
 use Rattle.pipeline_language.specs.declared.grammar.NumberOnly.TheVariants as only
 use Rattle.pipeline_language.specs.declared.grammar.NumberTotal.TheVariants as totals
+use Rattle.pipeline_language.specs.declared.grammar.Part.TheVariants.{Front, Rest}
 use Rattle.pipeline_language.specs.declared.grammar.Summary.TheVariants as summaries
-use Rattle.pipeline_language.specs.Syntax.{Add, AllMatch, AnyMatch, Barrier, Count, Distinct, Divisible, DropWhile, Empty, Equals, Expansion, Filter, FindFirst, FlatMap, Function, Greater, GroupBy, Itself, Length, Less, Limit, Longer, Map, Merge, Mod, Mul, Negate, NoneMatch, OfNumbers, OfTexts, Own, Partition, Repeat, Skip, Starts, TakeWhile, Teeing, ToList, ToMap, ToMapStrict, Words, Condition, Base, Inner, Summary, Origin, Range, Closed, Numbers, Lines, BodyLine, function_slots, condition_slots, base_slots, inner_slots, summary_slots, merge_slots, expansion_slots, terminal_slots, body_slots, origin_slots, has_new_names, summary_known, terminal_known, body_known, function_names, function_of, condition_names, condition_of, base_names, base_of, inner_names, inner_of, summary_names, summary_of, merge_names, merge_of, expansion_names, expansion_of, body_names, new_terminal_names, terminal_names, body_of, origin_names, origin_words, collecting_names}
+use Rattle.pipeline_language.specs.Syntax.{Add, AllMatch, AnyMatch, Barrier, Count, Counted, Distinct, Divisible, Empty, Equals, Expansion, Filter, FindFirst, FlatMap, Function, Greater, GroupBy, Itself, Length, Less, Longer, Map, Merge, Mod, Mul, Negate, NoneMatch, OfNumbers, OfTexts, Own, Partition, Repeat, Starts, Teeing, ToList, ToMap, ToMapStrict, While, Words, Condition, Base, Inner, Summary, Origin, Range, Closed, Numbers, Lines, BodyLine, function_slots, condition_slots, base_slots, inner_slots, summary_slots, merge_slots, expansion_slots, terminal_slots, body_slots, origin_slots, has_new_names, summary_known, terminal_known, body_known, function_names, function_of, condition_names, condition_of, base_names, base_of, inner_names, inner_of, summary_names, summary_of, merge_names, merge_of, expansion_names, expansion_of, body_names, new_terminal_names, terminal_names, body_of, origin_names, origin_words, collecting_names}
 use Rattle.file_words.specs.WordReading.{next_number, next_natural}
 use Rattle.pipeline_language.proofs.PhraseLemmas.{Anything, AtEnd, Phrase, Knows, Leads, nothing_phrase, both_phrase, no_leads, name_lead, either_lead, made_of_leads, named_knows, either_knows, by_name_phrase, at_end, number_phrase, natural_phrase, all_numbers_phrase, word_phrase, joint_phrase}
 
@@ -189,10 +190,10 @@ body_leads version = name_lead (codes "map") (λ f. body_lines.Stage (Map f)) (�
     (name_lead (codes "filter") (λ p. body_lines.Stage (Filter p)) (λ _. refl) (λ _ _. refl) (at_end condition_phrase)
     (name_lead (codes "flatmap") (λ e. body_lines.Stage (FlatMap e)) (λ _. refl) (λ _ _. refl) (at_end expansion_phrase)
     (name_lead (codes "distinct") (λ _. body_lines.Stage (Barrier Distinct)) (λ _. refl) (λ _ _. refl) (at_end nothing_phrase)
-    (name_lead (codes "limit") (λ n. body_lines.Stage (Barrier (Limit n))) (λ _. refl) (λ _ _. refl) (at_end natural_here)
-    (name_lead (codes "skip") (λ n. body_lines.Stage (Barrier (Skip n))) (λ _. refl) (λ _ _. refl) (at_end natural_here)
-    (name_lead (codes "takewhile") (λ p. body_lines.Stage (Barrier (TakeWhile p))) (λ _. refl) (λ _ _. refl) (at_end condition_phrase)
-    (name_lead (codes "dropwhile") (λ p. body_lines.Stage (Barrier (DropWhile p))) (λ _. refl) (λ _ _. refl) (at_end condition_phrase)
+    (name_lead (codes "limit") (λ n. body_lines.Stage (Barrier (Counted Front n))) (λ _. refl) (λ _ _. refl) (at_end natural_here)
+    (name_lead (codes "skip") (λ n. body_lines.Stage (Barrier (Counted Rest n))) (λ _. refl) (λ _ _. refl) (at_end natural_here)
+    (name_lead (codes "takewhile") (λ p. body_lines.Stage (Barrier (While Front p))) (λ _. refl) (λ _ _. refl) (at_end condition_phrase)
+    (name_lead (codes "dropwhile") (λ p. body_lines.Stage (Barrier (While Rest p))) (λ _. refl) (λ _ _. refl) (at_end condition_phrase)
     (made_of_leads body_lines.Terminal (λ _. refl) (λ _ k. k) (terminal_leads version)))))))))
 
 strict_knows : (version : Version) (key value : Function) → has_new_names version ≡ true → Knows AtEnd (by_name (body_names version)) (body_slots (body_lines.Terminal (ToMapStrict key value))) (body_lines.Terminal (ToMapStrict key value))
@@ -202,7 +203,8 @@ strict_knows Two key value known = named_knows (body_leads Two) (_, refl, refl, 
 
 body_knows : (version : Version) (x : BodyLine) → body_known version x ≡ true → Knows AtEnd (by_name (body_names version)) (body_slots x) x
 unfolding terminal_names collecting_names
-body_knows version (body_lines.Stage (Barrier Distinct)) known = named_knows (body_leads version) (_, refl, refl, refl)
+body_knows version (body_lines.Stage (Barrier (Counted Front n))) known = named_knows (body_leads version) (_, refl, refl, refl)
+body_knows version (body_lines.Stage (Barrier (While Front p))) known = named_knows (body_leads version) (_, refl, refl, refl)
 body_knows version (body_lines.Terminal (Own (OfNumbers totals.Sum))) known = named_knows (body_leads version) (_, refl, refl, refl)
 body_knows version (body_lines.Terminal (ToMap key (value, merge))) known = named_knows (body_leads version) (_, refl, refl, refl)
 body_knows version (body_lines.Terminal (ToMapStrict key value)) known = strict_knows version key value known

@@ -1,6 +1,6 @@
 -- Things of a line with what they are made of replaced.
 use Rattle.pipeline_language.specs.declared.grammar.Barrier as barriers
-pub use Rattle.pipeline_language.specs.declared.grammar.Barrier.TheVariants.{Distinct, Limit, Skip, TakeWhile, DropWhile}
+pub use Rattle.pipeline_language.specs.declared.grammar.Barrier.TheVariants.{Distinct, Counted, While}
 pub use Rattle.pipeline_language.specs.declared.grammar.{Base.Base, Condition.Condition, Expansion.Expansion, Function.Function, Inner.Inner, Joint.Joint, Line.Line, Merge.Merge, NumberOnly.NumberOnly, NumberTotal.NumberTotal, OfKind.OfKind, Stage.Stage, Summary.Summary, Terminal.Terminal}
 use Rattle.pipeline_language.specs.declared.grammar.Base.TheVariants as bases
 pub use Rattle.pipeline_language.specs.declared.grammar.Condition.TheVariants.{Less, Greater, Equals, Divisible, Empty, Starts, Longer}
@@ -34,10 +34,8 @@ joint text (Within between front back) = Within (text between) (text front) (tex
 module _ {P Q N M : Type 0} (test : P → Q) (count : N → M) where
   abbrev pub barrier : barriers.Barrier P N → barriers.Barrier Q M
   barrier Distinct = Distinct
-  barrier (Limit n) = Limit (count n)
-  barrier (Skip n) = Skip (count n)
-  barrier (TakeWhile p) = TakeWhile (test p)
-  barrier (DropWhile p) = DropWhile (test p)
+  barrier (Counted part n) = Counted part (count n)
+  barrier (While part p) = While part (test p)
 
 abbrev pub stage : {F G P Q E D N M : Type 0} → (F → G) → (P → Q) → (E → D) → (N → M) → Stage F P E N → Stage G Q D M
 stage function test expansion count (Map f) = Map (function f)

@@ -4,7 +4,7 @@ use Rattle.file_words.specs.declared.fault.FileError.TheVariants.{RangeTooLong, 
 use Rattle.pipeline_language.specs.{declared.version.Version.Version, Steps.steps_up}
 use Rattle.pipeline_language.specs.declared.version.Version.TheVariants.{One, Two}
 use Rattle.pipeline_language.specs.Form.{Slot, Name, EitherName, Number, AnyWord, number, natural, divisor, Forms, all_known}
-pub use Rattle.pipeline_language.specs.Grammar.{Distinct, Limit, Skip, TakeWhile, DropWhile, Less, Greater, Equals, Divisible, Empty, Starts, Longer, Expansion, Repeat, Words, Function, Add, Mul, Negate, Mod, Length, Itself, Plain, Within, Merge, OfNumbers, OfTexts, Map, Filter, FlatMap, Barrier, Count, FindFirst, ToList, AllMatch, AnyMatch, NoneMatch, GroupBy, Partition, ToMap, ToMapStrict, Teeing, Own}
+pub use Rattle.pipeline_language.specs.Grammar.{Distinct, Counted, While, Less, Greater, Equals, Divisible, Empty, Starts, Longer, Expansion, Repeat, Words, Function, Add, Mul, Negate, Mod, Length, Itself, Plain, Within, Merge, OfNumbers, OfTexts, Map, Filter, FlatMap, Barrier, Count, FindFirst, ToList, AllMatch, AnyMatch, NoneMatch, GroupBy, Partition, ToMap, ToMapStrict, Teeing, Own}
 use Rattle.file_words.specs.declared.fault.FileError.{FileError}
 use Rattle.file_words.specs.Words.{lowest, highest}
 use Rattle.file_words.specs.WordReading.{◌>>=◌, Left, is_done, Reader, next_word, next_number, next_natural, all_numbers}
@@ -16,6 +16,7 @@ use Rattle.pipeline_language.specs.declared.grammar.Line.TheVariants as body_lin
 use Rattle.pipeline_language.specs.declared.grammar.Merge.TheVariants as merges
 use Rattle.pipeline_language.specs.declared.grammar.NumberOnly.TheVariants as only
 use Rattle.pipeline_language.specs.declared.grammar.NumberTotal.TheVariants as totals
+use Rattle.pipeline_language.specs.declared.grammar.Part.TheVariants.{Front, Rest}
 use Rattle.pipeline_language.specs.declared.grammar.Summary.TheVariants as summaries
 use Rattle.pipeline_language.specs.declared.grammar.Barrier as barrier_types
 
@@ -113,10 +114,10 @@ stage_slots (Map f) = Name (codes "map") ∷ function_slots f
 stage_slots (Filter p) = Name (codes "filter") ∷ condition_slots p
 stage_slots (FlatMap expansion) = Name (codes "flatmap") ∷ expansion_slots expansion
 stage_slots (Barrier Distinct) = Name (codes "distinct") ∷ []
-stage_slots (Barrier (Limit n)) = Name (codes "limit") ∷ natural n ∷ []
-stage_slots (Barrier (Skip n)) = Name (codes "skip") ∷ natural n ∷ []
-stage_slots (Barrier (TakeWhile p)) = Name (codes "takewhile") ∷ condition_slots p
-stage_slots (Barrier (DropWhile p)) = Name (codes "dropwhile") ∷ condition_slots p
+stage_slots (Barrier (Counted Front n)) = Name (codes "limit") ∷ natural n ∷ []
+stage_slots (Barrier (Counted Rest n)) = Name (codes "skip") ∷ natural n ∷ []
+stage_slots (Barrier (While Front p)) = Name (codes "takewhile") ∷ condition_slots p
+stage_slots (Barrier (While Rest p)) = Name (codes "dropwhile") ∷ condition_slots p
 
 -- what follows the name `joining` of a terminal: the text between, or also a front and a back
 abbrev pub joint_slots : Joint → List Slot
@@ -246,8 +247,7 @@ expansion_takes kind (Repeat n) = true
 expansion_takes kind Words = is_text kind
 
 abbrev pub barrier_takes : Kind → Barring → Bool
-barrier_takes kind (TakeWhile p) = condition_takes kind p
-barrier_takes kind (DropWhile p) = condition_takes kind p
+barrier_takes kind (While part p) = condition_takes kind p
 barrier_takes kind barrier = true
 
 abbrev pub stage_takes : Kind → Stage → Bool
@@ -456,10 +456,10 @@ body_names version = named (codes "map") (λ f. body_lines.Stage (Map f)) functi
     (named (codes "filter") (λ p. body_lines.Stage (Filter p)) condition_of
     (named (codes "flatmap") (λ e. body_lines.Stage (FlatMap e)) expansion_of
     (named (codes "distinct") (λ _. body_lines.Stage (Barrier Distinct)) nothing
-    (named (codes "limit") (λ n. body_lines.Stage (Barrier (Limit n))) any_natural
-    (named (codes "skip") (λ n. body_lines.Stage (Barrier (Skip n))) any_natural
-    (named (codes "takewhile") (λ p. body_lines.Stage (Barrier (TakeWhile p))) condition_of
-    (named (codes "dropwhile") (λ p. body_lines.Stage (Barrier (DropWhile p))) condition_of
+    (named (codes "limit") (λ n. body_lines.Stage (Barrier (Counted Front n))) any_natural
+    (named (codes "skip") (λ n. body_lines.Stage (Barrier (Counted Rest n))) any_natural
+    (named (codes "takewhile") (λ p. body_lines.Stage (Barrier (While Front p))) condition_of
+    (named (codes "dropwhile") (λ p. body_lines.Stage (Barrier (While Rest p))) condition_of
     (made_of body_lines.Terminal (terminal_names version)))))))))
 
 unfoldable pub body_of : Version → Reader BodyLine

@@ -52,14 +52,21 @@ pub enum Expansion {
     Words,
 }
 
+/// Which part stays of items that are cut in two: those before the cut, or those behind it.
+#[derive(Clone, Copy, PartialEq)]
+pub enum Part {
+    Front,
+    Rest,
+}
+
 /// A stage that looks at more than one item.
 #[derive(Clone, Copy, PartialEq)]
 pub enum Barrier<P, N = ItemCount> {
     Distinct,
-    Limit(N),
-    Skip(N),
-    TakeWhile(P),
-    DropWhile(P),
+    /// A cut behind so many items: `limit` keeps the front, `skip` the rest.
+    Counted(Part, N),
+    /// A cut before the first item that fails: `takewhile` keeps the front, `dropwhile` the rest.
+    While(Part, P),
 }
 
 /// A stage. E is what it may put in an item's place.

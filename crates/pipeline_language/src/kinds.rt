@@ -71,10 +71,8 @@ fn number_barrier(stage: Barrier<AnyCondition<'_>>) -> Option<Barrier<NumberTest
 {
     match stage {
         Barrier::Distinct => Some(Barrier::Distinct),
-        Barrier::Limit(count) => Some(Barrier::Limit(count)),
-        Barrier::Skip(count) => Some(Barrier::Skip(count)),
-        Barrier::TakeWhile(test) => Some(Barrier::TakeWhile(number_test(test)?)),
-        Barrier::DropWhile(test) => Some(Barrier::DropWhile(number_test(test)?)),
+        Barrier::Counted(part, count) => Some(Barrier::Counted(part, count)),
+        Barrier::While(part, test) => Some(Barrier::While(part, number_test(test)?)),
     }
 }
 
@@ -100,10 +98,8 @@ fn text_barrier(stage: Barrier<AnyCondition<'_>>) -> Option<Barrier<TextTest<'_>
 {
     match stage {
         Barrier::Distinct => Some(Barrier::Distinct),
-        Barrier::Limit(count) => Some(Barrier::Limit(count)),
-        Barrier::Skip(count) => Some(Barrier::Skip(count)),
-        Barrier::TakeWhile(test) => Some(Barrier::TakeWhile(text_test(test)?)),
-        Barrier::DropWhile(test) => Some(Barrier::DropWhile(text_test(test)?)),
+        Barrier::Counted(part, count) => Some(Barrier::Counted(part, count)),
+        Barrier::While(part, test) => Some(Barrier::While(part, text_test(test)?)),
     }
 }
 

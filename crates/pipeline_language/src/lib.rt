@@ -13,7 +13,7 @@ mod version;
 
 pub use grammar::{
     Barrier, Base, Condition, Expansion, Function, Inner, Joint, Line, Merge, NumberOnly,
-    NumberTotal, OfKind, Stage, Summary, Terminal,
+    NumberTotal, OfKind, Part, Stage, Summary, Terminal,
 };
 pub use item_count::ItemCount;
 pub use kinds::{MOST_STAGES, NumberLine, TextLine};

@@ -9,7 +9,7 @@ ghost use Rattle.file_words.specs.Words.{words_of};
 
 use crate::grammar::{
     Barrier, Base, Condition, Expansion, Function, Inner, Joint, Line, Merge, NumberOnly,
-    NumberTotal, OfKind, Stage, Summary, Terminal,
+    NumberTotal, OfKind, Part, Stage, Summary, Terminal,
 };
 use crate::item_count::ItemCount;
 use crate::version::Version;
@@ -180,10 +180,10 @@ fn read_body<'a>(version: Version, words: &mut Words<'a>) -> Result<BodyLine<'a>
         "filter" => Stage::Filter(read_condition(words)?),
         "flatmap" => Stage::FlatMap(read_expansion(words)?),
         "distinct" => Stage::Barrier(Barrier::Distinct),
-        "limit" => Stage::Barrier(Barrier::Limit(read_count(words)?)),
-        "skip" => Stage::Barrier(Barrier::Skip(read_count(words)?)),
-        "takewhile" => Stage::Barrier(Barrier::TakeWhile(read_condition(words)?)),
-        "dropwhile" => Stage::Barrier(Barrier::DropWhile(read_condition(words)?)),
+        "limit" => Stage::Barrier(Barrier::Counted(Part::Front, read_count(words)?)),
+        "skip" => Stage::Barrier(Barrier::Counted(Part::Rest, read_count(words)?)),
+        "takewhile" => Stage::Barrier(Barrier::While(Part::Front, read_condition(words)?)),
+        "dropwhile" => Stage::Barrier(Barrier::While(Part::Rest, read_condition(words)?)),
         _ => return Ok(Line::Terminal(read_terminal(version, name, words)?)),
     }))
 }
