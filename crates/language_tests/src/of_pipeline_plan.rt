@@ -2,7 +2,7 @@
 
 ghost use Rattle.std.specs.Prelude.{◌<◌, ◌^◌};
 
-use pipeline_language::{Barrier, ItemCount, NumberFunction, NumberStage, NumberTest};
+use pipeline_language::{Barrier, ItemCount, NumberFunction, NumberStage, NumberTest, Part};
 use pipeline_plan::{NumberRange, Numbers, Plan, known_sum, optimised};
 use sources::RangeSplit;
 use std::process::Abort;
@@ -27,13 +27,13 @@ fn repeat(copies: u64) -> NumberStage {
 fn limit(number: u64) -> NumberStage
     requires { number < 2 ^ 63 }
 {
-    NumberStage::Barrier(Barrier::Limit(ItemCount { number }))
+    NumberStage::Barrier(Barrier::Counted(Part::Front, ItemCount { number }))
 }
 
 fn skip(number: u64) -> NumberStage
     requires { number < 2 ^ 63 }
 {
-    NumberStage::Barrier(Barrier::Skip(ItemCount { number }))
+    NumberStage::Barrier(Barrier::Counted(Part::Rest, ItemCount { number }))
 }
 
 /// How many stages are left, and the sum that is known.

@@ -1,13 +1,14 @@
 -- What the language's stages make of a list, once for all kinds of items.
-use Rattle.std.specs.Prelude.{ℕ, ℤ, Bool, true, false, List, map, filter, flat_map, take, drop, take_while, bytes_eq}
-use Rattle.std.{proofs.Math.ListN.replicate, specs.Ordering.int_eq}
+use Rattle.std.specs.Prelude.{◌≡◌, ℕ, ℤ, Bool, true, false, List, map, filter, flat_map, take, drop, bytes_eq}
+use Rattle.std.{proofs.Math.ListN.replicate, specs.List.prefix_len, specs.Ordering.int_eq}
+use Rattle.std.proofs.lemmas.List.{take-map, drop-map}
 use Rattle.spliterator.specs.Values.{DecidesEquality, int_eq-decides, bytes_eq-decides}
 use Rattle.stages.specs.Distinct.{distinct}
-use Rattle.barriers.specs.Whiles.{drop_while}
 use Rattle.file_words.specs.Words.{words_of}
 use Rattle.pipeline_language.specs.declared.grammar.Barrier as barriers
-use Rattle.pipeline_language.specs.declared.grammar.Barrier.TheVariants.{Distinct, Limit, Skip, TakeWhile, DropWhile}
-use Rattle.pipeline_language.specs.declared.{grammar.Expansion.Expansion, grammar.Stage.Stage, item_count.ItemCount.ItemCount, pipeline.NumberFunction.NumberFunction, pipeline.NumberTest.NumberTest, pipeline.TextTest.TextTest}
+use Rattle.pipeline_language.specs.declared.grammar.Barrier.TheVariants.{Distinct, Counted, While}
+use Rattle.pipeline_language.specs.declared.grammar.Part.TheVariants.{Front, Rest}
+use Rattle.pipeline_language.specs.declared.{grammar.Expansion.Expansion, grammar.Part.Part, grammar.Stage.Stage, item_count.ItemCount.ItemCount, pipeline.NumberFunction.NumberFunction, pipeline.NumberTest.NumberTest, pipeline.TextTest.TextTest}
 use Rattle.pipeline_language.specs.declared.grammar.Expansion.TheVariants.{Repeat, Words}
 use Rattle.pipeline_language.specs.declared.grammar.Stage.TheVariants.{Map, Filter, FlatMap, Barrier}
 use Rattle.pipeline_language.specs.Content.{NumberStage, TextStage}
@@ -22,14 +23,21 @@ pub record Meaning (F P E X : Type 0) : Type 0 where
   pub expand : E → X → List X
   pub decides : DecidesEquality same
 
+-- what stays of items that are cut behind so many
+abbrev pub part_list : {X : Type 0} → Part → ℕ → List X → List X
+part_list Front n items = take n items
+part_list Rest n items = drop n items
+
+pub part-map : {X Y : Type 0} (e : X → Y) (part : Part) (n : ℕ) (l : List X) → part_list part n (map e l) ≡ map e (part_list part n l)
+part-map e Front n l = take-map e n l
+part-map e Rest n l = drop-map e n l
+
 -- The stages are those of java.util.stream.Stream: map, filter, flatMap, distinct, limit, skip, takeWhile, dropWhile.
 -- A barrier goes by when items are the same, and by what its test holds of.
 abbrev pub barrier_list : {P X : Type 0} → (X → X → Bool) → (P → X → Bool) → barriers.Barrier P ItemCount → List X → List X
 barrier_list same holds Distinct items = distinct same items
-barrier_list same holds (Limit n) items = take n.number items
-barrier_list same holds (Skip n) items = drop n.number items
-barrier_list same holds (TakeWhile p) items = take_while (holds p) items
-barrier_list same holds (DropWhile p) items = drop_while (holds p) items
+barrier_list same holds (Counted part n) items = part_list part n.number items
+barrier_list same holds (While part p) items = part_list part (prefix_len (holds p) items) items
 
 abbrev pub StageOf : Type 0 → Type 0 → Type 0 → Type 0
 StageOf F P E = Stage F P E ItemCount

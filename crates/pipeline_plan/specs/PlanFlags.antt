@@ -6,7 +6,8 @@ use Rattle.stages.specs.{FlagLaws.KeepsSound-flat_map, declared.flags.Operation.
 use Rattle.stages.specs.declared.flags.Operation.TheVariants as operations
 use Rattle.barriers.specs.BarrierFlags.{KeepsSound-distinct, KeepsSound-drop, KeepsSound-drop_while, KeepsSound-take, KeepsSound-take_while}
 use Rattle.pipeline_meaning.specs.Stages.{Meaning, StageOf, stage_list}
-use Rattle.pipeline_language.specs.declared.grammar.Barrier.TheVariants.{Distinct, Limit, Skip, TakeWhile, DropWhile}
+use Rattle.pipeline_language.specs.declared.grammar.Barrier.TheVariants.{Distinct, Counted, While}
+use Rattle.pipeline_language.specs.declared.grammar.Part.TheVariants.{Front, Rest}
 use Rattle.pipeline_language.specs.declared.grammar.Stage.TheVariants.{Map, Filter, FlatMap, Barrier}
 
 -- what the flags tell holds of the items, of whose number nothing is told
@@ -18,10 +19,10 @@ operation_of (Map f) = operations.Map
 operation_of (Filter p) = operations.Filter
 operation_of (FlatMap e) = operations.FlatMap
 operation_of (Barrier Distinct) = operations.Distinct
-operation_of (Barrier (Limit n)) = operations.Limit
-operation_of (Barrier (Skip n)) = operations.Skip
-operation_of (Barrier (TakeWhile p)) = operations.TakeWhile
-operation_of (Barrier (DropWhile p)) = operations.DropWhile
+operation_of (Barrier (Counted Front n)) = operations.Limit
+operation_of (Barrier (Counted Rest n)) = operations.Skip
+operation_of (Barrier (While Front p)) = operations.TakeWhile
+operation_of (Barrier (While Rest p)) = operations.DropWhile
 
 -- a number that is told is left out
 pub without-size : {X : Type 0} (order : X → X → Ordering) (flags : StreamFlags) (size : Option ℕ) (l : List X) → IsSound order flags size l → AreFlags order (after flags operations.Filter) l
@@ -44,7 +45,7 @@ keeps-flags m order (Filter p) flags l sound = record {
 }
 keeps-flags m order (FlatMap e) flags l sound = KeepsSound-flat_map order order (m.expand e) flags None l sound
 keeps-flags m order (Barrier Distinct) flags l sound = KeepsSound-distinct m.same m.decides order flags None l sound
-keeps-flags m order (Barrier (Limit n)) flags l sound = KeepsSound-take order n.number flags None l sound
-keeps-flags m order (Barrier (Skip n)) flags l sound = KeepsSound-drop order n.number flags None l sound
-keeps-flags m order (Barrier (TakeWhile p)) flags l sound = KeepsSound-take_while order (m.holds p) flags None l sound
-keeps-flags m order (Barrier (DropWhile p)) flags l sound = KeepsSound-drop_while order (m.holds p) flags None l sound
+keeps-flags m order (Barrier (Counted Front n)) flags l sound = KeepsSound-take order n.number flags None l sound
+keeps-flags m order (Barrier (Counted Rest n)) flags l sound = KeepsSound-drop order n.number flags None l sound
+keeps-flags m order (Barrier (While Front p)) flags l sound = KeepsSound-take_while order (m.holds p) flags None l sound
+keeps-flags m order (Barrier (While Rest p)) flags l sound = KeepsSound-drop_while order (m.holds p) flags None l sound

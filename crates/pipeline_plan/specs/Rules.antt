@@ -1,14 +1,16 @@
 -- When stages are simpler than others.
-use Rattle.pipeline_meaning.specs.Stages.{Meaning, StageOf, stages_list, stage_list}
-use Rattle.pipeline_language.specs.declared.grammar.Barrier.TheVariants.{Limit, Skip, Distinct, TakeWhile, DropWhile}
+use Rattle.pipeline_meaning.specs.Stages.{Meaning, StageOf, part_list, part-map, stages_list, stage_list}
+use Rattle.pipeline_language.specs.declared.grammar.Barrier.TheVariants.{Counted, Distinct, While}
+use Rattle.pipeline_language.specs.declared.grammar.Part.{Part}
+use Rattle.pipeline_language.specs.declared.grammar.Part.TheVariants.{Front, Rest}
 use Rattle.pipeline_language.specs.declared.grammar.Stage.TheVariants.{FlatMap, Barrier, Map, Filter}
 use Rattle.pipeline_plan.specs.declared.neighbours.Instead.{Instead}
 use Rattle.pipeline_plan.specs.declared.neighbours.Instead.TheVariants.{Both, One}
 use Rattle.std.specs.List.{list_any, prefix_len, AllPairs, slice_index_or}
-use Rattle.std.proofs.Common.{ap, ap₂, sym, ◌∙◌, arith, true≢false, append_assoc, append-nil, subst, ◌≡◌, ◌<◌, ◌+◌, ℕ, List, [], ◌∷◌, ◌++◌, ◌≤◌, ◌*◌, ◌||◌, zero, suc, Bool, true, false, cond, flat_map, take, drop, take_while, refl, ◌≢◌, length, remove}
+use Rattle.std.proofs.Common.{ap, ap₂, sym, ◌∙◌, arith, true≢false, append_assoc, append-nil, subst, ◌≡◌, ◌<◌, ◌+◌, ℕ, List, [], ◌∷◌, ◌++◌, ◌≤◌, ◌*◌, ◌||◌, zero, suc, Bool, true, false, cond, flat_map, take, drop, refl, ◌≢◌, length, remove}
 use Rattle.std.proofs.{Math.ListN.replicate, lemmas.List.Folds.list_any-append}
-use Rattle.std.proofs.lemmas.List.{drop_all, drop-map, take-map, drop-drop, take-append-drop, take_more}
-use Rattle.barriers.specs.{Whiles.drop_while, Rewrites.distinct-stays}
+use Rattle.std.proofs.lemmas.List.{drop_all, drop-drop, take-append-drop, take_more}
+use Rattle.barriers.specs.Rewrites.{distinct-stays}
 use Rattle.spliterator.specs.Values.{DecidesEquality}
 use Rattle.stages.specs.Distinct.{distinct, distinct_after}
 use Rattle.stages.specs.Tests.{either, same-itself}
@@ -17,8 +19,7 @@ use Rattle.pipeline_meaning.proofs.NumberFronts.{copies-map, copies-filter}
 -- Limits and skips are to come first, and copies to be made last.
 abbrev pub weight : {F P E : Type 0} → StageOf F P E → ℕ
 weight (FlatMap e) = 1
-weight (Barrier (Limit n)) = 3
-weight (Barrier (Skip n)) = 3
+weight (Barrier (Counted part n)) = 3
 weight stage = 2
 
 -- More stages weigh more, and so do the same ones with a heavy one further back.
@@ -60,7 +61,7 @@ prefix-past p (suc k) x l is = ap (λ b. cond b (1 + prefix_len p (replicate k x
 times-next : (k n : ℕ) → k * suc n ≡ k + k * n
 times-next k n = omega arith
 
-pub copies-take : {X : Type 0} (k n : ℕ) (l : List X) → take (k * n) (flat_map (replicate k) l) ≡ flat_map (replicate k) (take n l)
+copies-take : {X : Type 0} (k n : ℕ) (l : List X) → take (k * n) (flat_map (replicate k) l) ≡ flat_map (replicate k) (take n l)
 copies-take k zero l = let e : k * zero ≡ 0 = omega arith in ap (λ i. take i (flat_map (replicate k) l)) e
 copies-take k (suc n) [] = none (k * suc n)
   where
@@ -69,12 +70,16 @@ copies-take k (suc n) [] = none (k * suc n)
     none (suc i) = refl
 copies-take k (suc n) (x ∷ l) = ap (λ i. take i (replicate k x ++ flat_map (replicate k) l)) (times-next k n) ∙ take-past k (k * n) x (flat_map (replicate k) l) ∙ ap (λ r. replicate k x ++ r) (copies-take k n l)
 
-pub copies-drop : {X : Type 0} (k n : ℕ) (l : List X) → drop (k * n) (flat_map (replicate k) l) ≡ flat_map (replicate k) (drop n l)
+copies-drop : {X : Type 0} (k n : ℕ) (l : List X) → drop (k * n) (flat_map (replicate k) l) ≡ flat_map (replicate k) (drop n l)
 copies-drop k zero l = let e : k * zero ≡ 0 = omega arith in ap (λ i. drop i (flat_map (replicate k) l)) e
 copies-drop k (suc n) [] = drop_all (k * suc n) [] (omega arith)
 copies-drop k (suc n) (x ∷ l) = ap (λ i. drop i (replicate k x ++ flat_map (replicate k) l)) (times-next k n) ∙ drop-past k (k * n) x (flat_map (replicate k) l) ∙ copies-drop k n l
 
-pub copies-prefix : {X : Type 0} (p : X → Bool) (k : ℕ) (l : List X) → prefix_len p (flat_map (replicate k) l) ≡ k * prefix_len p l
+copies-part : {X : Type 0} (part : Part) (k n : ℕ) (l : List X) → part_list part (k * n) (flat_map (replicate k) l) ≡ flat_map (replicate k) (part_list part n l)
+copies-part Front k n l = copies-take k n l
+copies-part Rest k n l = copies-drop k n l
+
+copies-prefix : {X : Type 0} (p : X → Bool) (k : ℕ) (l : List X) → prefix_len p (flat_map (replicate k) l) ≡ k * prefix_len p l
 copies-prefix p k [] = omega arith
 copies-prefix p k (x ∷ l) = first k (p x) refl (λ i. copies-prefix p i l)
   where
@@ -84,12 +89,6 @@ copies-prefix p k (x ∷ l) = first k (p x) refl (λ i. copies-prefix p i l)
         ∙ (let e : suc (prefix_len p l) ≡ 1 + prefix_len p l = omega arith in ap (λ i. k * i) e)
     first zero false is rest = rest zero ∙ (let e : zero * prefix_len p l ≡ zero * 0 = omega arith in e)
     first (suc k) false is rest = ap (λ b. cond b (1 + prefix_len p (replicate k x ++ flat_map (replicate (suc k)) l)) 0) is ∙ (let e : 0 ≡ suc k * 0 = omega arith in e)
-
-pub copies-take_while : {X : Type 0} (p : X → Bool) (k : ℕ) (l : List X) → take_while p (flat_map (replicate k) l) ≡ flat_map (replicate k) (take_while p l)
-copies-take_while p k l = ap (λ i. take i (flat_map (replicate k) l)) (copies-prefix p k l) ∙ copies-take k (prefix_len p l) l
-
-pub copies-drop_while : {X : Type 0} (p : X → Bool) (k : ℕ) (l : List X) → drop_while p (flat_map (replicate k) l) ≡ flat_map (replicate k) (drop_while p l)
-copies-drop_while p k l = ap (λ i. drop i (flat_map (replicate k) l)) (copies-prefix p k l) ∙ copies-drop k (prefix_len p l) l
 
 -- ---- distinct members of copies
 
@@ -140,15 +139,13 @@ module _ {X : Type 0} (same : X → X → Bool) (decides : DecidesEquality same)
 -- Neighbours that are put more simply.
 
 abbrev pub is_section_behind_map : {F P E : Type 0} → StageOf F P E → StageOf F P E → Bool
-is_section_behind_map (Map f) (Barrier (Limit n)) = true
-is_section_behind_map (Map f) (Barrier (Skip n)) = true
+is_section_behind_map (Map f) (Barrier (Counted part n)) = true
 is_section_behind_map _ _ = false
 
 abbrev pub passes_copies : {F P E : Type 0} → StageOf F P E → Bool
 passes_copies (Map f) = true
 passes_copies (Filter p) = true
-passes_copies (Barrier (TakeWhile p)) = true
-passes_copies (Barrier (DropWhile p)) = true
+passes_copies (Barrier (While part p)) = true
 passes_copies _ = false
 
 abbrev pub is_distinct : {F P E : Type 0} → StageOf F P E → Bool
@@ -157,8 +154,7 @@ is_distinct _ = false
 
 -- a limit or a skip of whole copies, and of the items that they are copies of
 abbrev pub IsSectionOver : {F P E : Type 0} → ℕ → StageOf F P E → StageOf F P E → Type 0
-IsSectionOver k (Barrier (Limit n)) (Barrier (Limit i)) = n.number ≡ k * i.number
-IsSectionOver k (Barrier (Skip n)) (Barrier (Skip i)) = n.number ≡ k * i.number
+IsSectionOver k (Barrier (Counted part n)) (Barrier (Counted other i)) = (part ≡ other) × (n.number ≡ k * i.number)
 IsSectionOver k _ _ = ⊥
 
 -- a stage that makes so many copies of each item
@@ -168,14 +164,12 @@ pub record Repeats {F P E X : Type 0} (m : Meaning F P E X) (stage : StageOf F P
 
 module _ {F P E X : Type 0} (m : Meaning F P E X) where
   pub section-first : (first second : StageOf F P E) → is_section_behind_map first second ≡ true → Betters m (second ∷ first ∷ []) (first ∷ second ∷ [])
-  section-first (Map f) (Barrier (Limit n)) is = record { same = λ l. sym (take-map (m.image f) n.number l); less = λ rest. omega arith }
-  section-first (Map f) (Barrier (Skip n)) is = record { same = λ l. sym (drop-map (m.image f) n.number l); less = λ rest. omega arith }
+  section-first (Map f) (Barrier (Counted part n)) is = record { same = λ l. sym (part-map (m.image f) part n.number l); less = λ rest. omega arith }
   section-first _ _ is = absurd (true≢false (sym is))
 
   pub weighs : (s : StageOf F P E) → 1 ≤ weight s
   weighs (FlatMap e) = omega arith
-  weighs (Barrier (Limit n)) = omega arith
-  weighs (Barrier (Skip n)) = omega arith
+  weighs (Barrier (Counted part n)) = omega arith
   weighs _ = omega arith
 
   -- nothing is made of copies of no number
@@ -193,15 +187,14 @@ module _ {F P E X : Type 0} (m : Meaning F P E X) where
   passing : (s : StageOf F P E) (k : ℕ) (l : List X) → passes_copies s ≡ true → stage_list m s (flat_map (replicate k) l) ≡ flat_map (replicate k) (stage_list m s l)
   passing (Map f) k l is = copies-map (m.image f) k l
   passing (Filter p) k l is = copies-filter (m.holds p) k l
-  passing (Barrier (TakeWhile p)) k l is = copies-take_while (m.holds p) k l
-  passing (Barrier (DropWhile p)) k l is = copies-drop_while (m.holds p) k l
+  passing (Barrier (While part p)) k l is =
+      ap (λ i. part_list part i (flat_map (replicate k) l)) (copies-prefix (m.holds p) k l) ∙ copies-part part k (prefix_len (m.holds p) l) l
   passing _ k l is = absurd (true≢false (sym is))
 
   passing-weighs : (s : StageOf F P E) → passes_copies s ≡ true → weight s ≡ 2
   passing-weighs (Map f) is = refl
   passing-weighs (Filter p) is = refl
-  passing-weighs (Barrier (TakeWhile p)) is = refl
-  passing-weighs (Barrier (DropWhile p)) is = refl
+  passing-weighs (Barrier (While part p)) is = refl
   passing-weighs _ is = absurd (true≢false (sym is))
 
   pub copies-last : (first second : StageOf F P E) (k : ℕ) → Repeats m first k → passes_copies second ≡ true → Betters m (second ∷ first ∷ []) (first ∷ second ∷ [])
@@ -221,14 +214,11 @@ module _ {F P E X : Type 0} (m : Meaning F P E X) where
   copies-dropped first _ k repeats some is = absurd (true≢false (sym is))
 
   pub section-before-copies : (first second part : StageOf F P E) (k : ℕ) → Repeats m first k → IsSectionOver k second part → Betters m (part ∷ first ∷ []) (first ∷ second ∷ [])
-  section-before-copies first (Barrier (Limit n)) (Barrier (Limit i)) k repeats is =
+  section-before-copies first (Barrier (Counted part n)) (Barrier (Counted other i)) k repeats is =
       let light = repeats.light in record {
-        same = λ l. repeats.copies (take i.number l) ∙ sym (copies-take k i.number l) ∙ ap (λ j. take j (flat_map (replicate k) l)) (sym is) ∙ ap (take n.number) (sym (repeats.copies l));
-        less = λ rest. omega (arith, light);
-      }
-  section-before-copies first (Barrier (Skip n)) (Barrier (Skip i)) k repeats is =
-      let light = repeats.light in record {
-        same = λ l. repeats.copies (drop i.number l) ∙ sym (copies-drop k i.number l) ∙ ap (λ j. drop j (flat_map (replicate k) l)) (sym is) ∙ ap (drop n.number) (sym (repeats.copies l));
+        same = λ l.
+            repeats.copies (part_list other i.number l) ∙ sym (copies-part other k i.number l)
+            ∙ ap₂ (λ p j. part_list p j (flat_map (replicate k) l)) (sym is.0) (sym is.1) ∙ ap (part_list part n.number) (sym (repeats.copies l));
         less = λ rest. omega (arith, light);
       }
   section-before-copies first _ _ k repeats is = absurd is

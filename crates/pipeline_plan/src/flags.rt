@@ -5,7 +5,7 @@ ghost use Rattle.pipeline_meaning.specs.Stages.{stage_list, stages_list};
 ghost use Rattle.pipeline_plan.specs.PlanFlags.{AreFlags, operation_of};
 
 use crate::{Kind, StageOf};
-use pipeline_language::{Barrier, Stage};
+use pipeline_language::{Barrier, Part, Stage};
 use spliterator::Spliterator;
 use stages::{Operation, StreamFlags};
 
@@ -25,10 +25,10 @@ fn operation_of<F, P, E>(stage: &Stage<F, P, E>) -> Operation
         Stage::Filter(_) => Operation::Filter,
         Stage::FlatMap(_) => Operation::FlatMap,
         Stage::Barrier(Barrier::Distinct) => Operation::Distinct,
-        Stage::Barrier(Barrier::Limit(_)) => Operation::Limit,
-        Stage::Barrier(Barrier::Skip(_)) => Operation::Skip,
-        Stage::Barrier(Barrier::TakeWhile(_)) => Operation::TakeWhile,
-        Stage::Barrier(Barrier::DropWhile(_)) => Operation::DropWhile,
+        Stage::Barrier(Barrier::Counted(Part::Front, _)) => Operation::Limit,
+        Stage::Barrier(Barrier::Counted(Part::Rest, _)) => Operation::Skip,
+        Stage::Barrier(Barrier::While(Part::Front, _)) => Operation::TakeWhile,
+        Stage::Barrier(Barrier::While(Part::Rest, _)) => Operation::DropWhile,
     }
 }
 

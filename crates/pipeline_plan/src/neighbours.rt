@@ -5,7 +5,7 @@ ghost use Rattle.pipeline_meaning.specs.Stages.{stage_list};
 ghost use Rattle.pipeline_plan.specs.Rules.{Betters, IsBetter, instead_list, IsSectionOver, Repeats, is_distinct, is_section_behind_map, passes_copies};
 
 use crate::{Kind, StageOf};
-use pipeline_language::{Barrier, Stage};
+use pipeline_language::{Barrier, Part, Stage};
 
 /// What stands in the place of two neighbours.
 pub enum Instead<G> {
@@ -17,8 +17,7 @@ pub enum Instead<G> {
 fn is_section_behind_map<F, P, E>(first: &Stage<F, P, E>, second: &Stage<F, P, E>) -> bool
     ensures { result ≡ is_section_behind_map first.now second.now }
 {
-    let is_section = matches!(second, Stage::Barrier(Barrier::Limit(_) | Barrier::Skip(_)));
-    matches!(first, Stage::Map(_)) && is_section
+    matches!(first, Stage::Map(_)) && matches!(second, Stage::Barrier(Barrier::Counted(_, _)))
 }
 
 /// A limit or a skip behind a map stands as well before it.
@@ -73,8 +72,7 @@ fn passes_copies<F, P, E>(stage: &Stage<F, P, E>) -> bool
     ensures { result ≡ passes_copies stage.now }
 {
     match stage {
-        Stage::Map(_) | Stage::Filter(_) => true,
-        Stage::Barrier(Barrier::TakeWhile(_)) | Stage::Barrier(Barrier::DropWhile(_)) => true,
+        Stage::Map(_) | Stage::Filter(_) | Stage::Barrier(Barrier::While(_, _)) => true,
         _ => false,
     }
 }
@@ -126,13 +124,9 @@ fn section_over<F: Copy, P: Copy, E: Copy>(
     ensures { IfSome result (IsSectionOver copies stage.now) }
 {
     match *stage {
-        Stage::Barrier(Barrier::Limit(most)) => {
-            let part = most.part(copies)?;
-            Some(Stage::Barrier(Barrier::Limit(part)))
-        }
-        Stage::Barrier(Barrier::Skip(number)) => {
-            let part = number.part(copies)?;
-            Some(Stage::Barrier(Barrier::Skip(part)))
+        Stage::Barrier(Barrier::Counted(part, number)) => {
+            let number = number.part(copies)?;
+            Some(Stage::Barrier(Barrier::Counted(part, number)))
         }
         _ => None,
     }
@@ -163,17 +157,19 @@ fn section_before_copies<K: Kind>(
 fn sections_merged<K: Kind>(first: &StageOf<K>, second: &StageOf<K>) -> Option<Instead<StageOf<K>>>
     ensures { IfSome result (IsBetter K.means first.now second.now) }
 {
-    match (*first, *second) {
-        (Stage::Barrier(Barrier::Limit(most)), Stage::Barrier(Barrier::Limit(other))) => {
-            let least = most.least(other);
-            Some(Instead::One(Stage::Barrier(Barrier::Limit(least))))
+    let (Stage::Barrier(first), Stage::Barrier(second)) = (*first, *second) else {
+        return None;
+    };
+    let barrier = match (first, second) {
+        (Barrier::Counted(Part::Front, most), Barrier::Counted(Part::Front, other)) => {
+            Barrier::Counted(Part::Front, most.least(other))
         }
-        (Stage::Barrier(Barrier::Skip(number)), Stage::Barrier(Barrier::Skip(other))) => {
-            let sum = number.plus(other)?;
-            Some(Instead::One(Stage::Barrier(Barrier::Skip(sum))))
+        (Barrier::Counted(Part::Rest, number), Barrier::Counted(Part::Rest, other)) => {
+            Barrier::Counted(Part::Rest, number.plus(other)?)
         }
-        _ => None,
-    }
+        _ => return None,
+    };
+    Some(Instead::One(Stage::Barrier(barrier)))
 }
 
 /// The two as the first rule that fits puts them.

@@ -8,7 +8,7 @@ ghost use Rattle.pipeline_plan.specs.PlanFlags.{AreFlags};
 use crate::flags::flags_through;
 use crate::neighbours::{better_neighbours, is_distinct, makes_none, put};
 use crate::{Kind, StageOf};
-use pipeline_language::{Barrier, ItemCount, Stage};
+use pipeline_language::{Barrier, ItemCount, Part, Stage};
 use stages::StreamFlags;
 
 /// Where the items of a plan come from.
@@ -59,7 +59,7 @@ fn absorbing<K: Kind, S: PlanSource<K>>(source: &S, stages: &[StageOf<K>]) -> Op
     }
     if makes_none::<K>(&stages[0]) {
         let none = ItemCount { number: 0 };
-        return source.absorbed(&Stage::Barrier(Barrier::Limit(none)));
+        return source.absorbed(&Stage::Barrier(Barrier::Counted(Part::Front, none)));
     }
     source.absorbed(&stages[0])
 }

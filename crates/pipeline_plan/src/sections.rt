@@ -1,8 +1,11 @@
 //! Counted sources of plans: they absorb limits and skips.
 
+ghost use Rattle.std.specs.Prelude.{◌≡◌};
+ghost use Rattle.pipeline_meaning.specs.Stages.{part_list};
+
 use crate::flags::flags_of;
 use crate::{Kind, PlanSource, StageOf};
-use pipeline_language::{Barrier, Stage};
+use pipeline_language::{Barrier, ItemCount, Part, Stage};
 use sources::Placed;
 use spliterator::Spliterator;
 use stages::StreamFlags;
@@ -13,6 +16,16 @@ pub struct Section<S> {
     pub source: S,
 }
 
+/// The source of the part that a limit or a skip leaves.
+pub(crate) fn part_of<S: Placed>(source: S, part: Part, number: ItemCount) -> S
+    ensures { S.items result ≡ part_list part number.number (S.items source) }
+{
+    match part {
+        Part::Front => source.first(number.get()),
+        Part::Rest => source.after_first(number.get()),
+    }
+}
+
 impl<K, S> PlanSource<K> for Section<S>
 where
     K: Kind,
@@ -21,13 +34,9 @@ where
     ghost items = { λ section. S.items section.source };
 
     fn absorbed(&self, stage: &StageOf<K>) -> Option<Section<S>> {
-        match stage {
-            Stage::Barrier(Barrier::Limit(most)) => {
-                let source = self.source.first(most.get());
-                Some(Section { source })
-            }
-            Stage::Barrier(Barrier::Skip(number)) => {
-                let source = self.source.after_first(number.get());
+        match *stage {
+            Stage::Barrier(Barrier::Counted(part, number)) => {
+                let source = part_of(self.source, part, number);
                 Some(Section { source })
             }
             _ => None,

@@ -1,18 +1,17 @@
 -- A list whose members stand for those of another: what is made of it stands for what is made of the other.
 use Rattle.std.{specs.Option.option_map_or, specs.Fmt.signed_decimal, proofs.Math.ListN.replicate}
 use Rattle.std.specs.List.{list_any, prefix_len}
-use Rattle.std.proofs.Common.{sym, ap, ap₂, ◌∙◌, map-id, ◌≡◌, ℤ, ℕ, zero, suc, ◌+◌, ◌||◌, Bool, true, false, cond, not, List, [], ◌∷◌, ◌++◌, map, filter, flat_map, fold, take, drop, take_while, codes, refl, if◌then◌else◌, Option, Some, pos, length, Ok, ◌+ℤ◌}
-use Rattle.std.proofs.lemmas.List.{map-append, take-map, drop-map, length-map}
+use Rattle.std.proofs.Common.{sym, ap, ap₂, ◌∙◌, map-id, ◌≡◌, ℤ, ℕ, zero, suc, ◌+◌, ◌||◌, Bool, true, false, cond, not, List, [], ◌∷◌, ◌++◌, map, filter, flat_map, fold, codes, refl, if◌then◌else◌, Option, Some, pos, length, Ok, ◌+ℤ◌}
+use Rattle.std.proofs.lemmas.List.{map-append, length-map}
 use Rattle.stages.specs.Distinct.{distinct, distinct_after}
-use Rattle.barriers.specs.Whiles.{drop_while}
 use Rattle.collectors.specs.Grouping.{of_key, pairs}
 use Rattle.collectors.specs.NestedLaws.{fails}
 use Rattle.collectors.specs.Reductions.{first, reduced}
 use Rattle.parallel_streams.specs.Terminals.{all_meet, any_meets}
-use Rattle.pipeline_language.specs.declared.grammar.Barrier.TheVariants.{Distinct, Limit, Skip, TakeWhile, DropWhile}
+use Rattle.pipeline_language.specs.declared.grammar.Barrier.TheVariants.{Distinct, Counted, While}
 use Rattle.pipeline_language.specs.{declared.item_count.ItemCount.ItemCount, Syntax.Condition, declared.grammar.Merge.Merge, declared.pipeline.NumberFunction.NumberFunction, declared.pipeline.NumberTest.NumberTest, declared.grammar.Function.TheVariants.Length, declared.pipeline.TextFunction.TextFunction, declared.pipeline.TextMerge.TextMerge, declared.pipeline.TextTest.TextTest, declared.pipeline.Pipeline.Pipeline, declared.pipeline.TextEnd.TextEnd}
 use Rattle.pipeline_language.specs.Content.{count_content, NumberBase, NumberInner, NumberStage, NumberSummary, NumberTerminal, number_base, number_function, number_inner, number_stage, number_summary, number_terminal, number_test, TextBase, TextInner, TextStage, TextSummary, TextTerminal, TextValue, text_base, text_function, text_inner, text_merge, text_stage, text_summary, text_terminal, text_test, text_value, program_of, text_end}
-use Rattle.pipeline_meaning.specs.Stages.{barrier_list}
+use Rattle.pipeline_meaning.specs.Stages.{barrier_list, part_list, part-map}
 use Rattle.value_text.specs.Texts.{entry_text, groups_text, itself, list_text, merged_text, optional_text, partition_text, parts_text, strict_text, with_commas, pair_text, truth_text}
 use Rattle.pipeline_value.specs.Value.{Item, Number, Text, barrier_items, holds, item_text, same_item, first_repeat, repeat_or, strict_told, image, item_number, joined, stage_items, stages_items, base_text, inner_text, summary_text, terminal_told, expanded, program_told}
 use Rattle.stages.specs.Wrapping.{wrapped}
@@ -76,15 +75,9 @@ module _ {X Y : Type 0} (e : X → Y) where
       ap₂ (λ b t. cond b (e x ∷ t) t) (same x) (filter-both p q same l) ∙ sym (under (map e) (q x) (x ∷ filter q l) (filter q l))
 
   module _ (p : Y → Bool) (q : X → Bool) (same : (x : X) → p (e x) ≡ q x) where
-    prefix-both : (l : List X) → prefix_len p (map e l) ≡ prefix_len q l
+    pub prefix-both : (l : List X) → prefix_len p (map e l) ≡ prefix_len q l
     prefix-both [] = refl
     prefix-both (x ∷ l) = ap₂ (λ b n. cond b (1 + n) 0) (same x) (prefix-both l)
-
-    pub take_while-both : (l : List X) → take_while p (map e l) ≡ map e (take_while q l)
-    take_while-both l = ap (λ n. take n (map e l)) (prefix-both l) ∙ take-map e (prefix_len q l) l
-
-    pub drop_while-both : (l : List X) → drop_while p (map e l) ≡ map e (drop_while q l)
-    drop_while-both l = ap (λ n. drop n (map e l)) (prefix-both l) ∙ drop-map e (prefix_len q l) l
 
     pub any_meets-both : (l : List X) → any_meets p (map e l) ≡ any_meets q l
     any_meets-both [] = refl
@@ -120,10 +113,9 @@ module _ {X : Type 0} (e : X → Item) where
   pub barrier-both : {P : Type 0} (test : P → Condition) (passes : P → X → Bool) → ((p : P) (x : X) → holds (test p) (e x) ≡ passes p x)
       → (b : barriers.Barrier P ItemCount) (l : List X) → barrier_items (grammar.barrier test count_content b) (map e l) ≡ map e (barrier_list same passes b l)
   barrier-both test passes tests Distinct l = distinct-after [] l
-  barrier-both test passes tests (Limit n) l = take-map e n.number l
-  barrier-both test passes tests (Skip n) l = drop-map e n.number l
-  barrier-both test passes tests (TakeWhile p) l = take_while-both e (holds (test p)) (passes p) (tests p) l
-  barrier-both test passes tests (DropWhile p) l = drop_while-both e (holds (test p)) (passes p) (tests p) l
+  barrier-both test passes tests (Counted part n) l = part-map e part n.number l
+  barrier-both test passes tests (While part p) l =
+      ap (λ n. part_list part n (map e l)) (prefix-both e (holds (test p)) (passes p) (tests p) l) ∙ part-map e part (prefix_len (passes p) l) l
 
   pub counted : (l : List X) → signed_decimal (wrapped (pos (length (map e l)))) ≡ signed_decimal (wrapped (pos (length l)))
   counted l = ap (λ n. signed_decimal (wrapped (pos n))) (length-map l e)

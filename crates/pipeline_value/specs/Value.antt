@@ -1,16 +1,15 @@
 -- The items of a pipeline, and what its stages make of them. A number is asked of no text and a text of no number in a file that means
 -- something; that each stands for the other here, by its length and by its digits, leaves nothing open.
-use Rattle.std.specs.Prelude.{ℕ, ℤ, pos, neg_ℤ, ◌+ℤ◌, Bool, false, nat_lt, int_lt, bytes_eq, ◌==◌, List, map, filter, flat_map, take, drop, take_while, length, ◌≡◌, not, [], ◌∷◌, ◌++◌, fold, string_bytes, Option, Some, None, Result, Ok, Err, if◌then◌else◌}
+use Rattle.std.specs.Prelude.{ℕ, ℤ, pos, neg_ℤ, ◌+ℤ◌, Bool, false, nat_lt, int_lt, bytes_eq, ◌==◌, List, map, filter, flat_map, length, ◌≡◌, not, [], ◌∷◌, ◌++◌, fold, string_bytes, Option, Some, None, Result, Ok, Err, if◌then◌else◌}
 use Rattle.std.{proofs.Math.ListN.replicate, specs.Fmt.signed_decimal}
-use Rattle.std.specs.List.{starts_with, list_any}
+use Rattle.std.specs.List.{starts_with, list_any, prefix_len}
 use Rattle.std.specs.Ordering.{int_eq, int_cmp}
 use Rattle.sources.specs.Integers.{integers_between}
-use Rattle.barriers.specs.Whiles.{drop_while}
 use Rattle.stages.specs.Choices.{larger, smaller}
 use Rattle.stages.specs.{Distinct.distinct, Products.wrapped_product}
 use Rattle.stages.specs.Wrapping.{wrapped, wrapped_sum}
 use Rattle.file_words.specs.Words.{words_of}
-use Rattle.pipeline_language.specs.declared.grammar.Barrier.TheVariants.{Distinct, Limit, Skip, TakeWhile, DropWhile}
+use Rattle.pipeline_language.specs.declared.grammar.Barrier.TheVariants.{Distinct, Counted, While}
 use Rattle.pipeline_language.specs.declared.grammar.Condition.TheVariants.{Less, Greater, Equals, Divisible, Empty, Starts, Longer}
 use Rattle.pipeline_language.specs.declared.grammar.{Expansion.Expansion, Function.Function, Merge.Merge}
 use Rattle.pipeline_language.specs.declared.grammar.Expansion.TheVariants.{Repeat, Words}
@@ -18,6 +17,7 @@ use Rattle.pipeline_language.specs.declared.grammar.Function.TheVariants.{Add, M
 use Rattle.pipeline_language.specs.declared.grammar.Stage.TheVariants.{Map, Filter, FlatMap, Barrier}
 use Rattle.pipeline_language.specs.Syntax.{Barring, Condition, Origin, Range, Closed, Numbers, Lines, Stage, Base, Inner, Program, Summary, Terminal}
 use Rattle.pipeline_meaning.specs.Functions.{modulo, text_length}
+use Rattle.pipeline_meaning.specs.Stages.{part_list}
 use Rattle.pipeline_meaning.specs.Walks.{one_after_other}
 use Rattle.collectors.specs.Reductions.{delimited, first, reduced}
 use Rattle.collectors.specs.Sums.{int_sum}
@@ -91,10 +91,8 @@ expanded Words x = map Text (words_of (item_text x))
 -- What a stage makes of a list. java.util.stream.Stream: map, filter, flatMap, distinct, limit, skip, takeWhile, dropWhile.
 abbrev pub barrier_items : Barring → List Item → List Item
 barrier_items Distinct items = distinct same_item items
-barrier_items (Limit n) items = take n items
-barrier_items (Skip n) items = drop n items
-barrier_items (TakeWhile p) items = take_while (holds p) items
-barrier_items (DropWhile p) items = drop_while (holds p) items
+barrier_items (Counted part n) items = part_list part n items
+barrier_items (While part p) items = part_list part (prefix_len (holds p) items) items
 
 abbrev pub stage_items : Stage → List Item → List Item
 stage_items (Map f) items = map (image f) items

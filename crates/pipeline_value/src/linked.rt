@@ -9,7 +9,7 @@ ghost use Rattle.pipeline_meaning.specs.Stages.{is_barrier_stage, number_stage, 
 
 use barriers::{AnyBarrier, Barrier, Demand, Distinct, DropWhile, Limit, Skip, TakeWhile};
 use chained_streams::Link;
-use pipeline_language::{Barrier as Line, NumberStage, TextStage};
+use pipeline_language::{Barrier as Line, NumberStage, Part, TextStage};
 use pipeline_meaning::{NumberCheck, NumberSteps, SeededHashes, TextCheck, TextSteps};
 use spliterator::{EqualValue, NoMemory, OrderedValue};
 use stages::{Stage, Test};
@@ -39,10 +39,10 @@ where
 {
     match barrier {
         Line::Distinct => AnyBarrier::Distinct(Distinct::with_hasher(hashes)),
-        Line::Limit(most) => AnyBarrier::Limit(Limit::new(most.get())),
-        Line::Skip(number) => AnyBarrier::Skip(Skip::new(number.get())),
-        Line::TakeWhile(test) => AnyBarrier::TakeWhile(TakeWhile::new(test)),
-        Line::DropWhile(test) => AnyBarrier::DropWhile(DropWhile::new(test)),
+        Line::Counted(Part::Front, most) => AnyBarrier::Limit(Limit::new(most.get())),
+        Line::Counted(Part::Rest, number) => AnyBarrier::Skip(Skip::new(number.get())),
+        Line::While(Part::Front, test) => AnyBarrier::TakeWhile(TakeWhile::new(test)),
+        Line::While(Part::Rest, test) => AnyBarrier::DropWhile(DropWhile::new(test)),
     }
 }
 
@@ -135,10 +135,8 @@ impl LanguageStage<i64> for NumberStage {
         };
         Some(match barrier {
             Line::Distinct => Line::Distinct,
-            Line::Limit(most) => Line::Limit(most),
-            Line::Skip(number) => Line::Skip(number),
-            Line::TakeWhile(test) => Line::TakeWhile(NumberCheck::of(test)),
-            Line::DropWhile(test) => Line::DropWhile(NumberCheck::of(test)),
+            Line::Counted(part, number) => Line::Counted(part, number),
+            Line::While(part, test) => Line::While(part, NumberCheck::of(test)),
         })
     }
 }
@@ -168,10 +166,8 @@ impl<'a> LanguageStage<&'a str> for TextStage<'a> {
         };
         Some(match barrier {
             Line::Distinct => Line::Distinct,
-            Line::Limit(most) => Line::Limit(most),
-            Line::Skip(number) => Line::Skip(number),
-            Line::TakeWhile(test) => Line::TakeWhile(TextCheck::of(test)),
-            Line::DropWhile(test) => Line::DropWhile(TextCheck::of(test)),
+            Line::Counted(part, number) => Line::Counted(part, number),
+            Line::While(part, test) => Line::While(part, TextCheck::of(test)),
         })
     }
 }

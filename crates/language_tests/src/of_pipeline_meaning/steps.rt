@@ -1,6 +1,7 @@
 //! Stages as steps, fed item by item and a block at once.
 use pipeline_language::{
-    Barrier, Expansion, ItemCount, NumberFunction, NumberStage, NumberTest, TextStage, TextTest,
+    Barrier, Expansion, ItemCount, NumberFunction, NumberStage, NumberTest, Part, TextStage,
+    TextTest,
 };
 use pipeline_meaning::{NumberSteps, TextSteps};
 use spliterator::NoMemory;
@@ -179,10 +180,10 @@ fn a_number_is_repeated_often(rt: HostRuntime) -> Result<(), Fail> {
 
 const BARRIERS: [NumberStage; 5] = [
     NumberStage::Barrier(Barrier::Distinct),
-    NumberStage::Barrier(Barrier::Limit(ItemCount { number: 1 })),
-    NumberStage::Barrier(Barrier::Skip(ItemCount { number: 1 })),
-    NumberStage::Barrier(Barrier::TakeWhile(NumberTest::Less(0))),
-    NumberStage::Barrier(Barrier::DropWhile(NumberTest::Less(9))),
+    NumberStage::Barrier(Barrier::Counted(Part::Front, ItemCount { number: 1 })),
+    NumberStage::Barrier(Barrier::Counted(Part::Rest, ItemCount { number: 1 })),
+    NumberStage::Barrier(Barrier::While(Part::Front, NumberTest::Less(0))),
+    NumberStage::Barrier(Barrier::While(Part::Rest, NumberTest::Less(9))),
 ];
 
 #[test]
@@ -308,10 +309,10 @@ fn check_texts(rt: &(impl Abort + Alloc<A = Global>), rows: &[TextRow<'_>]) -> R
 
 const TEXT_BARRIERS: [TextStage<'_>; 5] = [
     TextStage::Barrier(Barrier::Distinct),
-    TextStage::Barrier(Barrier::Limit(ItemCount { number: 1 })),
-    TextStage::Barrier(Barrier::Skip(ItemCount { number: 1 })),
-    TextStage::Barrier(Barrier::TakeWhile(TextTest::Empty)),
-    TextStage::Barrier(Barrier::DropWhile(TextTest::Empty)),
+    TextStage::Barrier(Barrier::Counted(Part::Front, ItemCount { number: 1 })),
+    TextStage::Barrier(Barrier::Counted(Part::Rest, ItemCount { number: 1 })),
+    TextStage::Barrier(Barrier::While(Part::Front, TextTest::Empty)),
+    TextStage::Barrier(Barrier::While(Part::Rest, TextTest::Empty)),
 ];
 
 #[test]

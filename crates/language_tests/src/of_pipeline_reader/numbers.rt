@@ -4,7 +4,7 @@ use super::first_wrong;
 use file_words::ReadError;
 use pipeline_language::{
     Barrier, ItemCount, Merge, NumberBase as Base, NumberFunction, NumberOnly, NumberSource,
-    NumberStage, NumberSummary as Summary, NumberTerminal, NumberTest, NumberTotal, Pipeline,
+    NumberStage, NumberSummary as Summary, NumberTerminal, NumberTest, NumberTotal, Part, Pipeline,
 };
 use pipeline_reader::read_pipeline;
 use std::alloc::{AllocError, Global};
@@ -42,12 +42,15 @@ const STAGES: [NumberStage; 15] = [
     NumberStage::Filter(NumberTest::Divisible(4)),
     NumberStage::FlatMap(1000),
     NumberStage::Barrier(Barrier::Distinct),
-    NumberStage::Barrier(Barrier::Limit(ItemCount { number: 0 })),
-    NumberStage::Barrier(Barrier::Skip(ItemCount {
-        number: 9_223_372_036_854_775_807,
-    })),
-    NumberStage::Barrier(Barrier::TakeWhile(NumberTest::Less(5))),
-    NumberStage::Barrier(Barrier::DropWhile(NumberTest::Less(6))),
+    NumberStage::Barrier(Barrier::Counted(Part::Front, ItemCount { number: 0 })),
+    NumberStage::Barrier(Barrier::Counted(
+        Part::Rest,
+        ItemCount {
+            number: 9_223_372_036_854_775_807,
+        },
+    )),
+    NumberStage::Barrier(Barrier::While(Part::Front, NumberTest::Less(5))),
+    NumberStage::Barrier(Barrier::While(Part::Rest, NumberTest::Less(6))),
 ];
 
 #[test]

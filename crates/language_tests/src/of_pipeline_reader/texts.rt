@@ -3,8 +3,8 @@
 use file_words::ReadError;
 use pipeline_language::{
     Barrier, Expansion, ItemCount, Joint, Merge, NumberFunction, NumberStage, NumberTerminal,
-    NumberTotal, Pipeline, TextBase, TextEnd, TextFunction, TextStage, TextSummary, TextTerminal,
-    TextTest, TextValue,
+    NumberTotal, Part, Pipeline, TextBase, TextEnd, TextFunction, TextStage, TextSummary,
+    TextTerminal, TextTest, TextValue,
 };
 use pipeline_reader::read_pipeline;
 use std::alloc::{AllocError, Global};
@@ -46,10 +46,10 @@ const STAGES: [TextStage<'static>; 11] = [
     TextStage::FlatMap(Expansion::Words),
     TextStage::FlatMap(Expansion::Repeat(2)),
     TextStage::Barrier(Barrier::Distinct),
-    TextStage::Barrier(Barrier::Limit(ItemCount { number: 1 })),
-    TextStage::Barrier(Barrier::Skip(ItemCount { number: 0 })),
-    TextStage::Barrier(Barrier::TakeWhile(TextTest::Empty)),
-    TextStage::Barrier(Barrier::DropWhile(TextTest::Starts("a"))),
+    TextStage::Barrier(Barrier::Counted(Part::Front, ItemCount { number: 1 })),
+    TextStage::Barrier(Barrier::Counted(Part::Rest, ItemCount { number: 0 })),
+    TextStage::Barrier(Barrier::While(Part::Front, TextTest::Empty)),
+    TextStage::Barrier(Barrier::While(Part::Rest, TextTest::Starts("a"))),
 ];
 
 #[test]
