@@ -9,11 +9,13 @@ use Rattle.pipeline_language.specs.declared.grammar.Base.TheVariants as bases
 use Rattle.pipeline_language.specs.declared.grammar.Inner.TheVariants as inners
 use Rattle.pipeline_language.specs.declared.grammar.Line.TheVariants as body_lines
 use Rattle.pipeline_language.specs.declared.grammar.Merge.TheVariants as merges
+use Rattle.pipeline_language.specs.declared.grammar.NumberChange.TheVariants.{Add, Mul, Negate}
 use Rattle.pipeline_language.specs.declared.grammar.NumberOnly.TheVariants as only
+use Rattle.pipeline_language.specs.declared.grammar.NumberTest.TheVariants.{Less, Greater, Equals, Divisible}
 use Rattle.pipeline_language.specs.declared.grammar.NumberTotal.TheVariants as totals
 use Rattle.pipeline_language.specs.declared.grammar.Part.TheVariants.{Front, Rest}
 use Rattle.pipeline_language.specs.declared.grammar.Summary.TheVariants as summaries
-use Rattle.pipeline_language.specs.Syntax.{Add, AllMatch, AnyMatch, Barrier, Count, Counted, Distinct, Divisible, Empty, Equals, Expansion, Filter, FindFirst, FlatMap, Function, Greater, GroupBy, Itself, Length, Less, Longer, Map, Merge, Mod, Mul, Negate, NoneMatch, OfNumbers, OfTexts, Own, Partition, Repeat, Starts, Teeing, ToList, ToMap, ToMapStrict, While, Words, Condition, Base, Inner, Summary, Origin, Range, Closed, Numbers, Lines, BodyLine, function_slots, condition_slots, base_slots, inner_slots, summary_slots, merge_slots, expansion_slots, terminal_slots, body_slots, origin_slots, has_new_names, summary_known, terminal_known, body_known, function_names, function_of, condition_names, condition_of, base_names, base_of, inner_names, inner_of, summary_names, summary_of, merge_names, merge_of, expansion_names, expansion_of, body_names, new_terminal_names, terminal_names, body_of, origin_names, origin_words, collecting_names}
+use Rattle.pipeline_language.specs.Syntax.{AllMatch, AnyMatch, Barrier, Change, Count, Counted, Distinct, Empty, Expansion, Filter, FindFirst, FlatMap, Function, GroupBy, Itself, Length, Longer, Map, Merge, Mod, NoneMatch, OfNumbers, OfTexts, Own, Partition, Repeat, Starts, Teeing, ToList, ToMap, ToMapStrict, While, Words, Condition, Base, Inner, Summary, Origin, Range, Closed, Numbers, Lines, BodyLine, function_slots, condition_slots, base_slots, inner_slots, summary_slots, merge_slots, expansion_slots, terminal_slots, body_slots, origin_slots, has_new_names, summary_known, terminal_known, body_known, function_names, function_of, condition_names, condition_of, base_names, base_of, inner_names, inner_of, summary_names, summary_of, merge_names, merge_of, expansion_names, expansion_of, body_names, new_terminal_names, terminal_names, body_of, origin_names, origin_words, collecting_names}
 use Rattle.file_words.specs.WordReading.{next_number, next_natural}
 use Rattle.pipeline_language.proofs.PhraseLemmas.{Anything, AtEnd, Phrase, Knows, Leads, nothing_phrase, both_phrase, no_leads, name_lead, either_lead, made_of_leads, named_knows, either_knows, by_name_phrase, at_end, number_phrase, natural_phrase, all_numbers_phrase, word_phrase, joint_phrase}
 
@@ -30,40 +32,41 @@ natural_here = natural_phrase highest (le_z_yes tt)
 
 -- MAP
 abbrev function_leads : Leads Anything all_known function_slots function_names
-function_leads = name_lead (codes "add") Add (λ _. refl) (λ _ _. refl) number_here
-    (name_lead (codes "mul") Mul (λ _. refl) (λ _ _. refl) number_here
-    (name_lead (codes "negate") (λ _. Negate) (λ _. refl) (λ _ _. refl) nothing_phrase
+function_leads = name_lead (codes "add") (λ n. Change (Add n)) (λ _. refl) (λ _ _. refl) number_here
+    (name_lead (codes "mul") (λ n. Change (Mul n)) (λ _. refl) (λ _ _. refl) number_here
+    (name_lead (codes "negate") (λ _. Change Negate) (λ _. refl) (λ _ _. refl) nothing_phrase
     (name_lead (codes "mod") Mod (λ _. refl) (λ _ _. refl) divisor_here
     (name_lead (codes "length") (λ _. Length) (λ _. refl) (λ _ _. refl) nothing_phrase
     (name_lead (codes "self") (λ _. Itself) (λ _. refl) (λ _ _. refl) nothing_phrase
     no_leads)))))
 
 function_knows : (x : Function) → Knows Anything (by_name function_names) (function_slots x) x
-function_knows Negate = named_knows function_leads (_, refl, refl, refl)
+function_knows (Change Negate) = named_knows function_leads (_, refl, refl, refl)
 function_knows x = named_knows function_leads (_, refl, refl, refl)
 
 pub function_phrase : Phrase Anything all_known function_slots function_of
 unfolding function_of
-function_phrase = by_name_phrase function_leads Negate refl (λ x _. function_knows x)
+function_phrase = by_name_phrase function_leads (Change Negate) refl (λ x _. function_knows x)
 
 -- TEST
 abbrev condition_leads : Leads Anything all_known condition_slots condition_names
-condition_leads = name_lead (codes "less") Less (λ _. refl) (λ _ _. refl) number_here
-    (name_lead (codes "greater") Greater (λ _. refl) (λ _ _. refl) number_here
-    (name_lead (codes "equals") Equals (λ _. refl) (λ _ _. refl) number_here
-    (name_lead (codes "divisible") Divisible (λ _. refl) (λ _ _. refl) divisor_here
-    (name_lead (codes "empty") (λ _. Empty) (λ _. refl) (λ _ _. refl) nothing_phrase
-    (name_lead (codes "starts") Starts (λ _. refl) (λ _ _. refl) word_phrase
-    (name_lead (codes "longer") Longer (λ _. refl) (λ _ _. refl) natural_here
+condition_leads = name_lead (codes "less") (λ n. OfNumbers (Less n)) (λ _. refl) (λ _ _. refl) number_here
+    (name_lead (codes "greater") (λ n. OfNumbers (Greater n)) (λ _. refl) (λ _ _. refl) number_here
+    (name_lead (codes "equals") (λ n. OfNumbers (Equals n)) (λ _. refl) (λ _ _. refl) number_here
+    (name_lead (codes "divisible") (λ n. OfNumbers (Divisible n)) (λ _. refl) (λ _ _. refl) divisor_here
+    (name_lead (codes "empty") (λ _. OfTexts Empty) (λ _. refl) (λ _ _. refl) nothing_phrase
+    (name_lead (codes "starts") (λ front. OfTexts (Starts front)) (λ _. refl) (λ _ _. refl) word_phrase
+    (name_lead (codes "longer") (λ n. OfTexts (Longer n)) (λ _. refl) (λ _ _. refl) natural_here
     no_leads))))))
 
 condition_knows : (x : Condition) → Knows Anything (by_name condition_names) (condition_slots x) x
-condition_knows Empty = named_knows condition_leads (_, refl, refl, refl)
+condition_knows (OfNumbers (Less n)) = named_knows condition_leads (_, refl, refl, refl)
+condition_knows (OfTexts Empty) = named_knows condition_leads (_, refl, refl, refl)
 condition_knows x = named_knows condition_leads (_, refl, refl, refl)
 
 pub condition_phrase : Phrase Anything all_known condition_slots condition_of
 unfolding condition_of
-condition_phrase = by_name_phrase condition_leads Empty refl (λ x _. condition_knows x)
+condition_phrase = by_name_phrase condition_leads (OfTexts Empty) refl (λ x _. condition_knows x)
 
 -- BASE
 abbrev base_leads : Leads Anything all_known base_slots base_names

@@ -1,8 +1,8 @@
 -- The things of a line over numbers, and over texts that are lent from a file.
 use Rattle.std.specs.Prelude.{ℕ, List, [], ◌∷◌, ◌++◌, map, length, ◌≡◌, Bool, true, false, ◌&&◌, Option, Some, None}
 use Rattle.std.specs.Borrow.{Bor}
-use Rattle.pipeline_language.specs.declared.{item_count.ItemCount.ItemCount, pipeline.Mapped.Mapped, pipeline.NumberFunction.NumberFunction, pipeline.NumberTest.NumberTest, pipeline.TextFunction.TextFunction, pipeline.TextMerge.TextMerge, pipeline.TextTest.TextTest, pipeline.Pipeline.Pipeline, pipeline.NumberBody.NumberBody, pipeline.TextBody.TextBody, pipeline.TextEnd.TextEnd, pipeline.NumberSource.NumberSource, ranges.OpenRange.OpenRange, ranges.ClosedRange.ClosedRange, kinds.TextLine.TextLine, line.Source.Source, line.NamedSource.NamedSource}
-use Rattle.pipeline_language.specs.Syntax.{Condition, Base, Inner, Summary, Barring, Stage, Joint, Terminal, BodyLine, Add, Divisible, Empty, Equals, Function, Greater, Itself, Length, Less, Longer, Map, Merge, Mod, Mul, Negate, OfNumbers, OfTexts, Repeat, Starts, Origin, Range, Closed, Numbers, Lines, Program, TextKind, function_takes, merge_takes, value_kind}
+use Rattle.pipeline_language.specs.declared.{item_count.ItemCount.ItemCount, pipeline.Mapped.Mapped, pipeline.NumberFunction.NumberFunction, pipeline.TextFunction.TextFunction, pipeline.TextMerge.TextMerge, pipeline.Pipeline.Pipeline, pipeline.NumberBody.NumberBody, pipeline.TextBody.TextBody, pipeline.TextEnd.TextEnd, pipeline.NumberSource.NumberSource, ranges.OpenRange.OpenRange, ranges.ClosedRange.ClosedRange, kinds.TextLine.TextLine, line.Source.Source, line.NamedSource.NamedSource}
+use Rattle.pipeline_language.specs.Syntax.{Condition, Base, Inner, Summary, Barring, Stage, Joint, Terminal, BodyLine, Change, Function, Itself, Length, Map, Merge, Mod, OfNumbers, OfTexts, Repeat, Origin, Range, Closed, Numbers, Lines, Program, TextKind, function_takes, merge_takes, value_kind}
 use Rattle.pipeline_language.specs.Grammar as grammar
 use Rattle.pipeline_language.specs.declared.grammar.Barrier as barriers
 use Rattle.pipeline_language.specs.declared.pipeline.Pipeline.TheVariants as pipelines
@@ -10,8 +10,6 @@ use Rattle.pipeline_language.specs.declared.pipeline.TextEnd.TheVariants as ends
 use Rattle.pipeline_language.specs.declared.pipeline.NumberSource.TheVariants as sources
 use Rattle.pipeline_language.specs.declared.pipeline.NumberFunction.TheVariants as number_functions
 use Rattle.pipeline_language.specs.declared.pipeline.TextFunction.TheVariants as text_functions
-use Rattle.pipeline_language.specs.declared.pipeline.NumberTest.TheVariants as number_tests
-use Rattle.pipeline_language.specs.declared.pipeline.TextTest.TheVariants as text_tests
 use Rattle.pipeline_language.specs.declared.pipeline.TextMerge.TheVariants as text_merges
 use Rattle.pipeline_language.specs.declared.grammar.Merge.TheVariants as merges
 use Rattle.pipeline_language.specs.declared.pipeline.Mapped.TheVariants as values
@@ -24,8 +22,11 @@ use Rattle.pipeline_language.specs.declared.grammar.Line.TheVariants as body_lin
 abbrev pub Text : Type 0
 Text = Bor (List ℕ)
 
+abbrev pub TextTest : Type 0
+TextTest = grammar.TextCondition Text
+
 abbrev pub NumberStage : Type 0
-NumberStage = grammar.Stage NumberFunction NumberTest ℕ ItemCount
+NumberStage = grammar.Stage NumberFunction grammar.NumberTest ℕ ItemCount
 
 abbrev pub TextStage : Type 0
 TextStage = grammar.Stage (Unit {0}) TextTest grammar.Expansion ItemCount
@@ -34,10 +35,10 @@ abbrev pub NumberBase : Type 0
 NumberBase = grammar.Base grammar.NumberOnly
 
 abbrev pub NumberInner : Type 0
-NumberInner = grammar.Inner (NumberFunction × NumberBase) NumberTest NumberBase
+NumberInner = grammar.Inner (NumberFunction × NumberBase) grammar.NumberTest NumberBase
 
 abbrev pub NumberSummary : Type 0
-NumberSummary = grammar.Summary NumberFunction (NumberFunction × NumberInner) NumberTest NumberBase NumberInner
+NumberSummary = grammar.Summary NumberFunction (NumberFunction × NumberInner) grammar.NumberTest NumberBase NumberInner
 
 abbrev pub TextBase : Type 0
 TextBase = grammar.Base Text
@@ -52,7 +53,7 @@ abbrev pub TextValue : Type 0
 TextValue = Mapped grammar.Merge TextMerge
 
 abbrev pub NumberTerminal : Type 0
-NumberTerminal = grammar.Terminal NumberFunction NumberTest NumberSummary (NumberFunction × grammar.Merge) grammar.NumberTotal
+NumberTerminal = grammar.Terminal NumberFunction grammar.NumberTest NumberSummary (NumberFunction × grammar.Merge) grammar.NumberTotal
 
 abbrev pub TextTerminal : Type 0
 TextTerminal = grammar.Terminal TextFunction TextTest TextSummary TextValue (grammar.Joint Text)
@@ -70,8 +71,11 @@ count_content count = count.number
 abbrev pub text_content : Text → List ℕ
 text_content text = text.now
 
-abbrev pub condition_content : grammar.Condition Text → Condition
-condition_content p = grammar.condition text_content p
+abbrev pub LentCondition : Type 0
+LentCondition = grammar.OfKind grammar.NumberTest TextTest
+
+abbrev pub condition_content : LentCondition → Condition
+condition_content p = grammar.of_kind as_read (grammar.text_condition text_content) p
 
 abbrev pub LentBase : Type 0
 LentBase = grammar.Base (grammar.OfKind grammar.NumberOnly Text)
@@ -80,22 +84,22 @@ abbrev pub base_content : LentBase → Base
 base_content b = grammar.base (grammar.of_kind as_read text_content) b
 
 abbrev pub LentInner : Type 0
-LentInner = grammar.Inner (grammar.Function × LentBase) (grammar.Condition Text) LentBase
+LentInner = grammar.Inner (grammar.Function × LentBase) LentCondition LentBase
 
 abbrev pub inner_content : LentInner → Inner
 inner_content inner = grammar.inner (λ m. (m.0, base_content m.1)) condition_content base_content inner
 
 abbrev pub LentSummary : Type 0
-LentSummary = grammar.Summary grammar.Function (grammar.Function × LentInner) (grammar.Condition Text) LentBase LentInner
+LentSummary = grammar.Summary grammar.Function (grammar.Function × LentInner) LentCondition LentBase LentInner
 
 abbrev pub summary_content : LentSummary → Summary
 summary_content summary = grammar.summary as_read (λ m. (m.0, inner_content m.1)) condition_content base_content inner_content summary
 
-abbrev pub barrier_content : barriers.Barrier (grammar.Condition Text) ItemCount → Barring
+abbrev pub barrier_content : barriers.Barrier LentCondition ItemCount → Barring
 barrier_content barrier = grammar.barrier condition_content count_content barrier
 
 abbrev pub LentStage : Type 0
-LentStage = grammar.Stage grammar.Function (grammar.Condition Text) grammar.Expansion ItemCount
+LentStage = grammar.Stage grammar.Function LentCondition grammar.Expansion ItemCount
 
 abbrev pub stage_content : LentStage → Stage
 stage_content stage = grammar.stage as_read condition_content as_read count_content stage
@@ -104,7 +108,7 @@ abbrev pub joint_content : grammar.Joint Text → Joint
 joint_content joint = grammar.joint text_content joint
 
 abbrev pub LentTerminal : Type 0
-LentTerminal = grammar.Terminal grammar.Function (grammar.Condition Text) LentSummary (grammar.Function × grammar.Merge) (grammar.OfKind grammar.NumberTotal (grammar.Joint Text))
+LentTerminal = grammar.Terminal grammar.Function LentCondition LentSummary (grammar.Function × grammar.Merge) (grammar.OfKind grammar.NumberTotal (grammar.Joint Text))
 
 abbrev pub terminal_content : LentTerminal → Terminal
 terminal_content terminal = grammar.terminal as_read condition_content summary_content as_read (grammar.of_kind as_read joint_content) terminal
@@ -126,9 +130,7 @@ number_origin (sources.Closed range) = closed_origin range
 number_origin (sources.Numbers numbers) = Numbers numbers.items
 
 abbrev pub number_function : NumberFunction → Function
-number_function (number_functions.Add n) = Add n
-number_function (number_functions.Mul n) = Mul n
-number_function number_functions.Negate = Negate
+number_function (number_functions.Change change) = Change change
 number_function (number_functions.Mod n) = Mod n
 number_function number_functions.Itself = Itself
 
@@ -136,16 +138,11 @@ abbrev pub text_function : TextFunction → Function
 text_function text_functions.Length = Length
 text_function text_functions.Itself = Itself
 
-abbrev pub number_test : NumberTest → Condition
-number_test (number_tests.Less n) = Less n
-number_test (number_tests.Greater n) = Greater n
-number_test (number_tests.Equals n) = Equals n
-number_test (number_tests.Divisible n) = Divisible n
+abbrev pub number_test : grammar.NumberTest → Condition
+number_test p = OfNumbers p
 
 abbrev pub text_test : TextTest → Condition
-text_test text_tests.Empty = Empty
-text_test (text_tests.Starts front) = Starts front.now
-text_test (text_tests.Longer n) = Longer n
+text_test p = OfTexts (grammar.text_condition text_content p)
 
 abbrev pub text_merge : TextMerge → Merge
 text_merge text_merges.First = merges.First

@@ -1,31 +1,27 @@
 -- Things of a line with what they are made of replaced.
 use Rattle.pipeline_language.specs.declared.grammar.Barrier as barriers
 pub use Rattle.pipeline_language.specs.declared.grammar.Barrier.TheVariants.{Distinct, Counted, While}
-pub use Rattle.pipeline_language.specs.declared.grammar.{Base.Base, Condition.Condition, Expansion.Expansion, Function.Function, Inner.Inner, Joint.Joint, Line.Line, Merge.Merge, NumberOnly.NumberOnly, NumberTotal.NumberTotal, OfKind.OfKind, Stage.Stage, Summary.Summary, Terminal.Terminal}
+pub use Rattle.pipeline_language.specs.declared.grammar.{Base.Base, Expansion.Expansion, Function.Function, Inner.Inner, Joint.Joint, Line.Line, Merge.Merge, NumberOnly.NumberOnly, NumberTest.NumberTest, NumberTotal.NumberTotal, OfKind.OfKind, Stage.Stage, Summary.Summary, Terminal.Terminal, TextCondition.TextCondition}
 use Rattle.pipeline_language.specs.declared.grammar.Base.TheVariants as bases
-pub use Rattle.pipeline_language.specs.declared.grammar.Condition.TheVariants.{Less, Greater, Equals, Divisible, Empty, Starts, Longer}
 pub use Rattle.pipeline_language.specs.declared.grammar.Expansion.TheVariants.{Repeat, Words}
-pub use Rattle.pipeline_language.specs.declared.grammar.Function.TheVariants.{Add, Mul, Negate, Mod, Length, Itself}
+pub use Rattle.pipeline_language.specs.declared.grammar.Function.TheVariants.{Change, Mod, Length, Itself}
 use Rattle.pipeline_language.specs.declared.grammar.Inner.TheVariants as inners
 pub use Rattle.pipeline_language.specs.declared.grammar.Joint.TheVariants.{Plain, Within}
 use Rattle.pipeline_language.specs.declared.grammar.Line.TheVariants as lines
 pub use Rattle.pipeline_language.specs.declared.grammar.OfKind.TheVariants.{OfNumbers, OfTexts}
 pub use Rattle.pipeline_language.specs.declared.grammar.Stage.TheVariants.{Map, Filter, FlatMap, Barrier}
 use Rattle.pipeline_language.specs.declared.grammar.Summary.TheVariants as summaries
+pub use Rattle.pipeline_language.specs.declared.grammar.TextCondition.TheVariants.{Empty, Starts, Longer}
 pub use Rattle.pipeline_language.specs.declared.grammar.Terminal.TheVariants.{Count, FindFirst, ToList, AllMatch, AnyMatch, NoneMatch, GroupBy, Partition, ToMap, ToMapStrict, Teeing, Own}
 
 abbrev pub of_kind : {N M T U : Type 0} → (N → M) → (T → U) → OfKind N T → OfKind M U
 of_kind number text (OfNumbers x) = OfNumbers (number x)
 of_kind number text (OfTexts x) = OfTexts (text x)
 
-abbrev pub condition : {T U : Type 0} → (T → U) → Condition T → Condition U
-condition text (Less n) = Less n
-condition text (Greater n) = Greater n
-condition text (Equals n) = Equals n
-condition text (Divisible n) = Divisible n
-condition text Empty = Empty
-condition text (Starts front) = Starts (text front)
-condition text (Longer n) = Longer n
+abbrev pub text_condition : {T U : Type 0} → (T → U) → TextCondition T → TextCondition U
+text_condition text Empty = Empty
+text_condition text (Starts front) = Starts (text front)
+text_condition text (Longer n) = Longer n
 
 abbrev pub joint : {T U : Type 0} → (T → U) → Joint T → Joint U
 joint text (Plain between) = Plain (text between)

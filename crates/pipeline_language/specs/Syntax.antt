@@ -4,7 +4,7 @@ use Rattle.file_words.specs.declared.fault.FileError.TheVariants.{RangeTooLong, 
 use Rattle.pipeline_language.specs.{declared.version.Version.Version, Steps.steps_up}
 use Rattle.pipeline_language.specs.declared.version.Version.TheVariants.{One, Two}
 use Rattle.pipeline_language.specs.Form.{Slot, Name, EitherName, Number, AnyWord, number, natural, divisor, Forms, all_known}
-pub use Rattle.pipeline_language.specs.Grammar.{Distinct, Counted, While, Less, Greater, Equals, Divisible, Empty, Starts, Longer, Expansion, Repeat, Words, Function, Add, Mul, Negate, Mod, Length, Itself, Plain, Within, Merge, OfNumbers, OfTexts, Map, Filter, FlatMap, Barrier, Count, FindFirst, ToList, AllMatch, AnyMatch, NoneMatch, GroupBy, Partition, ToMap, ToMapStrict, Teeing, Own}
+pub use Rattle.pipeline_language.specs.Grammar.{Distinct, Counted, While, Empty, Starts, Longer, Expansion, Repeat, Words, Function, Change, Mod, Length, Itself, Plain, Within, Merge, OfNumbers, OfTexts, Map, Filter, FlatMap, Barrier, Count, FindFirst, ToList, AllMatch, AnyMatch, NoneMatch, GroupBy, Partition, ToMap, ToMapStrict, Teeing, Own}
 use Rattle.file_words.specs.declared.fault.FileError.{FileError}
 use Rattle.file_words.specs.Words.{lowest, highest}
 use Rattle.file_words.specs.WordReading.{◌>>=◌, Left, is_done, Reader, next_word, next_number, next_natural, all_numbers}
@@ -14,7 +14,9 @@ use Rattle.pipeline_language.specs.declared.grammar.Base.TheVariants as bases
 use Rattle.pipeline_language.specs.declared.grammar.Inner.TheVariants as inners
 use Rattle.pipeline_language.specs.declared.grammar.Line.TheVariants as body_lines
 use Rattle.pipeline_language.specs.declared.grammar.Merge.TheVariants as merges
+use Rattle.pipeline_language.specs.declared.grammar.NumberChange.TheVariants.{Add, Mul, Negate}
 use Rattle.pipeline_language.specs.declared.grammar.NumberOnly.TheVariants as only
+use Rattle.pipeline_language.specs.declared.grammar.NumberTest.TheVariants.{Less, Greater, Equals, Divisible}
 use Rattle.pipeline_language.specs.declared.grammar.NumberTotal.TheVariants as totals
 use Rattle.pipeline_language.specs.declared.grammar.Part.TheVariants.{Front, Rest}
 use Rattle.pipeline_language.specs.declared.grammar.Summary.TheVariants as summaries
@@ -22,7 +24,7 @@ use Rattle.pipeline_language.specs.declared.grammar.Barrier as barrier_types
 
 -- The things of a line are those that are read, and a text in them stands by its bytes.
 abbrev pub Condition : Type 0
-Condition = grammar.Condition (List ℕ)
+Condition = grammar.OfKind grammar.NumberTest (grammar.TextCondition (List ℕ))
 
 -- what is made of items at once
 abbrev pub Base : Type 0
@@ -56,22 +58,22 @@ pub data Origin : Type 0 where
 
 -- MAP
 abbrev pub function_slots : Function → List Slot
-function_slots (Add n) = Name (codes "add") ∷ number n ∷ []
-function_slots (Mul n) = Name (codes "mul") ∷ number n ∷ []
-function_slots Negate = Name (codes "negate") ∷ []
+function_slots (Change (Add n)) = Name (codes "add") ∷ number n ∷ []
+function_slots (Change (Mul n)) = Name (codes "mul") ∷ number n ∷ []
+function_slots (Change Negate) = Name (codes "negate") ∷ []
 function_slots (Mod n) = Name (codes "mod") ∷ divisor n ∷ []
 function_slots Length = Name (codes "length") ∷ []
 function_slots Itself = Name (codes "self") ∷ []
 
 -- TEST
 abbrev pub condition_slots : Condition → List Slot
-condition_slots (Less n) = Name (codes "less") ∷ number n ∷ []
-condition_slots (Greater n) = Name (codes "greater") ∷ number n ∷ []
-condition_slots (Equals n) = Name (codes "equals") ∷ number n ∷ []
-condition_slots (Divisible n) = Name (codes "divisible") ∷ divisor n ∷ []
-condition_slots Empty = Name (codes "empty") ∷ []
-condition_slots (Starts front) = Name (codes "starts") ∷ AnyWord front ∷ []
-condition_slots (Longer n) = Name (codes "longer") ∷ natural n ∷ []
+condition_slots (OfNumbers (Less n)) = Name (codes "less") ∷ number n ∷ []
+condition_slots (OfNumbers (Greater n)) = Name (codes "greater") ∷ number n ∷ []
+condition_slots (OfNumbers (Equals n)) = Name (codes "equals") ∷ number n ∷ []
+condition_slots (OfNumbers (Divisible n)) = Name (codes "divisible") ∷ divisor n ∷ []
+condition_slots (OfTexts Empty) = Name (codes "empty") ∷ []
+condition_slots (OfTexts (Starts front)) = Name (codes "starts") ∷ AnyWord front ∷ []
+condition_slots (OfTexts (Longer n)) = Name (codes "longer") ∷ natural n ∷ []
 
 -- BASE
 abbrev pub base_slots : Base → List Slot
@@ -210,12 +212,6 @@ abbrev pub value_kind : Kind → Function → Kind
 value_kind kind Itself = kind
 value_kind kind f = NumberKind
 
-abbrev pub condition_takes : Kind → Condition → Bool
-condition_takes kind Empty = is_text kind
-condition_takes kind (Starts front) = is_text kind
-condition_takes kind (Longer n) = is_text kind
-condition_takes kind p = is_number kind
-
 -- what stands for one kind alone
 abbrev pub own_takes : {N T : Type 0} → Kind → grammar.OfKind N T → Bool
 own_takes kind (OfNumbers x) = is_number kind
@@ -229,12 +225,12 @@ base_takes kind base = true
 abbrev pub inner_takes : Kind → Inner → Bool
 inner_takes kind (inners.Base base) = base_takes kind base
 inner_takes kind (inners.Mapping (f, base)) = function_takes kind f && base_takes (value_kind kind f) base
-inner_takes kind (inners.Filtering p base) = condition_takes kind p && base_takes kind base
+inner_takes kind (inners.Filtering p base) = own_takes kind p && base_takes kind base
 
 abbrev pub summary_takes : Kind → Summary → Bool
 summary_takes kind (summaries.Base base) = base_takes kind base
 summary_takes kind (summaries.Mapping (f, inner)) = function_takes kind f && inner_takes (value_kind kind f) inner
-summary_takes kind (summaries.Filtering p inner) = condition_takes kind p && inner_takes kind inner
+summary_takes kind (summaries.Filtering p inner) = own_takes kind p && inner_takes kind inner
 summary_takes kind (summaries.GroupBy f inner) = function_takes kind f && inner_takes kind inner
 
 abbrev pub merge_takes : Kind → Merge → Bool
@@ -247,12 +243,12 @@ expansion_takes kind (Repeat n) = true
 expansion_takes kind Words = is_text kind
 
 abbrev pub barrier_takes : Kind → Barring → Bool
-barrier_takes kind (While part p) = condition_takes kind p
+barrier_takes kind (While part p) = own_takes kind p
 barrier_takes kind barrier = true
 
 abbrev pub stage_takes : Kind → Stage → Bool
 stage_takes kind (Map f) = function_takes kind f
-stage_takes kind (Filter p) = condition_takes kind p
+stage_takes kind (Filter p) = own_takes kind p
 stage_takes kind (FlatMap expansion) = expansion_takes kind expansion
 stage_takes kind (Barrier barrier) = barrier_takes kind barrier
 
@@ -262,11 +258,11 @@ kind_after kind (Map f) = value_kind kind f
 kind_after kind stage = kind
 
 abbrev pub terminal_takes : Kind → Terminal → Bool
-terminal_takes kind (AllMatch p) = condition_takes kind p
-terminal_takes kind (AnyMatch p) = condition_takes kind p
-terminal_takes kind (NoneMatch p) = condition_takes kind p
+terminal_takes kind (AllMatch p) = own_takes kind p
+terminal_takes kind (AnyMatch p) = own_takes kind p
+terminal_takes kind (NoneMatch p) = own_takes kind p
 terminal_takes kind (GroupBy f summary) = function_takes kind f && summary_takes kind summary
-terminal_takes kind (Partition p summary) = condition_takes kind p && summary_takes kind summary
+terminal_takes kind (Partition p summary) = own_takes kind p && summary_takes kind summary
 terminal_takes kind (ToMap key (value, merge)) = function_takes kind key && (function_takes kind value && merge_takes (value_kind kind value) merge)
 terminal_takes kind (ToMapStrict key value) = function_takes kind key && function_takes kind value
 terminal_takes kind (Teeing one other) = summary_takes kind one && summary_takes kind other
@@ -334,9 +330,9 @@ any_natural = next_natural highest
 
 -- MAP
 abbrev pub function_names : ByName Function
-function_names = named (codes "add") Add any_number
-    (named (codes "mul") Mul any_number
-    (named (codes "negate") (λ _. Negate) nothing
+function_names = named (codes "add") (λ n. Change (Add n)) any_number
+    (named (codes "mul") (λ n. Change (Mul n)) any_number
+    (named (codes "negate") (λ _. Change Negate) nothing
     (named (codes "mod") Mod any_divisor
     (named (codes "length") (λ _. Length) nothing
     (named (codes "self") (λ _. Itself) nothing
@@ -347,13 +343,13 @@ function_of = by_name function_names
 
 -- TEST
 abbrev pub condition_names : ByName Condition
-condition_names = named (codes "less") Less any_number
-    (named (codes "greater") Greater any_number
-    (named (codes "equals") Equals any_number
-    (named (codes "divisible") Divisible any_divisor
-    (named (codes "empty") (λ _. Empty) nothing
-    (named (codes "starts") Starts next_word
-    (named (codes "longer") Longer any_natural
+condition_names = named (codes "less") (λ n. OfNumbers (Less n)) any_number
+    (named (codes "greater") (λ n. OfNumbers (Greater n)) any_number
+    (named (codes "equals") (λ n. OfNumbers (Equals n)) any_number
+    (named (codes "divisible") (λ n. OfNumbers (Divisible n)) any_divisor
+    (named (codes "empty") (λ _. OfTexts Empty) nothing
+    (named (codes "starts") (λ front. OfTexts (Starts front)) next_word
+    (named (codes "longer") (λ n. OfTexts (Longer n)) any_natural
     unknown))))))
 
 unfoldable pub condition_of : Reader Condition

@@ -1,5 +1,5 @@
 //! What stands in a line, once for all kinds of items: F is a function, P a test, N a number of items, and T a text, as it is lent from a file or by
-//! its bytes.
+//! its bytes. Things that are treated alike stand together, as variants of a type of their own.
 
 use crate::item_count::ItemCount;
 
@@ -10,26 +10,39 @@ pub enum OfKind<N, T> {
     OfTexts(T),
 }
 
-/// What one item is mapped to.
+/// A sum, a product or the number's negative, each wrapped.
 #[derive(Clone, Copy, PartialEq)]
-pub enum Function {
+pub enum NumberChange {
     Add(i64),
     Mul(i64),
     Negate,
+}
+
+/// What one item is mapped to.
+#[derive(Clone, Copy, PartialEq)]
+pub enum Function {
+    Change(NumberChange),
     Mod(i64),
     Length,
     Itself,
 }
 
-/// What is asked of one item.
+/// What is asked of one number.
 #[derive(Clone, Copy, PartialEq)]
-pub enum Condition<T> {
+pub enum NumberTest {
     Less(i64),
     Greater(i64),
     Equals(i64),
+    /// The divisor is at least 1.
     Divisible(i64),
+}
+
+/// What is asked of one text.
+#[derive(Clone, Copy, PartialEq)]
+pub enum TextCondition<T> {
     Empty,
     Starts(T),
+    /// Its length is above the number.
     Longer(u64),
 }
 

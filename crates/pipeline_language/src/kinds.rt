@@ -4,16 +4,16 @@ ghost use Rattle.std.specs.Prelude.{Option};
 ghost use Rattle.pipeline_language.specs.Content.{number_base, number_function, number_inner, number_stage, number_summary, number_terminal, number_test, text_base, text_function, text_inner, text_merge, text_summary, text_terminal, text_test, text_value, Takes, number_line_content, text_line_content, value_takes, barrier_content, base_content, body_line_content, condition_content, count_content, inner_content, stage_content, summary_content, terminal_content};
 ghost use Rattle.pipeline_language.specs.Grammar.{barrier};
 ghost use Rattle.pipeline_language.specs.declared.grammar.Line.TheVariants as body_lines;
-ghost use Rattle.pipeline_language.specs.Syntax.{NumberKind, TextKind, barrier_takes, base_takes, body_takes, condition_takes, function_takes, inner_takes, merge_takes, stage_takes, summary_takes, terminal_takes};
+ghost use Rattle.pipeline_language.specs.Syntax.{NumberKind, TextKind, barrier_takes, base_takes, body_takes, function_takes, inner_takes, merge_takes, own_takes, stage_takes, summary_takes, terminal_takes};
 
 use crate::grammar::{
-    Barrier, Base, Condition, Expansion, Function, Inner, Line, Merge, OfKind, Stage, Summary,
+    Barrier, Base, Expansion, Function, Inner, Line, Merge, NumberTest, OfKind, Stage, Summary,
     Terminal,
 };
 use crate::pipeline::{
     Mapped, NumberBase, NumberFunction, NumberInner, NumberStage, NumberSummary, NumberTerminal,
-    NumberTest, TextBase, TextFunction, TextInner, TextMerge, TextStage, TextSummary, TextTerminal,
-    TextTest, TextValue,
+    TextBase, TextFunction, TextInner, TextMerge, TextStage, TextSummary, TextTerminal, TextTest,
+    TextValue,
 };
 use crate::syntax::{AnyBase, AnyCondition, AnyInner, AnyStage, AnySummary, AnyTerminal, BodyLine};
 
@@ -170,9 +170,7 @@ fn number_function(function: Function) -> Option<NumberFunction>
     ensures { Takes number_function (function_takes NumberKind) function result }
 {
     match function {
-        Function::Add(n) => Some(NumberFunction::Add(n)),
-        Function::Mul(n) => Some(NumberFunction::Mul(n)),
-        Function::Negate => Some(NumberFunction::Negate),
+        Function::Change(change) => Some(NumberFunction::Change(change)),
         Function::Mod(n) => Some(NumberFunction::Mod(n)),
         Function::Length => None,
         Function::Itself => Some(NumberFunction::Itself),
@@ -190,25 +188,20 @@ fn text_function(function: Function) -> Option<TextFunction>
 }
 
 fn number_test(test: AnyCondition<'_>) -> Option<NumberTest>
-    ensures { Takes number_test (condition_takes NumberKind) (condition_content test.entry) result }
+    ensures { Takes number_test (own_takes NumberKind) (condition_content test.entry) result }
 {
     match test {
-        Condition::Less(n) => Some(NumberTest::Less(n)),
-        Condition::Greater(n) => Some(NumberTest::Greater(n)),
-        Condition::Equals(n) => Some(NumberTest::Equals(n)),
-        Condition::Divisible(n) => Some(NumberTest::Divisible(n)),
-        _ => None,
+        OfKind::OfNumbers(test) => Some(test),
+        OfKind::OfTexts(_) => None,
     }
 }
 
 fn text_test(test: AnyCondition<'_>) -> Option<TextTest<'_>>
-    ensures { Takes text_test (condition_takes TextKind) (condition_content test.entry) result }
+    ensures { Takes text_test (own_takes TextKind) (condition_content test.entry) result }
 {
     match test {
-        Condition::Empty => Some(TextTest::Empty),
-        Condition::Starts(front) => Some(TextTest::Starts(front)),
-        Condition::Longer(n) => Some(TextTest::Longer(n)),
-        _ => None,
+        OfKind::OfNumbers(_) => None,
+        OfKind::OfTexts(test) => Some(test),
     }
 }
 

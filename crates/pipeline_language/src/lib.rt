@@ -12,8 +12,8 @@ mod syntax;
 mod version;
 
 pub use grammar::{
-    Barrier, Base, Condition, Expansion, Function, Inner, Joint, Line, Merge, NumberOnly,
-    NumberTotal, OfKind, Part, Stage, Summary, Terminal,
+    Barrier, Base, Expansion, Function, Inner, Joint, Line, Merge, NumberChange, NumberOnly,
+    NumberTest, NumberTotal, OfKind, Part, Stage, Summary, Terminal, TextCondition,
 };
 pub use item_count::ItemCount;
 pub use kinds::{MOST_STAGES, NumberLine, TextLine};
@@ -21,8 +21,8 @@ pub use line::{Source, read_number_line, read_source, read_text_line, read_versi
 pub use meaning::one_reading;
 pub use pipeline::{
     Mapped, NumberBase, NumberBody, NumberFunction, NumberInner, NumberSource, NumberStage,
-    NumberSummary, NumberTerminal, NumberTest, Pipeline, TextBase, TextBody, TextEnd, TextFunction,
-    TextInner, TextMerge, TextStage, TextSummary, TextTerminal, TextTest, TextValue,
+    NumberSummary, NumberTerminal, Pipeline, TextBase, TextBody, TextEnd, TextFunction, TextInner,
+    TextMerge, TextStage, TextSummary, TextTerminal, TextTest, TextValue,
 };
 pub use ranges::{ClosedRange, OpenRange};
 pub use version::Version;

@@ -2,7 +2,8 @@
 //! collector takes the items that come to it; the stage `map length` alone leads from texts to numbers.
 
 use crate::grammar::{
-    Base, Expansion, Inner, Joint, Merge, NumberOnly, NumberTotal, Stage, Summary, Terminal,
+    Base, Expansion, Inner, Joint, Merge, NumberChange, NumberOnly, NumberTest, NumberTotal, Stage,
+    Summary, Terminal, TextCondition,
 };
 use crate::ranges::{ClosedRange, OpenRange};
 
@@ -46,12 +47,10 @@ pub enum NumberSource {
     Numbers(Vec<i64>),
 }
 
-/// What one number is mapped to. Sums and products wrap.
+/// What one number is mapped to.
 #[derive(Clone, Copy, PartialEq)]
 pub enum NumberFunction {
-    Add(i64),
-    Mul(i64),
-    Negate,
+    Change(NumberChange),
     /// The least remainder that isn't negative. The divisor is at least 1.
     Mod(i64),
     /// The number itself.
@@ -67,24 +66,8 @@ pub enum TextFunction {
     Itself,
 }
 
-/// What is asked of one number.
-#[derive(Clone, Copy, PartialEq)]
-pub enum NumberTest {
-    Less(i64),
-    Greater(i64),
-    Equals(i64),
-    /// The divisor is at least 1.
-    Divisible(i64),
-}
-
 /// What is asked of one text.
-#[derive(Clone, Copy, PartialEq)]
-pub enum TextTest<'a> {
-    Empty,
-    Starts(&'a str),
-    /// Its length is above the number.
-    Longer(u64),
-}
+pub type TextTest<'a> = TextCondition<&'a str>;
 
 /// A value of a text, and what follows by its kind: L behind the length, I behind the text itself.
 #[derive(Clone, Copy, PartialEq)]

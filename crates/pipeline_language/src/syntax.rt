@@ -8,14 +8,14 @@ ghost use Rattle.pipeline_language.specs.Syntax.{any_natural, base_names, base_o
 ghost use Rattle.file_words.specs.Words.{words_of};
 
 use crate::grammar::{
-    Barrier, Base, Condition, Expansion, Function, Inner, Joint, Line, Merge, NumberOnly,
-    NumberTotal, OfKind, Part, Stage, Summary, Terminal,
+    Barrier, Base, Expansion, Function, Inner, Joint, Line, Merge, NumberChange, NumberOnly,
+    NumberTest, NumberTotal, OfKind, Part, Stage, Summary, Terminal, TextCondition,
 };
 use crate::item_count::ItemCount;
 use crate::version::Version;
 use file_words::{FileError, Words};
 
-pub(crate) type AnyCondition<'a> = Condition<&'a str>;
+pub(crate) type AnyCondition<'a> = OfKind<NumberTest, TextCondition<&'a str>>;
 
 pub(crate) type AnyBase<'a> = Base<OfKind<NumberOnly, &'a str>>;
 
@@ -46,9 +46,9 @@ fn read_function(words: &mut Words<'_>) -> Result<Function, FileError>
     ensures { GetsAs as_read (function_of words.old) result words.new }
 {
     match words.any()? {
-        "add" => Ok(Function::Add(words.number(i64::MIN, i64::MAX)?)),
-        "mul" => Ok(Function::Mul(words.number(i64::MIN, i64::MAX)?)),
-        "negate" => Ok(Function::Negate),
+        "add" => Ok(Function::Change(NumberChange::Add(words.number(i64::MIN, i64::MAX)?))),
+        "mul" => Ok(Function::Change(NumberChange::Mul(words.number(i64::MIN, i64::MAX)?))),
+        "negate" => Ok(Function::Change(NumberChange::Negate)),
         "mod" => Ok(Function::Mod(words.number(1, i64::MAX)?)),
         "length" => Ok(Function::Length),
         "self" => Ok(Function::Itself),
@@ -61,13 +61,13 @@ fn read_condition<'a>(words: &mut Words<'a>) -> Result<AnyCondition<'a>, FileErr
     ensures { GetsAs condition_content (condition_of words.old) result words.new }
 {
     match words.any()? {
-        "less" => Ok(Condition::Less(words.number(i64::MIN, i64::MAX)?)),
-        "greater" => Ok(Condition::Greater(words.number(i64::MIN, i64::MAX)?)),
-        "equals" => Ok(Condition::Equals(words.number(i64::MIN, i64::MAX)?)),
-        "divisible" => Ok(Condition::Divisible(words.number(1, i64::MAX)?)),
-        "empty" => Ok(Condition::Empty),
-        "starts" => Ok(Condition::Starts(words.any()?)),
-        "longer" => Ok(Condition::Longer(words.natural(i64::MAX)?)),
+        "less" => Ok(OfKind::OfNumbers(NumberTest::Less(words.number(i64::MIN, i64::MAX)?))),
+        "greater" => Ok(OfKind::OfNumbers(NumberTest::Greater(words.number(i64::MIN, i64::MAX)?))),
+        "equals" => Ok(OfKind::OfNumbers(NumberTest::Equals(words.number(i64::MIN, i64::MAX)?))),
+        "divisible" => Ok(OfKind::OfNumbers(NumberTest::Divisible(words.number(1, i64::MAX)?))),
+        "empty" => Ok(OfKind::OfTexts(TextCondition::Empty)),
+        "starts" => Ok(OfKind::OfTexts(TextCondition::Starts(words.any()?))),
+        "longer" => Ok(OfKind::OfTexts(TextCondition::Longer(words.natural(i64::MAX)?))),
         _ => Err(FileError::UnknownWord),
     }
 }

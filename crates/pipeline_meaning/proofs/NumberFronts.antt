@@ -7,7 +7,7 @@ use Rattle.pipeline_meaning.specs.Walks.{copies-all, all-one-more}
 use Rattle.pipeline_meaning.specs.declared.{number_steps.NumberStep.NumberStep, number_steps.NumberSteps.NumberSteps, functions.NumberMapping.NumberMapping, functions.NumberMapping.TheVariants.Itself, functions.NumberCheck.NumberCheck}
 use Rattle.pipeline_meaning.specs.Functions.{mapping_image, number_image, number_holds, check_holds}
 use Rattle.std.proofs.Math.Bool.{and-true, and-false, and_assoc}
-use Rattle.pipeline_language.specs.{declared.pipeline.NumberFunction.NumberFunction, declared.pipeline.NumberTest.NumberTest, Content.NumberStage}
+use Rattle.pipeline_language.specs.{declared.pipeline.NumberFunction.NumberFunction, declared.grammar.NumberTest.NumberTest, Content.NumberStage}
 use Rattle.pipeline_meaning.specs.Stages.{number_stage, is_map_stage}
 use Rattle.stream_functions.specs.Lists.{map-flat_map, filter-flat_map}
 use Rattle.pipeline_meaning.specs.declared.number_steps.NumberStep.TheVariants.{Map, Filter}

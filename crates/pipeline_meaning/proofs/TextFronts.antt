@@ -5,7 +5,7 @@ use Rattle.std.proofs.{Math.Bool.and-true, lemmas.List.map-id, lemmas.List.Folds
 use Rattle.std.proofs.lemmas.List.Splits.{slice_split_first, slice_split_none}
 use Rattle.std.proofs.lemmas.Str.Pattern.{split_once_first, split_parts, IsSplitOnceResult}
 use Rattle.file_words.specs.Words.{words_of}
-use Rattle.pipeline_language.specs.{declared.pipeline.TextTest.TextTest, Content.TextStage}
+use Rattle.pipeline_language.specs.Content.{TextStage, TextTest}
 use Rattle.pipeline_language.specs.declared.grammar.Stage.TheVariants as stages
 use Rattle.pipeline_meaning.specs.{Functions.text_holds, declared.functions.TextCheck.TextCheck, declared.text_steps.TextStep.TextStep, declared.text_steps.TextSteps.TextSteps}
 use Rattle.pipeline_meaning.specs.Stages.{text_stage, is_map_stage}

@@ -6,16 +6,17 @@ use Rattle.std.specs.Ordering.{int_eq, int_cmp, is_lt, is_gt}
 use Rattle.stages.specs.Choices.{larger, smaller, first_of, last_of, either-value}
 use Rattle.stages.specs.{Products.wrapped_product, Operators.IsAssociative}
 use Rattle.stages.specs.Wrapping.{wrapped, wrapped_sum, wrapped-value, wrapped_sum_assoc}
-use Rattle.pipeline_language.specs.declared.{pipeline.NumberFunction.NumberFunction, pipeline.NumberTest.NumberTest, pipeline.TextTest.TextTest, grammar.Merge.Merge, pipeline.TextMerge.TextMerge}
-use Rattle.pipeline_language.specs.declared.pipeline.NumberFunction.TheVariants.{Add, Mul, Negate, Mod, Itself}
-use Rattle.pipeline_language.specs.declared.pipeline.NumberTest.TheVariants.{Less, Greater, Equals, Divisible}
-use Rattle.pipeline_language.specs.declared.pipeline.TextTest.TheVariants.{Empty, Starts, Longer}
-use Rattle.pipeline_meaning.specs.declared.functions.{NumberChange.NumberChange, NumberMapping.NumberMapping, NumberComparison.NumberComparison, NumberCheck.NumberCheck, NumberJoining.NumberJoining, NumberMerging.NumberMerging}
+use Rattle.pipeline_language.specs.declared.{pipeline.NumberFunction.NumberFunction, grammar.NumberChange.NumberChange, grammar.NumberTest.NumberTest, grammar.TextCondition.TextCondition, grammar.Merge.Merge, pipeline.TextMerge.TextMerge}
+use Rattle.pipeline_language.specs.declared.grammar.NumberChange.TheVariants.{Add, Mul, Negate}
+use Rattle.pipeline_language.specs.declared.pipeline.NumberFunction.TheVariants.{Change, Mod, Itself}
+use Rattle.pipeline_language.specs.declared.grammar.NumberTest.TheVariants.{Less, Greater, Equals, Divisible}
+use Rattle.pipeline_language.specs.declared.grammar.TextCondition.TheVariants.{Empty, Starts, Longer}
+use Rattle.pipeline_language.specs.Content.{TextTest, text_content}
+use Rattle.pipeline_meaning.specs.declared.functions.{NumberMapping.NumberMapping, NumberComparison.NumberComparison, NumberCheck.NumberCheck, NumberJoining.NumberJoining, NumberMerging.NumberMerging}
 use Rattle.spliterator.specs.Values.{IsI64, int_cmp-total}
 use Rattle.stream_functions.specs.Remainders.{remainder-value}
 use Rattle.pipeline_language.specs.declared.grammar.Merge.TheVariants as numbers
 use Rattle.pipeline_language.specs.declared.pipeline.TextMerge.TheVariants as texts
-use Rattle.pipeline_meaning.specs.declared.functions.NumberChange.TheVariants as changes
 use Rattle.pipeline_meaning.specs.declared.functions.NumberMapping.TheVariants as mappings
 use Rattle.pipeline_meaning.specs.declared.functions.NumberComparison.TheVariants as comparisons
 use Rattle.pipeline_meaning.specs.declared.functions.NumberCheck.TheVariants as checks
@@ -31,10 +32,13 @@ abbrev pub modulo : ℤ → ℤ → ℤ
 modulo x n = int_rem_euclid x (divisor n)
 
 -- Sums, products and negations wrap, as an i64 does.
+abbrev pub change_image : NumberChange → ℤ → ℤ
+change_image (Add n) x = wrapped_sum x n
+change_image (Mul n) x = wrapped_product x n
+change_image Negate x = wrapped (neg_ℤ x)
+
 abbrev pub number_image : NumberFunction → ℤ → ℤ
-number_image (Add n) x = wrapped_sum x n
-number_image (Mul n) x = wrapped_product x n
-number_image Negate x = wrapped (neg_ℤ x)
+number_image (Change change) x = change_image change x
 number_image (Mod n) x = modulo x n
 number_image Itself x = x
 
@@ -48,10 +52,14 @@ number_holds (Greater n) x = int_lt n x
 number_holds (Equals n) x = int_eq x n
 number_holds (Divisible n) x = int_eq (modulo x n) (pos 0)
 
+-- where a text of the test has this content
+abbrev pub condition_holds : {T : Type 0} → (T → List ℕ) → TextCondition T → List ℕ → Bool
+condition_holds content Empty text = length text == 0
+condition_holds content (Starts front) text = starts_with ◌==◌ text (content front)
+condition_holds content (Longer n) text = nat_lt n (length text)
+
 abbrev pub text_holds : TextTest → List ℕ → Bool
-text_holds Empty text = length text == 0
-text_holds (Starts front) text = starts_with ◌==◌ text front.now
-text_holds (Longer n) text = nat_lt n (length text)
+text_holds p text = condition_holds text_content p text
 
 -- of two values of one key, the earlier before the later
 abbrev pub number_join : Merge → ℤ → ℤ → ℤ
@@ -66,11 +74,6 @@ text_join texts.First = first_of
 text_join texts.Last = last_of
 
 -- What the functions are, as they are prepared.
-
-abbrev pub change_image : NumberChange → ℤ → ℤ
-change_image (changes.Add n) x = wrapped_sum x n
-change_image (changes.Mul n) x = wrapped_product x n
-change_image changes.Negate x = wrapped (neg_ℤ x)
 
 abbrev pub mapping_image : NumberMapping → ℤ → ℤ
 mapping_image mappings.Itself x = x
@@ -101,9 +104,9 @@ merging_join (mergings.Joined joining) = joining_join joining
 pub mapping_image-value : (f : NumberMapping) (x : ℤ) → IsI64 x → IsI64 (mapping_image f x)
 mapping_image-value mappings.Itself x h = h
 mapping_image-value (mappings.Mod d) x h = remainder-value x d.number d.least d.most
-mapping_image-value (mappings.Change (changes.Add n)) x h = wrapped-value (x +ℤ n)
-mapping_image-value (mappings.Change (changes.Mul n)) x h = wrapped-value (x *ℤ n)
-mapping_image-value (mappings.Change changes.Negate) x h = wrapped-value (neg_ℤ x)
+mapping_image-value (mappings.Change (Add n)) x h = wrapped-value (x +ℤ n)
+mapping_image-value (mappings.Change (Mul n)) x h = wrapped-value (x *ℤ n)
+mapping_image-value (mappings.Change Negate) x h = wrapped-value (neg_ℤ x)
 
 pub merging_join-value : (merging : NumberMerging) (x y : ℤ) → IsI64 x → IsI64 y → IsI64 (merging_join merging x y)
 merging_join-value mergings.First x y h k = h

@@ -8,10 +8,10 @@ use Rattle.file_words.specs.Words.{words_of}
 use Rattle.pipeline_language.specs.declared.grammar.Barrier as barriers
 use Rattle.pipeline_language.specs.declared.grammar.Barrier.TheVariants.{Distinct, Counted, While}
 use Rattle.pipeline_language.specs.declared.grammar.Part.TheVariants.{Front, Rest}
-use Rattle.pipeline_language.specs.declared.{grammar.Expansion.Expansion, grammar.Part.Part, grammar.Stage.Stage, item_count.ItemCount.ItemCount, pipeline.NumberFunction.NumberFunction, pipeline.NumberTest.NumberTest, pipeline.TextTest.TextTest}
+use Rattle.pipeline_language.specs.declared.{grammar.Expansion.Expansion, grammar.Part.Part, grammar.Stage.Stage, item_count.ItemCount.ItemCount, grammar.NumberTest.NumberTest, pipeline.NumberFunction.NumberFunction}
 use Rattle.pipeline_language.specs.declared.grammar.Expansion.TheVariants.{Repeat, Words}
 use Rattle.pipeline_language.specs.declared.grammar.Stage.TheVariants.{Map, Filter, FlatMap, Barrier}
-use Rattle.pipeline_language.specs.Content.{NumberStage, TextStage}
+use Rattle.pipeline_language.specs.Content.{NumberStage, TextStage, TextTest}
 use Rattle.pipeline_meaning.specs.Functions.{number_image, number_holds, text_holds}
 use Rattle.pipeline_meaning.specs.Walks.{one_after_other}
 

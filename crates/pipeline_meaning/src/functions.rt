@@ -5,7 +5,7 @@ ghost use Rattle.spliterator.specs.Values.{IsI64};
 ghost use Rattle.stages.specs.Operators.{IsAssociative};
 ghost use Rattle.pipeline_meaning.specs.Functions.{number_image, number_holds, number_join, text_holds, text_join, change_image, mapping_image, comparison_holds, check_holds, joining_join, merging_join, mapping_image-value, merging_join-value, text_join-value};
 
-use pipeline_language::{Merge, NumberFunction, NumberTest, TextMerge, TextTest};
+use pipeline_language::{Merge, NumberChange, NumberFunction, NumberTest, TextMerge, TextTest};
 use spliterator::{NoMemory, Text, Value};
 use stages::{Mapping, Operator, Test};
 use stream_functions::{
@@ -13,23 +13,14 @@ use stream_functions::{
     keep_runs, map_all, remainders,
 };
 
-/// A sum, a product or the number's negative, each wrapped.
-#[derive(Clone, Copy)]
-pub enum NumberChange {
-    Add(i64),
-    Mul(i64),
-    Negate,
-}
-
-impl NumberChange {
-    fn image_of(&self, x: i64) -> i64
-        ensures { result ≡ change_image self.now x }
-    {
-        match self {
-            NumberChange::Add(n) => Plus(*n).image_of(&x),
-            NumberChange::Mul(n) => Times(*n).image_of(&x),
-            NumberChange::Negate => Negated.image_of(&x),
-        }
+/// What a number is changed to.
+fn changed(change: NumberChange, x: i64) -> i64
+    ensures { result ≡ change_image change x }
+{
+    match change {
+        NumberChange::Add(n) => Plus(n).image_of(&x),
+        NumberChange::Mul(n) => Times(n).image_of(&x),
+        NumberChange::Negate => Negated.image_of(&x),
     }
 }
 
@@ -47,9 +38,7 @@ impl NumberMapping {
         ensures { ⟦<NumberMapping as Mapping<i64>>⟧.image result ≡ number_image function }
     {
         match function {
-            NumberFunction::Add(n) => NumberMapping::Change(NumberChange::Add(n)),
-            NumberFunction::Mul(n) => NumberMapping::Change(NumberChange::Mul(n)),
-            NumberFunction::Negate => NumberMapping::Change(NumberChange::Negate),
+            NumberFunction::Change(change) => NumberMapping::Change(change),
             NumberFunction::Mod(n) => NumberMapping::Mod(Divisor::new(n)),
             NumberFunction::Itself => NumberMapping::Itself,
         }
@@ -61,7 +50,7 @@ impl NumberMapping {
         match self {
             NumberMapping::Itself => x,
             NumberMapping::Mod(divisor) => divisor.remainder(x),
-            NumberMapping::Change(change) => change.image_of(x),
+            NumberMapping::Change(change) => changed(*change, x),
         }
     }
 }

@@ -14,8 +14,8 @@ mod text_summaries;
 
 pub use adapted::{Adapted, Adapting};
 pub use functions::{
-    NumberChange, NumberCheck, NumberComparison, NumberJoining, NumberMapping, NumberMerging,
-    TextCheck, TextMerging,
+    NumberCheck, NumberComparison, NumberJoining, NumberMapping, NumberMerging, TextCheck,
+    TextMerging,
 };
 pub use number_bases::{NumberBaseCollector, NumberBaseContainer, NumberBaseResult, number_base};
 pub use number_steps::NumberSteps;

@@ -9,21 +9,20 @@ use Rattle.collectors.specs.NestedLaws.{fails}
 use Rattle.collectors.specs.Reductions.{first, reduced}
 use Rattle.parallel_streams.specs.Terminals.{all_meet, any_meets}
 use Rattle.pipeline_language.specs.declared.grammar.Barrier.TheVariants.{Distinct, Counted, While}
-use Rattle.pipeline_language.specs.{declared.item_count.ItemCount.ItemCount, Syntax.Condition, declared.grammar.Merge.Merge, declared.pipeline.NumberFunction.NumberFunction, declared.pipeline.NumberTest.NumberTest, declared.grammar.Function.TheVariants.Length, declared.pipeline.TextFunction.TextFunction, declared.pipeline.TextMerge.TextMerge, declared.pipeline.TextTest.TextTest, declared.pipeline.Pipeline.Pipeline, declared.pipeline.TextEnd.TextEnd}
-use Rattle.pipeline_language.specs.Content.{count_content, NumberBase, NumberInner, NumberStage, NumberSummary, NumberTerminal, number_base, number_function, number_inner, number_stage, number_summary, number_terminal, number_test, TextBase, TextInner, TextStage, TextSummary, TextTerminal, TextValue, text_base, text_function, text_inner, text_merge, text_stage, text_summary, text_terminal, text_test, text_value, program_of, text_end}
+use Rattle.pipeline_language.specs.{declared.item_count.ItemCount.ItemCount, Syntax.Condition, declared.grammar.Merge.Merge, declared.pipeline.NumberFunction.NumberFunction, declared.grammar.NumberTest.NumberTest, declared.grammar.Function.TheVariants.Length, declared.pipeline.TextFunction.TextFunction, declared.pipeline.TextMerge.TextMerge, declared.pipeline.Pipeline.Pipeline, declared.pipeline.TextEnd.TextEnd}
+use Rattle.pipeline_language.specs.Content.{count_content, NumberBase, NumberInner, NumberStage, NumberSummary, NumberTerminal, number_base, number_function, number_inner, number_stage, number_summary, number_terminal, number_test, TextBase, TextInner, TextStage, TextSummary, TextTerminal, TextTest, TextValue, text_base, text_function, text_inner, text_merge, text_stage, text_summary, text_terminal, text_test, text_value, program_of, text_end}
 use Rattle.pipeline_meaning.specs.Stages.{barrier_list, part_list, part-map}
 use Rattle.value_text.specs.Texts.{entry_text, groups_text, itself, list_text, merged_text, optional_text, partition_text, parts_text, strict_text, with_commas, pair_text, truth_text}
 use Rattle.pipeline_value.specs.Value.{Item, Number, Text, barrier_items, holds, item_text, same_item, first_repeat, repeat_or, strict_told, image, item_number, joined, stage_items, stages_items, base_text, inner_text, summary_text, terminal_told, expanded, program_told}
 use Rattle.stages.specs.Wrapping.{wrapped}
 use Rattle.pipeline_language.specs.declared.pipeline.NumberFunction.TheVariants.{Itself}
-use Rattle.pipeline_language.specs.declared.pipeline.NumberTest.TheVariants.{Less}
 use Rattle.pipeline_meaning.specs.Functions.{number_holds, number_image, number_join, text_holds, text_join, text_length}
 use Rattle.pipeline_meaning.specs.Summaries.{number_base_text, number_inner_text, number_summary_text, text_base_text, text_groups_text, text_inner_text, text_summary_text}
 use Rattle.pipeline_value.specs.Typed.{number_told, text_map_text, text_strict_told, text_told, pipeline_told, text_end_told}
 use Rattle.file_words.specs.Words.{words_of}
 use Rattle.pipeline_language.specs.declared.grammar.Expansion.TheVariants.{Repeat, Words}
 use Rattle.pipeline_language.specs.declared.grammar.Joint.TheVariants.{Plain, Within}
-use Rattle.pipeline_language.specs.declared.pipeline.TextTest.TheVariants.{Empty}
+use Rattle.pipeline_language.specs.declared.grammar.TextCondition.TheVariants.{Empty}
 use Rattle.sources.specs.Integers.{integers_between}
 use Rattle.pipeline_language.specs.declared.pipeline.NumberSource.TheVariants.{Range, Closed, Numbers}
 use Rattle.pipeline_language.specs.Grammar as grammar
@@ -195,7 +194,6 @@ image-number Itself x = refl
 image-number f x = refl
 
 holds-number : (p : NumberTest) (x : ℤ) → holds (number_test p) (Number x) ≡ number_holds p x
-holds-number (Less n) x = refl
 holds-number p x = refl
 
 pub joined-number : (m : Merge) (x y : ℤ) → joined m (Number x) (Number y) ≡ Number (number_join m x y)

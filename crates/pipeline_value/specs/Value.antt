@@ -1,8 +1,8 @@
 -- The items of a pipeline, and what its stages make of them. A number is asked of no text and a text of no number in a file that means
 -- something; that each stands for the other here, by its length and by its digits, leaves nothing open.
-use Rattle.std.specs.Prelude.{ℕ, ℤ, pos, neg_ℤ, ◌+ℤ◌, Bool, false, nat_lt, int_lt, bytes_eq, ◌==◌, List, map, filter, flat_map, length, ◌≡◌, not, [], ◌∷◌, ◌++◌, fold, string_bytes, Option, Some, None, Result, Ok, Err, if◌then◌else◌}
+use Rattle.std.specs.Prelude.{ℕ, ℤ, pos, ◌+ℤ◌, Bool, false, bytes_eq, List, map, filter, flat_map, length, ◌≡◌, not, [], ◌∷◌, ◌++◌, fold, string_bytes, Option, Some, None, Result, Ok, Err, if◌then◌else◌}
 use Rattle.std.{proofs.Math.ListN.replicate, specs.Fmt.signed_decimal}
-use Rattle.std.specs.List.{starts_with, list_any, prefix_len}
+use Rattle.std.specs.List.{list_any, prefix_len}
 use Rattle.std.specs.Ordering.{int_eq, int_cmp}
 use Rattle.sources.specs.Integers.{integers_between}
 use Rattle.stages.specs.Choices.{larger, smaller}
@@ -10,13 +10,12 @@ use Rattle.stages.specs.{Distinct.distinct, Products.wrapped_product}
 use Rattle.stages.specs.Wrapping.{wrapped, wrapped_sum}
 use Rattle.file_words.specs.Words.{words_of}
 use Rattle.pipeline_language.specs.declared.grammar.Barrier.TheVariants.{Distinct, Counted, While}
-use Rattle.pipeline_language.specs.declared.grammar.Condition.TheVariants.{Less, Greater, Equals, Divisible, Empty, Starts, Longer}
 use Rattle.pipeline_language.specs.declared.grammar.{Expansion.Expansion, Function.Function, Merge.Merge}
 use Rattle.pipeline_language.specs.declared.grammar.Expansion.TheVariants.{Repeat, Words}
-use Rattle.pipeline_language.specs.declared.grammar.Function.TheVariants.{Add, Mul, Negate, Mod, Length, Itself}
+use Rattle.pipeline_language.specs.declared.grammar.Function.TheVariants.{Change, Mod, Length, Itself}
 use Rattle.pipeline_language.specs.declared.grammar.Stage.TheVariants.{Map, Filter, FlatMap, Barrier}
 use Rattle.pipeline_language.specs.Syntax.{Barring, Condition, Origin, Range, Closed, Numbers, Lines, Stage, Base, Inner, Program, Summary, Terminal}
-use Rattle.pipeline_meaning.specs.Functions.{modulo, text_length}
+use Rattle.pipeline_meaning.specs.Functions.{change_image, condition_holds, modulo, number_holds, text_length}
 use Rattle.pipeline_meaning.specs.Stages.{part_list}
 use Rattle.pipeline_meaning.specs.Walks.{one_after_other}
 use Rattle.collectors.specs.Reductions.{delimited, first, reduced}
@@ -57,23 +56,15 @@ same_item (Text t) (Text u) = bytes_eq t u
 same_item (Number n) (Text text) = false
 same_item (Text text) (Number n) = false
 
--- Sums, products and negations wrap, as an i64 does.
 abbrev pub image : Function → Item → Item
-image (Add n) x = Number (wrapped_sum (item_number x) n)
-image (Mul n) x = Number (wrapped_product (item_number x) n)
-image Negate x = Number (wrapped (neg_ℤ (item_number x)))
+image (Change change) x = Number (change_image change (item_number x))
 image (Mod n) x = Number (modulo (item_number x) n)
 image Length x = Number (text_length (item_text x))
 image Itself x = x
 
 abbrev pub holds : Condition → Item → Bool
-holds (Less n) x = int_lt (item_number x) n
-holds (Greater n) x = int_lt n (item_number x)
-holds (Equals n) x = int_eq (item_number x) n
-holds (Divisible n) x = int_eq (modulo (item_number x) n) (pos 0)
-holds Empty x = length (item_text x) == 0
-holds (Starts front) x = starts_with ◌==◌ (item_text x) front
-holds (Longer n) x = nat_lt n (length (item_text x))
+holds (OfNumbers p) x = number_holds p (item_number x)
+holds (OfTexts p) x = condition_holds (λ text. text) p (item_text x)
 
 -- of two values of one key, the earlier before the later
 abbrev pub joined : Merge → Item → Item → Item
