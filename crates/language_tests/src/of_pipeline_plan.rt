@@ -2,7 +2,9 @@
 
 ghost use Rattle.std.specs.Prelude.{◌<◌, ◌^◌};
 
-use pipeline_language::{Barrier, ItemCount, NumberFunction, NumberStage, NumberTest, Part};
+use pipeline_language::{
+    Barrier, ItemCount, NumberChange, NumberFunction, NumberStage, NumberTest, Part,
+};
 use pipeline_plan::{NumberRange, Numbers, Plan, known_sum, optimised};
 use sources::RangeSplit;
 use std::process::Abort;
@@ -49,7 +51,7 @@ fn left<R: Abort>(rt: &R, stages: Vec<NumberStage>) -> (usize, Option<i64>) {
 
 #[test]
 fn a_range_absorbs(rt: HostRuntime) -> Result<(), Fail> {
-    let negate = NumberStage::Map(NumberFunction::Negate);
+    let negate = NumberStage::Map(NumberFunction::Change(NumberChange::Negate));
     let stages = vec![in rt.alloc(); negate, skip(1), limit(3)]?;
     assert!(rt; left(&rt, stages) == (0, Some(-6)));
     let less = NumberStage::Filter(NumberTest::Less(4));

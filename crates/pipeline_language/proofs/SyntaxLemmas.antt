@@ -5,6 +5,7 @@ use Rattle.pipeline_language.specs.{declared.version.Version.Version, Reading.by
 use Rattle.pipeline_language.specs.declared.version.Version.TheVariants.{One, Two}
 use Rattle.pipeline_language.specs.Form.{number, divisor, natural, all_known}
 use Rattle.file_words.specs.Words.{lowest, highest}
+use Rattle.pipeline_language.specs.declared.grammar.AllItems.TheVariants.{Count, FindFirst, ToList}
 use Rattle.pipeline_language.specs.declared.grammar.Base.TheVariants as bases
 use Rattle.pipeline_language.specs.declared.grammar.Inner.TheVariants as inners
 use Rattle.pipeline_language.specs.declared.grammar.Line.TheVariants as body_lines
@@ -14,8 +15,9 @@ use Rattle.pipeline_language.specs.declared.grammar.NumberOnly.TheVariants as on
 use Rattle.pipeline_language.specs.declared.grammar.NumberTest.TheVariants.{Less, Greater, Equals, Divisible}
 use Rattle.pipeline_language.specs.declared.grammar.NumberTotal.TheVariants as totals
 use Rattle.pipeline_language.specs.declared.grammar.Part.TheVariants.{Front, Rest}
+use Rattle.pipeline_language.specs.declared.grammar.Quantifier.TheVariants.{AllMatch, AnyMatch, NoneMatch}
 use Rattle.pipeline_language.specs.declared.grammar.Summary.TheVariants as summaries
-use Rattle.pipeline_language.specs.Syntax.{AllMatch, AnyMatch, Barrier, Change, Count, Counted, Distinct, Empty, Expansion, Filter, FindFirst, FlatMap, Function, GroupBy, Itself, Length, Longer, Map, Merge, Mod, NoneMatch, OfNumbers, OfTexts, Own, Partition, Repeat, Starts, Teeing, ToList, ToMap, ToMapStrict, While, Words, Condition, Base, Inner, Summary, Origin, Range, Closed, Numbers, Lines, BodyLine, function_slots, condition_slots, base_slots, inner_slots, summary_slots, merge_slots, expansion_slots, terminal_slots, body_slots, origin_slots, has_new_names, summary_known, terminal_known, body_known, function_names, function_of, condition_names, condition_of, base_names, base_of, inner_names, inner_of, summary_names, summary_of, merge_names, merge_of, expansion_names, expansion_of, body_names, new_terminal_names, terminal_names, body_of, origin_names, origin_words, collecting_names}
+use Rattle.pipeline_language.specs.Syntax.{Barrier, Change, Counted, Distinct, Empty, Expansion, Filter, FlatMap, Function, GroupBy, Itself, Length, Longer, Map, Match, Merge, Mod, OfNumbers, OfTexts, Own, Partition, Repeat, Starts, Teeing, ToMap, ToMapStrict, While, Whole, Words, Condition, Base, Inner, Summary, Origin, Range, Closed, Numbers, Lines, BodyLine, function_slots, condition_slots, base_slots, inner_slots, summary_slots, merge_slots, expansion_slots, terminal_slots, body_slots, origin_slots, has_new_names, summary_known, terminal_known, body_known, function_names, function_of, condition_names, condition_of, base_names, base_of, inner_names, inner_of, summary_names, summary_of, merge_names, merge_of, expansion_names, expansion_of, body_names, new_terminal_names, terminal_names, body_of, origin_names, origin_words, collecting_names}
 use Rattle.file_words.specs.WordReading.{next_number, next_natural}
 use Rattle.pipeline_language.proofs.PhraseLemmas.{Anything, AtEnd, Phrase, Knows, Leads, nothing_phrase, both_phrase, no_leads, name_lead, either_lead, made_of_leads, named_knows, either_knows, by_name_phrase, at_end, number_phrase, natural_phrase, all_numbers_phrase, word_phrase, joint_phrase}
 
@@ -173,12 +175,12 @@ terminal_leads version = name_lead (codes "sum") (λ _. Own (OfNumbers totals.Su
     (name_lead (codes "product") (λ _. Own (OfNumbers totals.Product)) (λ _. refl) (λ _ _. refl) (at_end nothing_phrase)
     (name_lead (codes "max") (λ _. Own (OfNumbers totals.Max)) (λ _. refl) (λ _ _. refl) (at_end nothing_phrase)
     (name_lead (codes "min") (λ _. Own (OfNumbers totals.Min)) (λ _. refl) (λ _ _. refl) (at_end nothing_phrase)
-    (name_lead (codes "count") (λ _. Count) (λ _. refl) (λ _ _. refl) (at_end nothing_phrase)
-    (name_lead (codes "findfirst") (λ _. FindFirst) (λ _. refl) (λ _ _. refl) (at_end nothing_phrase)
-    (name_lead (codes "tolist") (λ _. ToList) (λ _. refl) (λ _ _. refl) (at_end nothing_phrase)
-    (name_lead (codes "allmatch") AllMatch (λ _. refl) (λ _ _. refl) (at_end condition_phrase)
-    (name_lead (codes "anymatch") AnyMatch (λ _. refl) (λ _ _. refl) (at_end condition_phrase)
-    (name_lead (codes "nonematch") NoneMatch (λ _. refl) (λ _ _. refl) (at_end condition_phrase)
+    (name_lead (codes "count") (λ _. Whole Count) (λ _. refl) (λ _ _. refl) (at_end nothing_phrase)
+    (name_lead (codes "findfirst") (λ _. Whole FindFirst) (λ _. refl) (λ _ _. refl) (at_end nothing_phrase)
+    (name_lead (codes "tolist") (λ _. Whole ToList) (λ _. refl) (λ _ _. refl) (at_end nothing_phrase)
+    (name_lead (codes "allmatch") (λ p. Match AllMatch p) (λ _. refl) (λ _ _. refl) (at_end condition_phrase)
+    (name_lead (codes "anymatch") (λ p. Match AnyMatch p) (λ _. refl) (λ _ _. refl) (at_end condition_phrase)
+    (name_lead (codes "nonematch") (λ p. Match NoneMatch p) (λ _. refl) (λ _ _. refl) (at_end condition_phrase)
     (name_lead (codes "joining") (λ j. Own (OfTexts j)) (λ _. refl) (λ _ _. refl) joint_phrase
     (name_lead (codes "groupby") (λ p. GroupBy p.0 p.1) (λ _. refl) (λ _ k. k) (at_end (both_phrase function_phrase (summary_phrase version)))
     (name_lead (codes "partition") (λ p. Partition p.0 p.1) (λ _. refl) (λ _ k. k) (at_end (both_phrase condition_phrase (summary_phrase version)))
@@ -208,6 +210,8 @@ body_knows : (version : Version) (x : BodyLine) → body_known version x ≡ tru
 unfolding terminal_names collecting_names
 body_knows version (body_lines.Stage (Barrier (Counted Front n))) known = named_knows (body_leads version) (_, refl, refl, refl)
 body_knows version (body_lines.Stage (Barrier (While Front p))) known = named_knows (body_leads version) (_, refl, refl, refl)
+body_knows version (body_lines.Terminal (Whole Count)) known = named_knows (body_leads version) (_, refl, refl, refl)
+body_knows version (body_lines.Terminal (Match AllMatch p)) known = named_knows (body_leads version) (_, refl, refl, refl)
 body_knows version (body_lines.Terminal (Own (OfNumbers totals.Sum))) known = named_knows (body_leads version) (_, refl, refl, refl)
 body_knows version (body_lines.Terminal (ToMap key (value, merge))) known = named_knows (body_leads version) (_, refl, refl, refl)
 body_knows version (body_lines.Terminal (ToMapStrict key value)) known = strict_knows version key value known
@@ -215,7 +219,7 @@ body_knows version x known = named_knows (body_leads version) (_, refl, refl, kn
 
 pub body_phrase : (version : Version) → Phrase AtEnd (body_known version) body_slots (body_of version)
 unfolding body_of
-body_phrase version = by_name_phrase (body_leads version) (body_lines.Terminal Count) refl (body_knows version)
+body_phrase version = by_name_phrase (body_leads version) (body_lines.Terminal (Whole Count)) refl (body_knows version)
 
 -- a source
 abbrev origin_leads : Leads AtEnd all_known origin_slots origin_names

@@ -12,7 +12,7 @@ pub use Rattle.pipeline_language.specs.declared.grammar.OfKind.TheVariants.{OfNu
 pub use Rattle.pipeline_language.specs.declared.grammar.Stage.TheVariants.{Map, Filter, FlatMap, Barrier}
 use Rattle.pipeline_language.specs.declared.grammar.Summary.TheVariants as summaries
 pub use Rattle.pipeline_language.specs.declared.grammar.TextCondition.TheVariants.{Empty, Starts, Longer}
-pub use Rattle.pipeline_language.specs.declared.grammar.Terminal.TheVariants.{Count, FindFirst, ToList, AllMatch, AnyMatch, NoneMatch, GroupBy, Partition, ToMap, ToMapStrict, Teeing, Own}
+pub use Rattle.pipeline_language.specs.declared.grammar.Terminal.TheVariants.{Whole, Match, GroupBy, Partition, ToMap, ToMapStrict, Teeing, Own}
 
 abbrev pub of_kind : {N M T U : Type 0} → (N → M) → (T → U) → OfKind N T → OfKind M U
 of_kind number text (OfNumbers x) = OfNumbers (number x)
@@ -57,12 +57,8 @@ summary function mapped test base inner (summaries.Filtering p i) = summaries.Fi
 summary function mapped test base inner (summaries.GroupBy f i) = summaries.GroupBy (function f) (inner i)
 
 abbrev pub terminal : {F G P Q S R V W O N : Type 0} → (F → G) → (P → Q) → (S → R) → (V → W) → (O → N) → Terminal F P S V O → Terminal G Q R W N
-terminal function test summary value own Count = Count
-terminal function test summary value own FindFirst = FindFirst
-terminal function test summary value own ToList = ToList
-terminal function test summary value own (AllMatch p) = AllMatch (test p)
-terminal function test summary value own (AnyMatch p) = AnyMatch (test p)
-terminal function test summary value own (NoneMatch p) = NoneMatch (test p)
+terminal function test summary value own (Whole made) = Whole made
+terminal function test summary value own (Match of p) = Match of (test p)
 terminal function test summary value own (GroupBy f s) = GroupBy (function f) (summary s)
 terminal function test summary value own (Partition p s) = Partition (test p) (summary s)
 terminal function test summary value own (ToMap key v) = ToMap (function key) (value v)

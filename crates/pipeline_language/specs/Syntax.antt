@@ -4,12 +4,13 @@ use Rattle.file_words.specs.declared.fault.FileError.TheVariants.{RangeTooLong, 
 use Rattle.pipeline_language.specs.{declared.version.Version.Version, Steps.steps_up}
 use Rattle.pipeline_language.specs.declared.version.Version.TheVariants.{One, Two}
 use Rattle.pipeline_language.specs.Form.{Slot, Name, EitherName, Number, AnyWord, number, natural, divisor, Forms, all_known}
-pub use Rattle.pipeline_language.specs.Grammar.{Distinct, Counted, While, Empty, Starts, Longer, Expansion, Repeat, Words, Function, Change, Mod, Length, Itself, Plain, Within, Merge, OfNumbers, OfTexts, Map, Filter, FlatMap, Barrier, Count, FindFirst, ToList, AllMatch, AnyMatch, NoneMatch, GroupBy, Partition, ToMap, ToMapStrict, Teeing, Own}
+pub use Rattle.pipeline_language.specs.Grammar.{Distinct, Counted, While, Empty, Starts, Longer, Expansion, Repeat, Words, Function, Change, Mod, Length, Itself, Plain, Within, Merge, OfNumbers, OfTexts, Map, Filter, FlatMap, Barrier, Whole, Match, GroupBy, Partition, ToMap, ToMapStrict, Teeing, Own}
 use Rattle.file_words.specs.declared.fault.FileError.{FileError}
 use Rattle.file_words.specs.Words.{lowest, highest}
 use Rattle.file_words.specs.WordReading.{◌>>=◌, Left, is_done, Reader, next_word, next_number, next_natural, all_numbers}
 use Rattle.pipeline_language.specs.Reading.{ByName, named, made_of, unknown, by_name, nothing, both}
 use Rattle.pipeline_language.specs.Grammar as grammar
+use Rattle.pipeline_language.specs.declared.grammar.AllItems.TheVariants.{Count, FindFirst, ToList}
 use Rattle.pipeline_language.specs.declared.grammar.Base.TheVariants as bases
 use Rattle.pipeline_language.specs.declared.grammar.Inner.TheVariants as inners
 use Rattle.pipeline_language.specs.declared.grammar.Line.TheVariants as body_lines
@@ -19,6 +20,7 @@ use Rattle.pipeline_language.specs.declared.grammar.NumberOnly.TheVariants as on
 use Rattle.pipeline_language.specs.declared.grammar.NumberTest.TheVariants.{Less, Greater, Equals, Divisible}
 use Rattle.pipeline_language.specs.declared.grammar.NumberTotal.TheVariants as totals
 use Rattle.pipeline_language.specs.declared.grammar.Part.TheVariants.{Front, Rest}
+use Rattle.pipeline_language.specs.declared.grammar.Quantifier.TheVariants.{AllMatch, AnyMatch, NoneMatch}
 use Rattle.pipeline_language.specs.declared.grammar.Summary.TheVariants as summaries
 use Rattle.pipeline_language.specs.declared.grammar.Barrier as barrier_types
 
@@ -131,12 +133,12 @@ terminal_slots (Own (OfNumbers totals.Sum)) = Name (codes "sum") ∷ []
 terminal_slots (Own (OfNumbers totals.Product)) = Name (codes "product") ∷ []
 terminal_slots (Own (OfNumbers totals.Max)) = Name (codes "max") ∷ []
 terminal_slots (Own (OfNumbers totals.Min)) = Name (codes "min") ∷ []
-terminal_slots Count = Name (codes "count") ∷ []
-terminal_slots FindFirst = Name (codes "findfirst") ∷ []
-terminal_slots ToList = Name (codes "tolist") ∷ []
-terminal_slots (AllMatch p) = Name (codes "allmatch") ∷ condition_slots p
-terminal_slots (AnyMatch p) = Name (codes "anymatch") ∷ condition_slots p
-terminal_slots (NoneMatch p) = Name (codes "nonematch") ∷ condition_slots p
+terminal_slots (Whole Count) = Name (codes "count") ∷ []
+terminal_slots (Whole FindFirst) = Name (codes "findfirst") ∷ []
+terminal_slots (Whole ToList) = Name (codes "tolist") ∷ []
+terminal_slots (Match AllMatch p) = Name (codes "allmatch") ∷ condition_slots p
+terminal_slots (Match AnyMatch p) = Name (codes "anymatch") ∷ condition_slots p
+terminal_slots (Match NoneMatch p) = Name (codes "nonematch") ∷ condition_slots p
 terminal_slots (Own (OfTexts joint)) = Name (codes "joining") ∷ joint_slots joint
 terminal_slots (GroupBy f summary) = Name (codes "groupby") ∷ function_slots f ++ summary_slots summary
 terminal_slots (Partition p summary) = Name (codes "partition") ∷ condition_slots p ++ summary_slots summary
@@ -258,9 +260,7 @@ kind_after kind (Map f) = value_kind kind f
 kind_after kind stage = kind
 
 abbrev pub terminal_takes : Kind → Terminal → Bool
-terminal_takes kind (AllMatch p) = own_takes kind p
-terminal_takes kind (AnyMatch p) = own_takes kind p
-terminal_takes kind (NoneMatch p) = own_takes kind p
+terminal_takes kind (Match of p) = own_takes kind p
 terminal_takes kind (GroupBy f summary) = function_takes kind f && summary_takes kind summary
 terminal_takes kind (Partition p summary) = own_takes kind p && summary_takes kind summary
 terminal_takes kind (ToMap key (value, merge)) = function_takes kind key && (function_takes kind value && merge_takes (value_kind kind value) merge)
@@ -437,12 +437,12 @@ terminal_names version = named (codes "sum") (λ _. Own (OfNumbers totals.Sum)) 
     (named (codes "product") (λ _. Own (OfNumbers totals.Product)) nothing
     (named (codes "max") (λ _. Own (OfNumbers totals.Max)) nothing
     (named (codes "min") (λ _. Own (OfNumbers totals.Min)) nothing
-    (named (codes "count") (λ _. Count) nothing
-    (named (codes "findfirst") (λ _. FindFirst) nothing
-    (named (codes "tolist") (λ _. ToList) nothing
-    (named (codes "allmatch") AllMatch condition_of
-    (named (codes "anymatch") AnyMatch condition_of
-    (named (codes "nonematch") NoneMatch condition_of
+    (named (codes "count") (λ _. Whole Count) nothing
+    (named (codes "findfirst") (λ _. Whole FindFirst) nothing
+    (named (codes "tolist") (λ _. Whole ToList) nothing
+    (named (codes "allmatch") (λ p. Match AllMatch p) condition_of
+    (named (codes "anymatch") (λ p. Match AnyMatch p) condition_of
+    (named (codes "nonematch") (λ p. Match NoneMatch p) condition_of
     (named (codes "joining") (λ j. Own (OfTexts j)) joint_of
     (collecting_names version)))))))))))
 

@@ -147,15 +147,27 @@ pub enum Joint<T> {
     Within(T, T, T),
 }
 
-/// What is made of all the items. S is what is made of some of them, V the value in a map with its merge.
+/// What is made of all items of either kind, by no test and no function.
 #[derive(Clone, Copy, PartialEq)]
-pub enum Terminal<F, P, S, V, O> {
+pub enum AllItems {
     Count,
     FindFirst,
     ToList,
-    AllMatch(P),
-    AnyMatch(P),
-    NoneMatch(P),
+}
+
+/// Of how many items a test has to hold.
+#[derive(Clone, Copy, PartialEq)]
+pub enum Quantifier {
+    AllMatch,
+    AnyMatch,
+    NoneMatch,
+}
+
+/// What is made of all the items. S is what is made of some of them, V the value in a map with its merge.
+#[derive(Clone, Copy, PartialEq)]
+pub enum Terminal<F, P, S, V, O> {
+    Whole(AllItems),
+    Match(Quantifier, P),
     /// The groups of one key, each collected.
     GroupBy(F, S),
     Partition(P, S),

@@ -108,12 +108,8 @@ fn number_terminal(terminal: AnyTerminal<'_>) -> Option<NumberTerminal>
     ensures { Takes number_terminal (terminal_takes NumberKind) (terminal_content terminal.entry) result }
 {
     match terminal {
-        Terminal::Count => Some(Terminal::Count),
-        Terminal::FindFirst => Some(Terminal::FindFirst),
-        Terminal::ToList => Some(Terminal::ToList),
-        Terminal::AllMatch(test) => Some(Terminal::AllMatch(number_test(test)?)),
-        Terminal::AnyMatch(test) => Some(Terminal::AnyMatch(number_test(test)?)),
-        Terminal::NoneMatch(test) => Some(Terminal::NoneMatch(number_test(test)?)),
+        Terminal::Whole(made) => Some(Terminal::Whole(made)),
+        Terminal::Match(of, test) => Some(Terminal::Match(of, number_test(test)?)),
         Terminal::GroupBy(key, collector) => {
             Some(Terminal::GroupBy(number_function(key)?, number_summary(collector)?))
         }
@@ -139,12 +135,8 @@ fn text_terminal(terminal: AnyTerminal<'_>) -> Option<TextTerminal<'_>>
     ensures { Takes text_terminal (terminal_takes TextKind) (terminal_content terminal.entry) result }
 {
     match terminal {
-        Terminal::Count => Some(Terminal::Count),
-        Terminal::FindFirst => Some(Terminal::FindFirst),
-        Terminal::ToList => Some(Terminal::ToList),
-        Terminal::AllMatch(test) => Some(Terminal::AllMatch(text_test(test)?)),
-        Terminal::AnyMatch(test) => Some(Terminal::AnyMatch(text_test(test)?)),
-        Terminal::NoneMatch(test) => Some(Terminal::NoneMatch(text_test(test)?)),
+        Terminal::Whole(made) => Some(Terminal::Whole(made)),
+        Terminal::Match(of, test) => Some(Terminal::Match(of, text_test(test)?)),
         Terminal::GroupBy(key, collector) => {
             Some(Terminal::GroupBy(text_function(key)?, text_summary(collector)?))
         }

@@ -12,8 +12,9 @@ mod syntax;
 mod version;
 
 pub use grammar::{
-    Barrier, Base, Expansion, Function, Inner, Joint, Line, Merge, NumberChange, NumberOnly,
-    NumberTest, NumberTotal, OfKind, Part, Stage, Summary, Terminal, TextCondition,
+    AllItems, Barrier, Base, Expansion, Function, Inner, Joint, Line, Merge, NumberChange,
+    NumberOnly, NumberTest, NumberTotal, OfKind, Part, Quantifier, Stage, Summary, Terminal,
+    TextCondition,
 };
 pub use item_count::ItemCount;
 pub use kinds::{MOST_STAGES, NumberLine, TextLine};

@@ -8,8 +8,9 @@ ghost use Rattle.pipeline_language.specs.Syntax.{any_natural, base_names, base_o
 ghost use Rattle.file_words.specs.Words.{words_of};
 
 use crate::grammar::{
-    Barrier, Base, Expansion, Function, Inner, Joint, Line, Merge, NumberChange, NumberOnly,
-    NumberTest, NumberTotal, OfKind, Part, Stage, Summary, Terminal, TextCondition,
+    AllItems, Barrier, Base, Expansion, Function, Inner, Joint, Line, Merge, NumberChange,
+    NumberOnly, NumberTest, NumberTotal, OfKind, Part, Quantifier, Stage, Summary, Terminal,
+    TextCondition,
 };
 use crate::item_count::ItemCount;
 use crate::version::Version;
@@ -202,12 +203,12 @@ fn read_terminal<'a>(
         "product" => Terminal::Own(OfKind::OfNumbers(NumberTotal::Product)),
         "max" => Terminal::Own(OfKind::OfNumbers(NumberTotal::Max)),
         "min" => Terminal::Own(OfKind::OfNumbers(NumberTotal::Min)),
-        "count" => Terminal::Count,
-        "findfirst" => Terminal::FindFirst,
-        "tolist" => Terminal::ToList,
-        "allmatch" => Terminal::AllMatch(read_condition(words)?),
-        "anymatch" => Terminal::AnyMatch(read_condition(words)?),
-        "nonematch" => Terminal::NoneMatch(read_condition(words)?),
+        "count" => Terminal::Whole(AllItems::Count),
+        "findfirst" => Terminal::Whole(AllItems::FindFirst),
+        "tolist" => Terminal::Whole(AllItems::ToList),
+        "allmatch" => Terminal::Match(Quantifier::AllMatch, read_condition(words)?),
+        "anymatch" => Terminal::Match(Quantifier::AnyMatch, read_condition(words)?),
+        "nonematch" => Terminal::Match(Quantifier::NoneMatch, read_condition(words)?),
         "joining" => Terminal::Own(OfKind::OfTexts(read_joint(words)?)),
         _ => return read_collecting_terminal(version, name, words),
     })

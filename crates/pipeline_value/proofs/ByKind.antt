@@ -13,7 +13,7 @@ use Rattle.pipeline_language.specs.{declared.item_count.ItemCount.ItemCount, Syn
 use Rattle.pipeline_language.specs.Content.{count_content, NumberBase, NumberInner, NumberStage, NumberSummary, NumberTerminal, number_base, number_function, number_inner, number_stage, number_summary, number_terminal, number_test, TextBase, TextInner, TextStage, TextSummary, TextTerminal, TextTest, TextValue, text_base, text_function, text_inner, text_merge, text_stage, text_summary, text_terminal, text_test, text_value, program_of, text_end}
 use Rattle.pipeline_meaning.specs.Stages.{barrier_list, part_list, part-map}
 use Rattle.value_text.specs.Texts.{entry_text, groups_text, itself, list_text, merged_text, optional_text, partition_text, parts_text, strict_text, with_commas, pair_text, truth_text}
-use Rattle.pipeline_value.specs.Value.{Item, Number, Text, barrier_items, holds, item_text, same_item, first_repeat, repeat_or, strict_told, image, item_number, joined, stage_items, stages_items, base_text, inner_text, summary_text, terminal_told, expanded, program_told}
+use Rattle.pipeline_value.specs.Value.{Item, Number, Text, barrier_items, holds, item_text, same_item, first_repeat, repeat_or, strict_told, image, item_number, joined, match_text, whole_text, stage_items, stages_items, base_text, inner_text, summary_text, terminal_told, expanded, program_told}
 use Rattle.stages.specs.Wrapping.{wrapped}
 use Rattle.pipeline_language.specs.declared.pipeline.NumberFunction.TheVariants.{Itself}
 use Rattle.pipeline_meaning.specs.Functions.{number_holds, number_image, number_join, text_holds, text_join, text_length}
@@ -25,6 +25,9 @@ use Rattle.pipeline_language.specs.declared.grammar.Joint.TheVariants.{Plain, Wi
 use Rattle.pipeline_language.specs.declared.grammar.TextCondition.TheVariants.{Empty}
 use Rattle.sources.specs.Integers.{integers_between}
 use Rattle.pipeline_language.specs.declared.pipeline.NumberSource.TheVariants.{Range, Closed, Numbers}
+use Rattle.pipeline_language.specs.declared.grammar.{AllItems.AllItems, Quantifier.Quantifier}
+use Rattle.pipeline_language.specs.declared.grammar.AllItems.TheVariants.{Count, FindFirst, ToList}
+use Rattle.pipeline_language.specs.declared.grammar.Quantifier.TheVariants.{AllMatch, AnyMatch, NoneMatch}
 use Rattle.pipeline_language.specs.Grammar as grammar
 use Rattle.pipeline_language.specs.declared.grammar.Barrier as barriers
 use Rattle.pipeline_language.specs.declared.grammar.Base.TheVariants as bases
@@ -125,6 +128,16 @@ module _ {X : Type 0} (e : X → Item) where
 
   pub list-both : (l : List X) → list_text item_text (map e l) ≡ list_text told l
   list-both l = ap (λ ts. codes "[" ++ with_commas ts ++ codes "]") (map-in e item_text l)
+
+  pub whole-both : (made : AllItems) (l : List X) → whole_text item_text made (map e l) ≡ whole_text told made l
+  whole-both Count l = counted l
+  whole-both FindFirst l = first-both l
+  whole-both ToList l = list-both l
+
+  pub match-both : (how : Quantifier) (p : Item → Bool) (q : X → Bool) → ((x : X) → p (e x) ≡ q x) → (l : List X) → match_text how p (map e l) ≡ match_text how q l
+  match-both AllMatch p q alike l = ap truth_text (all_meet-both e p q alike l)
+  match-both AnyMatch p q alike l = ap truth_text (any_meets-both e p q alike l)
+  match-both NoneMatch p q alike l = ap (λ b. truth_text (not b)) (any_meets-both e p q alike l)
 
   -- the first key that comes again, by its text
   choose : (answer : List ℕ) (x : X) (b : Bool) (o : Option Item) (p : Option X) → repeat_or item_text o answer ≡ repeat_or told p answer
@@ -239,12 +252,8 @@ summary-number (summaries.GroupBy f inner) l =
     (inner_text (number_inner inner)) (number_inner_text inner) (inner-number inner) l
 
 terminal-number : (terminal : NumberTerminal) (l : List ℤ) → terminal_told (number_terminal terminal) (map Number l) ≡ number_told terminal l
-terminal-number terminals.Count l = ap Ok (counted Number l)
-terminal-number terminals.FindFirst l = ap Ok (first-both Number l)
-terminal-number terminals.ToList l = ap Ok (list-both Number l)
-terminal-number (terminals.AllMatch p) l = ap (λ b. Ok (truth_text b)) (all_meet-both Number (holds (number_test p)) (number_holds p) (holds-number p) l)
-terminal-number (terminals.AnyMatch p) l = ap (λ b. Ok (truth_text b)) (any_meets-both Number (holds (number_test p)) (number_holds p) (holds-number p) l)
-terminal-number (terminals.NoneMatch p) l = ap (λ b. Ok (truth_text (not b))) (any_meets-both Number (holds (number_test p)) (number_holds p) (holds-number p) l)
+terminal-number (terminals.Whole made) l = ap Ok (whole-both Number made l)
+terminal-number (terminals.Match how p) l = ap Ok (match-both Number how (holds (number_test p)) (number_holds p) (holds-number p) l)
 terminal-number (terminals.GroupBy f summary) l =
     ap Ok (groups-both Number Number (image (number_function f)) (number_image f) (image-number f)
     (summary_text (number_summary summary)) (number_summary_text summary) (summary-number summary) l)
@@ -331,12 +340,8 @@ module _ {J : Type 0} (d : J → Item) (key : Item → Item) (keyed : List ℕ �
       strict-both Text d key keyed keys Text (λ x. x) itself (λ x. refl) l
 
 pub terminal-text : (terminal : TextTerminal) (l : List (List ℕ)) → terminal_told (text_terminal terminal) (map Text l) ≡ text_told terminal l
-terminal-text terminals.Count l = ap Ok (counted Text l)
-terminal-text terminals.FindFirst l = ap Ok (first-both Text l)
-terminal-text terminals.ToList l = ap Ok (list-both Text l)
-terminal-text (terminals.AllMatch p) l = ap (λ b. Ok (truth_text b)) (all_meet-both Text (holds (text_test p)) (text_holds p) (holds-text p) l)
-terminal-text (terminals.AnyMatch p) l = ap (λ b. Ok (truth_text b)) (any_meets-both Text (holds (text_test p)) (text_holds p) (holds-text p) l)
-terminal-text (terminals.NoneMatch p) l = ap (λ b. Ok (truth_text (not b))) (any_meets-both Text (holds (text_test p)) (text_holds p) (holds-text p) l)
+terminal-text (terminals.Whole made) l = ap Ok (whole-both Text made l)
+terminal-text (terminals.Match how p) l = ap Ok (match-both Text how (holds (text_test p)) (text_holds p) (holds-text p) l)
 terminal-text (terminals.GroupBy f summary) l = ap Ok (groups-text (summary_text (text_summary summary)) (text_summary_text summary) (summary-text summary) f l)
 terminal-text (terminals.Partition p summary) l =
     ap Ok (parts-both Text (holds (text_test p)) (text_holds p) (holds-text p) (summary_text (text_summary summary)) (text_summary_text summary) (summary-text summary) l)

@@ -1,13 +1,12 @@
 -- What is told of a pipeline as it is read, by the kind of its items: what is told of its program (proofs/ContentTold).
-use Rattle.std.specs.Prelude.{◌+ℤ◌, ℕ, ℤ, pos, not, Bool, bytes_eq, List, ◌++◌, map, fold, length, Ok}
+use Rattle.std.specs.Prelude.{◌+ℤ◌, ℕ, ℤ, pos, Bool, bytes_eq, List, ◌++◌, map, fold, Ok}
 use Rattle.std.specs.Fmt.{signed_decimal}
 use Rattle.std.specs.Ordering.{int_eq, int_cmp}
 use Rattle.sources.specs.Integers.{integers_between}
 use Rattle.stages.specs.Choices.{larger, smaller}
 use Rattle.stages.specs.Products.{wrapped_product}
-use Rattle.stages.specs.Wrapping.{wrapped, wrapped_sum}
-use Rattle.collectors.specs.Reductions.{delimited, first, reduced}
-use Rattle.parallel_streams.specs.Terminals.{all_meet, any_meets}
+use Rattle.stages.specs.Wrapping.{wrapped_sum}
+use Rattle.collectors.specs.Reductions.{delimited, reduced}
 use Rattle.pipeline_language.specs.declared.pipeline.{NumberBody.NumberBody, NumberSource.NumberSource, TextBody.TextBody, TextEnd.TextEnd, TextFunction.TextFunction, Pipeline.Pipeline}
 use Rattle.pipeline_language.specs.declared.pipeline.NumberSource.TheVariants.{Range, Closed, Numbers}
 use Rattle.pipeline_language.specs.Content.{NumberTerminal, TextTerminal, TextValue}
@@ -20,9 +19,9 @@ use Rattle.pipeline_language.specs.declared.pipeline.Mapped.TheVariants as text_
 use Rattle.pipeline_language.specs.declared.pipeline.Pipeline.TheVariants as pipelines
 use Rattle.pipeline_meaning.specs.Functions.{number_image, number_holds, number_join, text_length, text_holds, text_join}
 use Rattle.pipeline_meaning.specs.Stages.{number_stages, text_stages}
-use Rattle.value_text.specs.Texts.{itself, groups_text, parts_text, merged_text, list_text, optional_text, pair_text, truth_text}
+use Rattle.value_text.specs.Texts.{itself, groups_text, parts_text, merged_text, optional_text, pair_text}
 use Rattle.pipeline_meaning.specs.Summaries.{number_summary_text, text_summary_text, text_groups_text}
-use Rattle.pipeline_value.specs.Value.{Told, strict_told}
+use Rattle.pipeline_value.specs.Value.{Told, match_text, strict_told, whole_text}
 
 -- the items of a source (java.util.stream.LongStream, range and rangeClosed)
 abbrev pub source_numbers : NumberSource → List ℤ
@@ -36,12 +35,8 @@ number_told (terminals.Own totals.Sum) l = Ok (signed_decimal (fold wrapped_sum 
 number_told (terminals.Own totals.Product) l = Ok (signed_decimal (fold wrapped_product (pos 1) l))
 number_told (terminals.Own totals.Max) l = Ok (optional_text signed_decimal (reduced (larger int_cmp) l))
 number_told (terminals.Own totals.Min) l = Ok (optional_text signed_decimal (reduced (smaller int_cmp) l))
-number_told terminals.Count l = Ok (signed_decimal (wrapped (pos (length l))))
-number_told terminals.FindFirst l = Ok (optional_text signed_decimal (first l))
-number_told terminals.ToList l = Ok (list_text signed_decimal l)
-number_told (terminals.AllMatch p) l = Ok (truth_text (all_meet (number_holds p) l))
-number_told (terminals.AnyMatch p) l = Ok (truth_text (any_meets (number_holds p) l))
-number_told (terminals.NoneMatch p) l = Ok (truth_text (not (any_meets (number_holds p) l)))
+number_told (terminals.Whole made) l = Ok (whole_text signed_decimal made l)
+number_told (terminals.Match how p) l = Ok (match_text how (number_holds p) l)
 number_told (terminals.GroupBy f summary) l = Ok (groups_text signed_decimal int_eq (number_image f) (number_summary_text summary) l)
 number_told (terminals.Partition p summary) l = Ok (parts_text (number_holds p) (number_summary_text summary) l)
 number_told (terminals.ToMap key value) l = Ok (merged_text signed_decimal signed_decimal int_eq (number_image key) (number_image value.0) (number_join value.1) l)
@@ -62,12 +57,8 @@ text_strict_told key_text same key text_functions.Itself l = strict_told key_tex
 
 -- what a terminal tells of texts (java.util.stream.Stream)
 abbrev pub text_told : TextTerminal → List (List ℕ) → Told
-text_told terminals.Count l = Ok (signed_decimal (wrapped (pos (length l))))
-text_told terminals.FindFirst l = Ok (optional_text itself (first l))
-text_told terminals.ToList l = Ok (list_text itself l)
-text_told (terminals.AllMatch p) l = Ok (truth_text (all_meet (text_holds p) l))
-text_told (terminals.AnyMatch p) l = Ok (truth_text (any_meets (text_holds p) l))
-text_told (terminals.NoneMatch p) l = Ok (truth_text (not (any_meets (text_holds p) l)))
+text_told (terminals.Whole made) l = Ok (whole_text itself made l)
+text_told (terminals.Match how p) l = Ok (match_text how (text_holds p) l)
 text_told (terminals.Own (Plain between)) l = Ok (delimited between.now l)
 text_told (terminals.Own (Within between front back)) l = Ok (front.now ++ delimited between.now l ++ back.now)
 text_told (terminals.GroupBy f summary) l = Ok (text_groups_text f (text_summary_text summary) l)

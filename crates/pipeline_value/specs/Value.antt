@@ -23,7 +23,10 @@ use Rattle.collectors.specs.Sums.{int_sum}
 use Rattle.parallel_streams.specs.Terminals.{all_meet, any_meets}
 use Rattle.pipeline_language.specs.declared.grammar.Joint.TheVariants.{Plain, Within}
 use Rattle.pipeline_language.specs.declared.grammar.OfKind.TheVariants.{OfNumbers, OfTexts}
-use Rattle.pipeline_language.specs.declared.grammar.Terminal.TheVariants.{Count, FindFirst, ToList, AllMatch, AnyMatch, NoneMatch, GroupBy, Partition, ToMap, ToMapStrict, Teeing, Own}
+use Rattle.pipeline_language.specs.declared.grammar.{AllItems.AllItems, Quantifier.Quantifier}
+use Rattle.pipeline_language.specs.declared.grammar.AllItems.TheVariants.{Count, FindFirst, ToList}
+use Rattle.pipeline_language.specs.declared.grammar.Quantifier.TheVariants.{AllMatch, AnyMatch, NoneMatch}
+use Rattle.pipeline_language.specs.declared.grammar.Terminal.TheVariants.{Whole, Match, GroupBy, Partition, ToMap, ToMapStrict, Teeing, Own}
 use Rattle.value_text.specs.Texts.{groups_text, parts_text, merged_text, strict_text, list_text, optional_text, pair_text, truth_text}
 use Rattle.pipeline_value.specs.declared.told.ValueError.{ValueError}
 use Rattle.pipeline_language.specs.declared.grammar.Merge.TheVariants as merges
@@ -143,14 +146,22 @@ summary_text (summaries.Mapping (f, inner)) l = inner_text inner (map (image f) 
 summary_text (summaries.Filtering p inner) l = inner_text inner (filter (holds p) l)
 summary_text (summaries.GroupBy f inner) l = groups_text item_text same_item (image f) (inner_text inner) l
 
+-- what is made of all items, each written as its text
+abbrev pub whole_text : {X : Type 0} → (X → List ℕ) → AllItems → List X → List ℕ
+whole_text text Count l = signed_decimal (wrapped (pos (length l)))
+whole_text text FindFirst l = optional_text text (first l)
+whole_text text ToList l = list_text text l
+
+-- whether a test passes as many items
+abbrev pub match_text : {X : Type 0} → Quantifier → (X → Bool) → List X → List ℕ
+match_text AllMatch passes l = truth_text (all_meet passes l)
+match_text AnyMatch passes l = truth_text (any_meets passes l)
+match_text NoneMatch passes l = truth_text (not (any_meets passes l))
+
 -- what a terminal tells of the items (java.util.stream.LongStream, Stream and Collectors)
 abbrev pub terminal_told : Terminal → List Item → Told
-terminal_told Count l = Ok (signed_decimal (wrapped (pos (length l))))
-terminal_told FindFirst l = Ok (optional_text item_text (first l))
-terminal_told ToList l = Ok (list_text item_text l)
-terminal_told (AllMatch p) l = Ok (truth_text (all_meet (holds p) l))
-terminal_told (AnyMatch p) l = Ok (truth_text (any_meets (holds p) l))
-terminal_told (NoneMatch p) l = Ok (truth_text (not (any_meets (holds p) l)))
+terminal_told (Whole made) l = Ok (whole_text item_text made l)
+terminal_told (Match how p) l = Ok (match_text how (holds p) l)
 terminal_told (GroupBy f summary) l = Ok (groups_text item_text same_item (image f) (summary_text summary) l)
 terminal_told (Partition p summary) l = Ok (parts_text (holds p) (summary_text summary) l)
 terminal_told (ToMap key (value, merge)) l = Ok (merged_text item_text item_text same_item (image key) (image value) (joined merge) l)

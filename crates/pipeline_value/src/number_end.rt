@@ -8,7 +8,7 @@ ghost use Rattle.pipeline_language.specs.declared.grammar.Terminal.TheVariants.{
 
 use crate::arranged::{group_value, number_group, paired_value, parted_value};
 use crate::maps::{merged_value, strict_value};
-use crate::told::{ValueError, told, told_item};
+use crate::told::{ValueError, match_value, told, told_item, whole_value};
 use collectors::SummingLong;
 use parallel_streams::{Engine, Plumbing, Stream};
 use pipeline_language::{NumberTerminal, NumberTotal};
@@ -20,7 +20,7 @@ use std::thread::Threads;
 use std::time::Clock;
 use stealing_pool::Gate;
 use stream_functions::Itself;
-use value_text::{JoinedText, Rope};
+use value_text::Rope;
 
 /// The text of a terminal's value on a stream of numbers.
 pub(crate) fn number_end<X>(
@@ -34,20 +34,9 @@ where
     requires stream { X.ready stream.now }
     ensures { Tells (number_told terminal.now (X.value stream.now)) result }
 {
-    let alloc = engine.alloc;
     match *terminal {
-        NumberTerminal::Count => told(alloc, &stream.count_on(engine)?),
-        NumberTerminal::FindFirst => told_item(alloc, &stream.find_first_on(engine)?),
-        NumberTerminal::ToList => Ok(stream.collect_on(engine, &JoinedText::list(alloc))?),
-        NumberTerminal::AllMatch(test) => {
-            told(alloc, &stream.all_match_on(engine, &Check::of(test))?)
-        }
-        NumberTerminal::AnyMatch(test) => {
-            told(alloc, &stream.any_match_on(engine, &Check::of(test))?)
-        }
-        NumberTerminal::NoneMatch(test) => {
-            told(alloc, &stream.none_match_on(engine, &Check::of(test))?)
-        }
+        NumberTerminal::Whole(made) => whole_value(engine, stream, made),
+        NumberTerminal::Match(how, test) => match_value(engine, stream, how, &Check::of(test)),
         NumberTerminal::ToMap(key, value) => {
             let merge = NumberMerging::of(value.1);
             let (key, value) = (Mapping::of(key), Mapping::of(value.0));

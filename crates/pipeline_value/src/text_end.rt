@@ -10,7 +10,7 @@ ghost use Rattle.spliterator.specs.Clones.{ClonesAlike};
 use crate::arranged::{group_value, paired_value, parted_value, text_group};
 use crate::linked::LanguageBarrier;
 use crate::maps::{text_map, text_strict_map};
-use crate::told::{ValueError, told, told_item};
+use crate::told::{ValueError, match_value, whole_value};
 use chained_streams::Chain;
 use parallel_streams::{Engine, Plumbing, Source, Staged, Stream};
 use pipeline_language::{Joint, TextFunction, TextTerminal};
@@ -86,18 +86,8 @@ where
 {
     let alloc = engine.alloc;
     match *terminal {
-        TextTerminal::Count => told(alloc, &stream.count_on(engine)?),
-        TextTerminal::FindFirst => told_item(alloc, &stream.find_first_on(engine)?),
-        TextTerminal::ToList => Ok(stream.collect_on(engine, &JoinedText::list(alloc))?),
-        TextTerminal::AllMatch(test) => {
-            told(alloc, &stream.all_match_on(engine, &TextCheck::of(test))?)
-        }
-        TextTerminal::AnyMatch(test) => {
-            told(alloc, &stream.any_match_on(engine, &TextCheck::of(test))?)
-        }
-        TextTerminal::NoneMatch(test) => {
-            told(alloc, &stream.none_match_on(engine, &TextCheck::of(test))?)
-        }
+        TextTerminal::Whole(made) => whole_value(engine, stream, made),
+        TextTerminal::Match(how, test) => match_value(engine, stream, how, &TextCheck::of(test)),
         TextTerminal::Own(Joint::Plain(between)) => {
             Ok(stream.collect_on(engine, &JoinedText::new(alloc, between))?)
         }

@@ -1,6 +1,6 @@
 //! Functions of numbers and texts, made of what a file names.
 
-use pipeline_language::{Merge, NumberFunction, NumberTest, TextMerge, TextTest};
+use pipeline_language::{Merge, NumberChange, NumberFunction, NumberTest, TextMerge, TextTest};
 use pipeline_meaning::{NumberCheck, NumberMapping, NumberMerging, TextCheck, TextMerging};
 use spliterator::{NoMemory, Value};
 use stages::{Mapping, Operator, Test};
@@ -21,13 +21,25 @@ fn joined<T: Value, O: Operator<T>>(operator: &O, a: &T, b: &T) -> Result<T, NoM
 
 /// The function, a number, and what it becomes.
 static MAPPED: [(NumberFunction, i64, i64); 11] = [
-    (NumberFunction::Add(5), -7, -2),
-    (NumberFunction::Add(1), i64::MAX, i64::MIN),
-    (NumberFunction::Mul(-3), 5, -15),
-    (NumberFunction::Mul(-1), i64::MIN, i64::MIN),
-    (NumberFunction::Mul(4), 1 << 62, 0),
-    (NumberFunction::Negate, 5, -5),
-    (NumberFunction::Negate, i64::MIN, i64::MIN),
+    (NumberFunction::Change(NumberChange::Add(5)), -7, -2),
+    (
+        NumberFunction::Change(NumberChange::Add(1)),
+        i64::MAX,
+        i64::MIN,
+    ),
+    (NumberFunction::Change(NumberChange::Mul(-3)), 5, -15),
+    (
+        NumberFunction::Change(NumberChange::Mul(-1)),
+        i64::MIN,
+        i64::MIN,
+    ),
+    (NumberFunction::Change(NumberChange::Mul(4)), 1 << 62, 0),
+    (NumberFunction::Change(NumberChange::Negate), 5, -5),
+    (
+        NumberFunction::Change(NumberChange::Negate),
+        i64::MIN,
+        i64::MIN,
+    ),
     (NumberFunction::Itself, -4, -4),
     (NumberFunction::Mod(3), -1, 2),
     (NumberFunction::Mod(3), 7, 1),

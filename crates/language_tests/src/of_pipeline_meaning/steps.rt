@@ -1,7 +1,7 @@
 //! Stages as steps, fed item by item and a block at once.
 use pipeline_language::{
-    Barrier, Expansion, ItemCount, NumberFunction, NumberStage, NumberTest, Part, TextStage,
-    TextTest,
+    Barrier, Expansion, ItemCount, NumberChange, NumberFunction, NumberStage, NumberTest, Part,
+    TextStage, TextTest,
 };
 use pipeline_meaning::{NumberSteps, TextSteps};
 use spliterator::NoMemory;
@@ -59,13 +59,13 @@ const LEAST: i64 = i64::MIN;
 
 const MOST: i64 = i64::MAX;
 
-const THRICE: NumberStage = NumberStage::Map(NumberFunction::Mul(3));
+const THRICE: NumberStage = NumberStage::Map(NumberFunction::Change(NumberChange::Mul(3)));
 
-const MORE: NumberStage = NumberStage::Map(NumberFunction::Add(1));
+const MORE: NumberStage = NumberStage::Map(NumberFunction::Change(NumberChange::Add(1)));
 
-const FAR: NumberStage = NumberStage::Map(NumberFunction::Add(MOST));
+const FAR: NumberStage = NumberStage::Map(NumberFunction::Change(NumberChange::Add(MOST)));
 
-const NEGATED: NumberStage = NumberStage::Map(NumberFunction::Negate);
+const NEGATED: NumberStage = NumberStage::Map(NumberFunction::Change(NumberChange::Negate));
 
 const SAME: NumberStage = NumberStage::Map(NumberFunction::Itself);
 

@@ -3,8 +3,9 @@
 use super::first_wrong;
 use file_words::ReadError;
 use pipeline_language::{
-    Barrier, ItemCount, Merge, NumberBase as Base, NumberFunction, NumberOnly, NumberSource,
-    NumberStage, NumberSummary as Summary, NumberTerminal, NumberTest, NumberTotal, Part, Pipeline,
+    AllItems, Barrier, ItemCount, Merge, NumberBase as Base, NumberChange, NumberFunction,
+    NumberOnly, NumberSource, NumberStage, NumberSummary as Summary, NumberTerminal, NumberTest,
+    NumberTotal, Part, Pipeline, Quantifier,
 };
 use pipeline_reader::read_pipeline;
 use std::alloc::{AllocError, Global};
@@ -31,9 +32,9 @@ fn is_of_numbers(
 
 /// The stages of a file with each function, each test and each barrier.
 const STAGES: [NumberStage; 15] = [
-    NumberStage::Map(NumberFunction::Add(-3)),
-    NumberStage::Map(NumberFunction::Mul(2)),
-    NumberStage::Map(NumberFunction::Negate),
+    NumberStage::Map(NumberFunction::Change(NumberChange::Add(-3))),
+    NumberStage::Map(NumberFunction::Change(NumberChange::Mul(2))),
+    NumberStage::Map(NumberFunction::Change(NumberChange::Negate)),
     NumberStage::Map(NumberFunction::Mod(7)),
     NumberStage::Map(NumberFunction::Itself),
     NumberStage::Filter(NumberTest::Less(1)),
@@ -61,7 +62,7 @@ fn reads_stages_over_numbers(rt: HostRuntime) -> Result<(), Fail> {
         skip 9223372036854775807\ntakewhile less 5\ndropwhile less 6\ntomap self negate last\n";
     let terminal = NumberTerminal::ToMap(
         NumberFunction::Itself,
-        (NumberFunction::Negate, Merge::Last),
+        (NumberFunction::Change(NumberChange::Negate), Merge::Last),
     );
     assert!(rt; is_of_numbers(rt.alloc(), file, &[5, -2, i64::MAX], &STAGES, terminal)?);
     Ok(())
@@ -149,12 +150,21 @@ static TERMINALS: [(&str, NumberTerminal); 16] = [
     ("product", NumberTerminal::Own(NumberTotal::Product)),
     ("max", NumberTerminal::Own(NumberTotal::Max)),
     ("min", NumberTerminal::Own(NumberTotal::Min)),
-    ("count", NumberTerminal::Count),
-    ("findfirst", NumberTerminal::FindFirst),
-    ("tolist", NumberTerminal::ToList),
-    ("allmatch less 3", NumberTerminal::AllMatch(BELOW)),
-    ("anymatch less 3", NumberTerminal::AnyMatch(BELOW)),
-    ("nonematch less 3", NumberTerminal::NoneMatch(BELOW)),
+    ("count", NumberTerminal::Whole(AllItems::Count)),
+    ("findfirst", NumberTerminal::Whole(AllItems::FindFirst)),
+    ("tolist", NumberTerminal::Whole(AllItems::ToList)),
+    (
+        "allmatch less 3",
+        NumberTerminal::Match(Quantifier::AllMatch, BELOW),
+    ),
+    (
+        "anymatch less 3",
+        NumberTerminal::Match(Quantifier::AnyMatch, BELOW),
+    ),
+    (
+        "nonematch less 3",
+        NumberTerminal::Match(Quantifier::NoneMatch, BELOW),
+    ),
     (
         "groupby mod 2 counting",
         NumberTerminal::GroupBy(ODD, COUNT),

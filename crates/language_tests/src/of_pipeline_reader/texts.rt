@@ -2,9 +2,9 @@
 
 use file_words::ReadError;
 use pipeline_language::{
-    Barrier, Expansion, ItemCount, Joint, Merge, NumberFunction, NumberStage, NumberTerminal,
-    NumberTotal, Part, Pipeline, TextBase, TextEnd, TextFunction, TextStage, TextSummary,
-    TextTerminal, TextTest, TextValue,
+    AllItems, Barrier, Expansion, ItemCount, Joint, Merge, NumberChange, NumberFunction,
+    NumberStage, NumberTerminal, NumberTotal, Part, Pipeline, Quantifier, TextBase, TextEnd,
+    TextFunction, TextStage, TextSummary, TextTerminal, TextTest, TextValue,
 };
 use pipeline_reader::read_pipeline;
 use std::alloc::{AllocError, Global};
@@ -24,7 +24,7 @@ fn is_of_texts<'a>(
                 && texts[1].len() == lengths.1;
             let same_end = match &body.end {
                 TextEnd::Lengths(body) => {
-                    let wanted = [NumberStage::Map(NumberFunction::Add(1))];
+                    let wanted = [NumberStage::Map(NumberFunction::Change(NumberChange::Add(1)))];
                     body.stages.as_slice() == wanted.as_slice()
                         && body.terminal == NumberTerminal::Own(NumberTotal::Max)
                 }
@@ -91,12 +91,21 @@ pub(super) fn first_other_end(
 
 /// Files over texts, with their terminals.
 static TERMINALS: [(&[u8], TextTerminal<'static>); 9] = [
-    (b"pipeline 1\nlines 0\ncount", TextTerminal::Count),
-    (b"pipeline 1\nlines 0\nfindfirst", TextTerminal::FindFirst),
-    (b"pipeline 1\nlines 0\ntolist", TextTerminal::ToList),
+    (
+        b"pipeline 1\nlines 0\ncount",
+        TextTerminal::Whole(AllItems::Count),
+    ),
+    (
+        b"pipeline 1\nlines 0\nfindfirst",
+        TextTerminal::Whole(AllItems::FindFirst),
+    ),
+    (
+        b"pipeline 1\nlines 0\ntolist",
+        TextTerminal::Whole(AllItems::ToList),
+    ),
     (
         b"pipeline 1\nlines 0\nallmatch longer 2",
-        TextTerminal::AllMatch(TextTest::Longer(2)),
+        TextTerminal::Match(Quantifier::AllMatch, TextTest::Longer(2)),
     ),
     (
         b"pipeline 1\nlines 0\njoining ",

@@ -4,21 +4,11 @@ use Rattle.pipeline_language.specs.declared.grammar.Terminal.TheVariants.{Own}
 use Rattle.collectors.specs.Reductions.{delimited}
 use Rattle.pipeline_value.proofs.text_end.plain_end.Goals as goal
 
-pub returns-in_ok-find_first_on-in-FindFirst : goal.returns-in_ok-find_first_on-in-FindFirst
-returns-in_ok-find_first_on-in-FindFirst g c = rw c.in-FindFirst.is (rw (c.requires.spelling, c.in_ok-find_first_on-in-FindFirst.ensures) at c.told_item.ensures)
+pub returns-in-Whole : goal.returns-in-Whole
+returns-in-Whole g c = rw c.in-Whole.is (rw c.requires.spelling at c.whole_value.ensures)
 
-pub returns-in_ok-collect_on-in-ToList : goal.returns-in_ok-collect_on-in-ToList
-returns-in_ok-collect_on-in-ToList g c =
-    rw c.in-ToList.is (ap Ok (sym (rw (c.requires.spelling, c.list.ensures.between, c.list.ensures.front, c.list.ensures.back) at c.in_ok-collect_on-in-ToList.ensures.value)))
-
-pub returns-in_ok-all_match_on-in-AllMatch : goal.returns-in_ok-all_match_on-in-AllMatch
-returns-in_ok-all_match_on-in-AllMatch g c = rw c.in-AllMatch.is (rw (c.in_ok-all_match_on-in-AllMatch.ensures, c.of.ensures) at c.told-in-AllMatch.ensures)
-
-pub returns-in_ok-any_match_on-in-AnyMatch : goal.returns-in_ok-any_match_on-in-AnyMatch
-returns-in_ok-any_match_on-in-AnyMatch g c = rw c.in-AnyMatch.is (rw (c.in_ok-any_match_on-in-AnyMatch.ensures, c.of-in-AnyMatch.ensures) at c.told-in-AnyMatch.ensures)
-
-pub returns-in_ok-none_match_on-in-NoneMatch : goal.returns-in_ok-none_match_on-in-NoneMatch
-returns-in_ok-none_match_on-in-NoneMatch g c = rw c.in-NoneMatch.is (rw (c.in_ok-none_match_on-in-NoneMatch.ensures, c.of-in-NoneMatch.ensures) at c.told-in-NoneMatch.ensures)
+pub returns-in-Match : goal.returns-in-Match
+returns-in-Match g c = rw c.in-Match.is (rw c.of.ensures at c.match_value.ensures)
 
 pub returns-in_ok-collect_on-in-Own-Plain : goal.returns-in_ok-collect_on-in-Own-Plain
 returns-in_ok-collect_on-in-Own-Plain g c =
