@@ -4,9 +4,9 @@ use super::first_wrong;
 use super::numbers::first_other;
 use super::texts::first_other_end;
 use pipeline_language::{
-    Mapped, NumberBase as Base, NumberFunction as Function, NumberInner as Inner, NumberOnly,
-    NumberSummary as Summary, NumberTerminal as Terminal, NumberTest as Test, TextBase,
-    TextFunction, TextInner, TextSummary, TextTerminal, TextTest,
+    Mapped, NumberBase as Base, NumberChange as Change, NumberFunction as Function,
+    NumberInner as Inner, NumberOnly, NumberSummary as Summary, NumberTerminal as Terminal,
+    NumberTest as Test, TextBase, TextFunction, TextInner, TextSummary, TextTerminal, TextTest,
 };
 use std::test::Fail;
 
@@ -30,7 +30,7 @@ static NEW_TERMINALS: [(&str, Terminal); 8] = [
     ),
     (
         "tomapstrict self negate",
-        Terminal::ToMapStrict(Function::Itself, Function::Negate),
+        Terminal::ToMapStrict(Function::Itself, Function::Change(Change::Negate)),
     ),
     (
         "groupby mod 2 groupby mod 3 counting",
@@ -40,7 +40,7 @@ static NEW_TERMINALS: [(&str, Terminal); 8] = [
         "partition less 3 mapping mul 10 tolist",
         Terminal::Partition(
             Test::Less(3),
-            Summary::Mapping((Function::Mul(10), Inner::Base(Base::ToList))),
+            Summary::Mapping((Function::Change(Change::Mul(10)), Inner::Base(Base::ToList))),
         ),
     ),
     (
@@ -51,7 +51,10 @@ static NEW_TERMINALS: [(&str, Terminal); 8] = [
         "groupby mod 2 groupby mod 3 mapping negate max",
         Terminal::GroupBy(
             ODD,
-            Summary::GroupBy(THIRDS, Inner::Mapping((Function::Negate, MAX))),
+            Summary::GroupBy(
+                THIRDS,
+                Inner::Mapping((Function::Change(Change::Negate), MAX)),
+            ),
         ),
     ),
     (
@@ -66,7 +69,7 @@ static NEW_TERMINALS: [(&str, Terminal); 8] = [
         Terminal::Teeing(
             Summary::Mapping((
                 Function::Itself,
-                Inner::Mapping((Function::Add(1), Base::First)),
+                Inner::Mapping((Function::Change(Change::Add(1)), Base::First)),
             )),
             Summary::GroupBy(ODD, Inner::Base(MIN)),
         ),
