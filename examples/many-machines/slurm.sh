@@ -11,5 +11,5 @@ word_counts plan "$file" --parts "$parts" >"$folder/plan"
 part="set -- \$(sed -n \${SLURM_ARRAY_TASK_ID}p '$folder/plan')
     word_counts part '$file' --from \$1 --to \$2 >'$folder/part.'\$SLURM_ARRAY_TASK_ID.new
     mv '$folder/part.'\$SLURM_ARRAY_TASK_ID.new '$folder/part.'\$SLURM_ARRAY_TASK_ID"
-tasks=$(sbatch --parsable --requeue --array="1-$parts" --wrap "$part")
-sbatch --parsable --dependency="afterany:$tasks" --wrap "cat '$folder'/part.*[0-9] | word_counts finish >'$folder/answer'"
+tasks=$(sbatch --parsable --requeue --array="1-$parts" --output="$folder/task-%a.log" --wrap "$part")
+sbatch --parsable --dependency="afterany:$tasks" --output="$folder/finish.log" --wrap "cat '$folder'/part.*[0-9] | word_counts finish >'$folder/answer'"
