@@ -1,6 +1,6 @@
 //! What a collector is.
-ghost use Rattle.std.specs.Prelude.{◌≡◌, List, All, IfOk, OnOk, fold, map, ⊤};
-ghost use Rattle.collectors.specs.Laws.{CollectorLaws};
+ghost use Rattle.std.specs.Prelude.{◌≡◌, List, All, IfOk, OnOk, fold, map, true, ⊤};
+ghost use Rattle.collectors.specs.Laws.{CollectorLaws, CountsAlone};
 
 use spliterator::{NoMemory, Value};
 
@@ -104,6 +104,14 @@ pub trait Collector {
 
     /// Whether a combination takes the container in about as fast as some items, and sooner than a thread starts. No result depends on it.
     fn is_light(&self, _acc: &Self::Acc) -> bool {
+        false
+    }
+
+    /// Whether a container hangs on the number of its items alone, whatever they are.
+    fn counts_alone(&self) -> bool
+        requires { ready self.now }
+        ensures { result ≡ true → CountsAlone (add self.now) }
+    {
         false
     }
 

@@ -133,4 +133,11 @@ impl<A: Collector, B: Collector<Item = A::Item>> Collector for Either<A, B> {
             _ => true,
         }
     }
+
+    fn counts_alone(&self) -> bool {
+        match self {
+            Left(side) => side.counts_alone(),
+            Right(side) => side.counts_alone(),
+        }
+    }
 }

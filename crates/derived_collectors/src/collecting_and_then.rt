@@ -128,6 +128,10 @@ impl<D: Collector, F: Finisher<D::Out>> Collector for CollectingAndThen<D, F> {
         self.downstream.is_light(acc)
     }
 
+    fn counts_alone(&self) -> bool {
+        self.downstream.counts_alone()
+    }
+
     fn keeps_lists(&self) -> bool {
         self.downstream.keeps_lists()
     }

@@ -108,6 +108,10 @@ impl Collector for NumberBaseCollector {
     fn is_light(&self, acc: &NumberBaseContainer) -> bool {
         self.chosen.is_light(&acc.held)
     }
+
+    fn counts_alone(&self) -> bool {
+        self.chosen.counts_alone()
+    }
 }
 
 impl Summarizes for NumberBaseCollector {

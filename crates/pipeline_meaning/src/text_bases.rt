@@ -118,6 +118,10 @@ impl<'a> Collector for TextBaseCollector<'a> {
     fn is_light(&self, acc: &TextBaseContainer<'a>) -> bool {
         self.chosen.is_light(&acc.held)
     }
+
+    fn counts_alone(&self) -> bool {
+        self.chosen.counts_alone()
+    }
 }
 
 impl<'a> Summarizes for TextBaseCollector<'a> {
