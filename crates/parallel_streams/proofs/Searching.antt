@@ -1,6 +1,8 @@
 -- What a search makes of the segments of a stream.
-use Rattle.std.specs.Prelude.{◌≡◌, ◌≢◌, ◌≤◌, ◌++◌, ◌∷◌, [], ℕ, Bool, true, false, cond, length, List, Option, Some, None, refl}
+use Rattle.std.specs.Prelude.{◌≡◌, ◌≢◌, ◌≤◌, ◌<◌, ◌++◌, ◌∷◌, [], ℕ, Bool, true, false, cond, nat_lt, length, map, drop, List, Option, Some, None, refl}
 use Rattle.std.proofs.Common.{sym, ap, ◌∙◌, subst, append-nil, append_assoc, arith, ⊎_elim, true≢false}
+use Rattle.std.proofs.lemmas.List.{drop_all}
+use Rattle.std.proofs.lemmas.Bool.Decides.{nat_tests}
 use Rattle.std.specs.Option.{is_some}
 use Rattle.barriers.specs.Needs.{every_item}
 use Rattle.barriers.specs.NeedLaws.{value-front}
@@ -70,6 +72,21 @@ module _ {T A : Type 0} (counted : T → Bool) (made : List T → A → Type 0) 
     kept = more found.front found.kept;
   }
 
+  -- some items more, of which a front was taken: all of them, where none of it counts
+  pub found-taken : (done front more : List T) (acc after : A) (met : Bool) → IsFound counted made done acc false → met ≡ any_meets counted front
+      → (met ≡ false → more ≡ []) → (made done acc → made (done ++ front) after) → IsFound counted made (done ++ (front ++ more)) after met
+  found-taken done front more acc after false found is all more_made =
+      subst (λ l. IsFound counted made (done ++ (front ++ l)) after false) (sym (all refl))
+      (subst (λ l. IsFound counted made (done ++ l) after false) (sym (append-nil front))
+      (more_made found.0, any-append counted done front ∙ ap (λ b. cond b true (any_meets counted front)) found.1 ∙ sym is))
+  found-taken done front more acc after true found is all more_made = record {
+    front = done ++ front;
+    more = more;
+    are = sym (append_assoc done front more);
+    some = any-append counted done front ∙ any-either (any_meets counted done) (any_meets counted front) (sym is);
+    kept = more_made found.0;
+  }
+
   -- a hit in a front is one in the whole list
   pub found-whole : (whole done behind : List T) (acc : A) → whole ≡ done ++ behind → IsFound counted made done acc true → IsFound counted made whole acc true
   found-whole whole done behind acc are found = record {
@@ -105,6 +122,21 @@ pub found-first : {T A : Type 0} (made : List T → A → Type 0) (whole : List 
     → (front : List T) × made front acc × (first front ≡ first whole)
 found-first made whole acc false found = (whole, found.0, refl)
 found-first made whole acc true found = (found.front, found.kept, first-hit whole found.front found.more found.are found.some)
+
+-- one item alone
+pub met-alone : {T : Type 0} (counted : T → Bool) (x : T) → counted x ≡ any_meets counted (x ∷ [])
+met-alone counted x = at (counted x)
+  where
+    at : (b : Bool) → b ≡ cond b true false
+    at true = refl
+    at false = refl
+
+-- where none of a block counts, all of it is taken
+pub none-left : {T X : Type 0} (content : T → X) (items : List T) (taken counting : ℕ) → (counting < 1 → taken ≡ length items) → nat_lt 0 counting ≡ false
+    → map content (drop taken items) ≡ []
+none-left content items taken counting whole none =
+    let few : counting < 1 = grind (arith, none, nat_tests) in
+    ap (λ n. map content (drop n items)) (whole few) ∙ ap (map content) (drop_all (length items) items (omega arith))
 
 -- nothing counts of nothing
 pub nothing-met : {T : Type 0} (counted : T → Bool) (l : List T) → l ≡ [] → any_meets counted l ≡ false

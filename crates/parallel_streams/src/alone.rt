@@ -1,9 +1,13 @@
 //! A stream's items in one thread, until others pay.
-ghost use Rattle.std.specs.Prelude.{◌≡◌, IfOk, true, false};
+ghost use Rattle.std.specs.Prelude.{◌≡◌, IfOk, Some, true, false};
 ghost use Rattle.collectors.specs.Laws.{IsContainerOf};
+ghost use Rattle.parallel_streams.specs.Searches.{IsFound};
 
 use crate::evaluate::collect_segment;
+use crate::seeking::Seeking;
+use crate::segments::search_segment;
 use crate::{Engine, Plumbing};
+use barriers::Demand;
 use collectors::{Collector, combine_containers};
 use leaf_reading::{Filling, Patience};
 use spliterator::NoMemory;
@@ -19,6 +23,18 @@ struct Alone<'r, R, H> {
     gate: &'r H,
     workers: u32,
     begun: Option<Instant>,
+}
+
+impl<'r, R: Clock, H: Gate> Alone<'r, R, H> {
+    // From now on.
+    fn on(engine: &Engine<'r, R, H>) -> Alone<'r, R, H> {
+        Alone {
+            clock: engine.rt,
+            gate: engine.run.gate,
+            workers: engine.run.workers,
+            begun: Instant::now(engine.rt).ok(),
+        }
+    }
 }
 
 impl<R: Clock, H: Gate> Patience for Alone<'_, R, H> {
@@ -67,12 +83,7 @@ where
         IfOk result (made (X.value stream.now)) }
 {
     engine.run.gate.goes_on()?;
-    let alone = Alone {
-        clock: engine.rt,
-        gate: engine.run.gate,
-        workers: engine.run.workers,
-        begun: Instant::now(engine.rt).ok(),
-    };
+    let alone = Alone::on(engine);
     let acc = collector.supply_for(stream.known_size().unwrap_or(0))?;
     let mut filling = Filling { collector, acc };
     let rest = stream.feed_front(engine, &alone, &Nothing::new(), &mut filling)?;
@@ -88,4 +99,56 @@ where
     let mut whole = acc;
     combine_containers(collector, &mut whole, behind)?;
     Ok(whole)
+}
+
+/// The container of a stream's items, or of a front with a hit, as `container_until`: this thread reads by itself up to the first hit, and others search
+/// what is behind.
+pub fn search_alone<
+    R: Threads + Clock + Sync,
+    X: Plumbing,
+    D: Demand<X::Item> + Sync,
+    C: Collector<Item = X::Item> + Sync,
+    H: Gate + Sync,
+>(
+    engine: &Engine<'_, R, H>,
+    stream: &X,
+    demand: &D,
+    collector: &C,
+) -> Result<(C::Acc, bool), NoMemory>
+where
+    C::Acc: Send,
+    C::Out: Send,
+    requires stream { X.ready stream.now }
+    requires demand { D.ready demand.now }
+    requires collector { C.ready collector.now }
+    requires one { D.needed demand.now ≡ Some 1 }
+    ensures found { let it = collector.now in
+        let made = IsContainerOf X.Item.is_value (C.content it) (C.empty it) (C.add it) in
+        IfOk result (λ r. IsFound (D.counted demand.now) made (X.value stream.now) r.0 r.1) }
+{
+    engine.run.gate.goes_on()?;
+    let alone = Alone::on(engine);
+    let acc = collector.supply()?;
+    let mut seeking = Seeking {
+        demand,
+        collector,
+        acc,
+        is_hit: false,
+    };
+    let rest = stream.feed_front(engine, &alone, &Nothing::new(), &mut seeking)?;
+    let Seeking { acc, is_hit, .. } = seeking;
+    let Some(progress) = rest else {
+        return Ok((acc, is_hit));
+    };
+    if is_hit {
+        return Ok((acc, true));
+    }
+    let (after, behind, is_hit) = search_segment(engine, stream, progress, demand, collector)?;
+    if !is_hit && !stream.is_last(&after) {
+        unreachable!()
+    }
+    engine.run.gate.goes_on()?;
+    let mut whole = acc;
+    combine_containers(collector, &mut whole, behind)?;
+    Ok((whole, is_hit))
 }

@@ -12,6 +12,7 @@ mod kept;
 mod places;
 mod plumbing;
 mod run;
+mod seeking;
 mod segments;
 mod source;
 mod staged;

@@ -8,7 +8,7 @@ ghost use Rattle.parallel_streams.specs.Reading.{ReadsLittle};
 ghost use Rattle.parallel_streams.specs.Searches.{DecidesOrHits, IsFound};
 ghost use Rattle.parallel_streams.specs.Terminals.{any_meets};
 
-use crate::alone::{begins_alone, collect_alone};
+use crate::alone::{begins_alone, collect_alone, search_alone};
 use crate::evaluate::{collect_segment, run_barriers, run_last};
 use crate::source::FIRST;
 use crate::{Engine, Plumbing, Run};
@@ -211,7 +211,7 @@ pub fn finish_on<R, C: Collector, H: Gate>(
 
 // The container of the present segment's items, and whether it has a hit: an item that counts, where one is enough for the demand. It has all items then,
 // or a front with a hit.
-fn search_segment<
+pub(crate) fn search_segment<
     R: Threads + Clock + Sync,
     X: Plumbing,
     D: Demand<X::Item> + Sync,
@@ -332,6 +332,9 @@ where
         let made = IsContainerOf X.Item.is_value (C.content it) (C.empty it) (C.add it) in
         IfOk result (λ r. IsFound (D.counted demand.now) made (X.value stream.now) r.0 r.1) }
 {
+    if stream.growth() <= FEW && begins_alone(engine, stream) {
+        return search_alone(engine, stream, demand, collector);
+    }
     let (_, acc, is_hit) = search(engine, stream, demand, collector)?;
     Ok((acc, is_hit))
 }
@@ -346,7 +349,7 @@ pub fn first_item<R: Threads + Clock + Sync, X: Plumbing, H: Gate + Sync>(
     ensures { IfOk result (λ found. option_map X.Item.content found ≡ first (X.value stream.now)) }
 {
     let first = First::<X::Item>::new();
-    let (_, acc, _) = search(engine, stream, &Total::new(1), &first)?;
+    let (acc, _) = container_until(engine, stream, &Total::new(1), &first)?;
     finish_on(engine, &first, acc)
 }
 
@@ -363,6 +366,6 @@ pub fn some_counts<
     requires one { D.needed demand.now ≡ Some 1 }
     ensures { IfOk result (λ met. met ≡ any_meets (D.counted demand.now) (X.value stream.now)) }
 {
-    let (_, _, is_hit) = search(engine, stream, demand, &Counting::new())?;
+    let (_, is_hit) = container_until(engine, stream, demand, &Counting::new())?;
     Ok(is_hit)
 }
