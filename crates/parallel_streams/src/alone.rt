@@ -136,7 +136,12 @@ where
         is_hit: false,
     };
     let rest = stream.feed_front(engine, &alone, &Nothing::new(), &mut seeking)?;
-    let Seeking { acc, is_hit, .. } = seeking;
+    let Seeking {
+        demand,
+        collector,
+        acc,
+        is_hit,
+    } = seeking;
     let Some(progress) = rest else {
         return Ok((acc, is_hit));
     };
@@ -144,7 +149,7 @@ where
         return Ok((acc, true));
     }
     let (after, behind, is_hit) = search_segment(engine, stream, progress, demand, collector)?;
-    if !is_hit && !stream.is_last(&after) {
+    if !stream.is_last(&after) {
         unreachable!()
     }
     engine.run.gate.goes_on()?;

@@ -1,5 +1,5 @@
 //! A container that is filled until an item counts, as a sink.
-ghost use Rattle.std.specs.Prelude.{◌≡◌, Bool, ⊤};
+ghost use Rattle.std.specs.Prelude.{◌≡◌, Bool, Some, ⊤};
 ghost use Rattle.std.proofs.Common.{refl};
 ghost use Rattle.collectors.specs.Laws.{IsContainerOf};
 ghost use Rattle.leaf_reading.specs.KeeperLaws.{Offers, offers-none};
@@ -10,7 +10,7 @@ use collectors::{Collector, are_values};
 use spliterator::{NoMemory, Value};
 use stages::Sink;
 
-/// A container that takes in what comes, up to the first item that counts.
+/// A container that takes in what comes, up to the first item that counts, where one is enough for the demand.
 #[derive(Drop)]
 pub struct Seeking<'a, D, C, A> {
     pub demand: &'a D,
@@ -20,7 +20,7 @@ pub struct Seeking<'a, D, C, A> {
 }
 
 impl<T: Value + Drop, D: Demand<T>, C: Collector<Item = T>> Sink<T> for Seeking<'_, D, C, C::Acc> {
-    ghost ready = { λ s. D.ready s.demand.now × C.ready s.collector.now };
+    ghost ready = { λ s. D.ready s.demand.now × C.ready s.collector.now × (D.needed s.demand.now ≡ Some 1) };
 
     // Whatever was found of a list, the same is found of the list with these items behind it.
     ghost takes = { λ s xs t. let it = s.collector.now in
@@ -43,7 +43,7 @@ impl<T: Value + Drop, D: Demand<T>, C: Collector<Item = T>> Sink<T> for Seeking<
 
     ghost spoils_later = { λ s t u xs p q. tt };
 
-    ghost stays_ready = { λ s t xs p r. seeks-ready (λ d c. D.ready d.now × C.ready c.now) p.0 p.1 r };
+    ghost stays_ready = { λ s t xs p r. seeks-ready (λ d c. D.ready d.now × C.ready c.now × (D.needed d.now ≡ Some 1)) p.0 p.1 r };
 
     fn take(&mut self, x: T) -> Result<(), NoMemory> {
         if self.is_hit {
