@@ -43,10 +43,13 @@ enum Before {
 /// A task, what stands in front of it, the numbers from 1 up to so many, the estimate of a leaf or 0 where nobody heeds leaves, what the task makes of them, and what is asked in turn: before
 /// a (r)un, a (l)eaf, a (c)ombination, a barrier's (p)ass and each list of it, the (f)inish of a container, (k)eys, a (s)ort, and (w)ithin a leaf, after each
 /// stretch of 1,024 items: also a last one that is shorter, where it is read as a block. Where there is no leaf, after 1, 4, 16, 64, 256 items, and so on.
-static ASKED: [(Task, Before, i64, u64, i64, &str); 20] = [
+static ASKED: [(Task, Before, i64, u64, i64, &str); 23] = [
     (Task::Sum, Before::Nothing, 1, 0, 1, "rwf"),
     (Task::Join, Before::Nothing, 100, 0, 5_050, "rwwwwf"),
     (Task::List, Before::Nothing, 5_000, 0, 5_000, "rwwwwwwwwwf"),
+    (Task::First, Before::Nothing, 5_000, 0, 1, "rwf"),
+    (Task::Any, Before::Nothing, 100, 0, 0, "rwwww"),
+    (Task::Any, Before::Nothing, 10_000, 0, 1, "rwwwwwwwwwwwwww"),
     (Task::Sum, Before::Nothing, 2, 1, 3, "rllcf"),
     (Task::Sum, Before::Nothing, 4, 1, 10, "rllllcccf"),
     (

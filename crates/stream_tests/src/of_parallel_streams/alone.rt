@@ -9,7 +9,7 @@ use std::sync::atomic::{AtomicU64, Ordering};
 use std::thread::Threads;
 use std::time::{Clock, Duration};
 use stealing_pool::NoGate;
-use stream_functions::{Even, Itself, Times};
+use stream_functions::{Above, Even, Itself, Times};
 
 /// A runtime whose clock goes on by so many nanoseconds at each reading, and counts these.
 #[derive(Drop)]
@@ -57,6 +57,22 @@ static ALONE: [(i64, u32, u64, u64, u64); 19] = [
     (6, 4, 1, 0, 4),
 ];
 
+/// Whether no item is so great, whether one isn't negative is told, and the searches read the clock so often: the second behind its first item at most.
+fn is_searched<R: Threads + Sync, X: Stream<Item = i64> + Sync>(
+    engine: &Engine<'_, Ticking<'_, R>, NoGate>,
+    items: &X,
+    is_some: bool,
+    readings: u64,
+) -> Result<bool, StreamError>
+    requires { X.ready items.now }
+{
+    let is_great = items.any_match_on(engine, &Above(i64::MAX - 1))?;
+    let read = engine.rt.readings.swap(0, Ordering::SeqCst);
+    let is_told = items.any_match_on(engine, &Above(-1))? == is_some;
+    let again = engine.rt.readings.swap(0, Ordering::SeqCst);
+    Ok(!is_great && is_told && (read, again) == (readings, readings.min(2)))
+}
+
 /// Whether the even numbers, three times each, have their list and their sum, and each run reads the clock so often.
 fn is_right<R: Threads + Sync>(
     rt: &R,
@@ -81,14 +97,15 @@ fn is_right<R: Threads + Sync>(
     let list = tripled.collect_on(&engine, &ToList::new(alloc))?;
     let read = ticking.readings.swap(0, Ordering::SeqCst);
     let sum = tripled.collect_on(&engine, &SummingLong::new(Itself))?;
-    let again = ticking.readings.load(Ordering::SeqCst);
+    let again = ticking.readings.swap(0, Ordering::SeqCst);
+    let is_searched = is_searched(&engine, &tripled, 0 < end, readings)?;
     let evens = end / 2 + end % 2;
     let total = evens.wrapping_mul(evens - 1).wrapping_mul(3);
     let is_listed = list
         .iter()
         .copied()
         .eq((0..evens).map(|x| x.wrapping_mul(6)));
-    Ok(is_listed && sum == total && (read, again) == (readings, readings))
+    Ok(is_searched && is_listed && sum == total && (read, again) == (readings, readings))
 }
 
 #[test]

@@ -10,6 +10,6 @@ returns g c =
     let content = g.X.Item.Value.content in
     let whole = g.X.Plumbing.value c.args.stream.now in
     let made : List g.row.X-Item-Content.Denot → Option g.row.X-Item.Denot → Type 0 = IsContainerOf g.X.Item.Value.is_value (option_map content) None (reduce_add earlier) in
-    let hit = found-first made whole c.in_ok-acc.acc c.in_ok-acc.field-0-2 c.in_ok-acc.ensures.found in
+    let hit = found-first made whole c.in_ok-acc.acc c.in_ok-acc.field-0-1 c.in_ok-acc.ensures.found in
     let P : Option g.row.X-Item-Content.Denot → Type 0 = λ o. IfOk c.finish_on.result (λ found. option_map content found ≡ o) in
     subst P hit.2 (c.finish_on.ensures hit.0 hit.1)
