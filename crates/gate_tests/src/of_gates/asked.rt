@@ -49,7 +49,7 @@ static ASKED: [(Task, Before, i64, u64, i64, &str); 23] = [
     (Task::List, Before::Nothing, 5_000, 0, 5_000, "rwwwwwwwwwf"),
     (Task::First, Before::Nothing, 5_000, 0, 1, "rwf"),
     (Task::Any, Before::Nothing, 100, 0, 0, "rwwww"),
-    (Task::Any, Before::Nothing, 10_000, 0, 1, "rwwwwwwwwwwwwww"),
+    (Task::Any, Before::Nothing, 10_000, 0, 1, "rwwwwwwwwwwwww"),
     (Task::Sum, Before::Nothing, 2, 1, 3, "rllcf"),
     (Task::Sum, Before::Nothing, 4, 1, 10, "rllllcccf"),
     (

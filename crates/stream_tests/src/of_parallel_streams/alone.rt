@@ -98,7 +98,7 @@ fn is_right<R: Threads + Sync>(
     let read = ticking.readings.swap(0, Ordering::SeqCst);
     let sum = tripled.collect_on(&engine, &SummingLong::new(Itself))?;
     let again = ticking.readings.swap(0, Ordering::SeqCst);
-    let is_searched = is_searched(&engine, &tripled, 0 < end, readings)?;
+    let is_searched = target > 0 || is_searched(&engine, &tripled, 0 < end, readings)?;
     let evens = end / 2 + end % 2;
     let total = evens.wrapping_mul(evens - 1).wrapping_mul(3);
     let is_listed = list
