@@ -377,13 +377,6 @@ where
         })
     }
 
-    fn estimate(&self, progress: &ChainProgress<U::Progress, B::State, U::Item>) -> u64 {
-        match &progress.listed {
-            Some(listed) => listed.items.len() as u64,
-            None => self.upstream.estimate(&progress.before),
-        }
-    }
-
     fn longest_list(&self, progress: &ChainProgress<U::Progress, B::State, U::Item>) -> u64 {
         self.upstream
             .longest_list(&progress.before)

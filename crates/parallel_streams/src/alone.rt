@@ -14,7 +14,13 @@ use spliterator::NoMemory;
 use stages::Nothing;
 use std::thread::Threads;
 use std::time::{Clock, Instant};
-use stealing_pool::{ALONE_NANOS, FEW_ITEMS, Gate};
+use stealing_pool::Gate;
+
+// How many nanoseconds one thread reads by itself: about what it takes to start others.
+const ALONE_NANOS: u64 = 50_000;
+
+// The most items with which one thread begins by itself. Of more, four workers at least would lose by it.
+const FEW_ITEMS: u64 = 1 << 18;
 
 // How long one thread goes on where there may be others: until as much time has gone as other threads take to start, and what is left is likely to take as much.
 #[derive(Drop)]

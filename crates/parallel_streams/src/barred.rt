@@ -203,13 +203,6 @@ where
         })
     }
 
-    fn estimate(&self, progress: &BarredProgress<U::Progress, B::State, U::Item>) -> u64 {
-        match &progress.listed {
-            Some(listed) => listed.items.len() as u64,
-            None => self.upstream.estimate(&progress.before),
-        }
-    }
-
     fn longest_list(&self, progress: &BarredProgress<U::Progress, B::State, U::Item>) -> u64 {
         self.upstream
             .longest_list(&progress.before)

@@ -43,10 +43,6 @@ impl<X: Plumbing> LeafJob for BarrierRun<'_, '_, X> {
         self.stream.need(self.progress)
     }
 
-    fn estimate(&self) -> u64 {
-        self.stream.estimate(self.progress)
-    }
-
     fn run_leaf<B: Handout>(
         &self,
         board: &B,
@@ -86,10 +82,6 @@ impl<X: Plumbing, D: Demand<X::Item>, C: Collector<Item = X::Item>> LeafJob
 
     fn need(&self) -> Need {
         self.demand.need()
-    }
-
-    fn estimate(&self) -> u64 {
-        self.stream.estimate(self.progress)
     }
 
     fn run_leaf<B: Handout>(

@@ -199,9 +199,6 @@ pub trait Plumbing: Sync {
         ensures reads { (n : ℕ) → read self.now progress n → IfOk result (λ next. (to : ℕ)
             × reads self.now next n to × (fine self.now → to ≤ most_read n)) };
 
-    /// About how many items there are in the next run, as the source estimates them: 2^64 - 1 where it can't tell. It is no promise.
-    fn estimate(&self, progress: &Self::Progress) -> u64;
-
     /// How many items the longest list of the present segment's barriers had, before its barrier cut it. It is no promise.
     fn longest_list(&self, _progress: &Self::Progress) -> u64 {
         0

@@ -52,15 +52,11 @@ pub fn rows<'a, T>(items: &'a [T]) -> Source<RowsSplit<'a, T>>
 /// The most items of the first segment. Those behind it grow by what was read.
 pub const FIRST: u64 = 1 << 12;
 
-// The estimate of a segment that is known to be worth threads.
-const LONG: u64 = u64::MAX;
-
-/// How far a source has come: the present segment, cut into leaves, its estimate, and the parts of the source behind it, of which the last stands
+/// How far a source has come: the present segment, cut into leaves, and the parts of the source behind it, of which the last stands
 /// next. And how many items the segments up to the present one have, where that is known.
 #[derive(Drop)]
 pub struct SourceProgress<S> {
     plan: Plan<S>,
-    size: u64,
     rest: Vec<S>,
     read: Option<u64>,
 }
@@ -247,15 +243,9 @@ where
     ) -> Result<SourceProgress<S>, NoMemory> {
         let mut rest = Vec::new(alloc);
         let first = first_of(self.split, most, &mut rest)?;
-        let size = first.estimate_size();
         let read = read_with(Some(0), &first);
         let plan = plan_segment(alloc, first, workers, target)?;
-        Ok(SourceProgress {
-            plan,
-            size,
-            rest,
-            read,
-        })
+        Ok(SourceProgress { plan, rest, read })
     }
 
     fn source_estimate(&self) -> u64 {
@@ -276,7 +266,6 @@ where
         let plan = plan_segment(engine.alloc, source, engine.run.workers, engine.run.target)?;
         Ok(Some(SourceProgress {
             plan,
-            size: LONG,
             rest: Vec::new(engine.alloc),
             read: None,
         }))
@@ -299,19 +288,9 @@ where
             unreachable!()
         };
         let first = split_front(next, most_behind(progress.read, most), &mut rest)?;
-        let size = first.estimate_size();
         let read = read_with(progress.read, &first);
         let plan = plan_segment(alloc, first, workers, target)?;
-        Ok(SourceProgress {
-            plan,
-            size,
-            rest,
-            read,
-        })
-    }
-
-    fn estimate(&self, progress: &SourceProgress<S>) -> u64 {
-        progress.size
+        Ok(SourceProgress { plan, rest, read })
     }
 
     fn is_through(&self, _progress: &SourceProgress<S>) -> bool {

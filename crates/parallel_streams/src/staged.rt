@@ -153,11 +153,6 @@ where
         self.upstream.go_on(alloc, progress, workers, target, most)
     }
 
-    fn estimate(&self, progress: &U::Progress) -> u64 {
-        let items = self.upstream.estimate(progress);
-        items.saturating_mul(self.stage.growth())
-    }
-
     fn longest_list(&self, progress: &U::Progress) -> u64 {
         self.upstream.longest_list(progress)
     }

@@ -1,5 +1,5 @@
 -- The shifts of seats, one before others.
-use Rattle.std.proofs.Common.{◌≡◌, ◌<◌, ◌∷◌, ℕ, zero, suc, List, length, subst, sym, arith, Vec, Global}
+use Rattle.std.proofs.Common.{◌≡◌, ◌<◌, ◌∷◌, ℕ, zero, suc, List, length, subst, sym, ap, arith, Vec, Global}
 use Rattle.std.specs.Prelude.{slice_index_or, Result, IfOk}
 use Rattle.std.proofs.lemmas.Result.{IfOk-weaker}
 
@@ -40,3 +40,7 @@ pub tail_of_each : {S : Type 0} (P : S → Type 0) (seat : S) (seats all : List 
     → ((k : ℕ) (d : S) → k < length all → P (slice_index_or all k d))
     → (k : ℕ) (d : S) → k < length seats → P (slice_index_or seats k d)
 tail_of_each P seat seats all is each k d within = (subst (λ l. (j : ℕ) (e : _) → j < length l → P (slice_index_or l j e)) is each) (suc k) d (omega arith)
+
+-- behind the only seat there is none
+pub none_behind : {S : Type 0} (seat : S) (seats all : List S) → all ≡ seat ∷ seats → length all < 2 → (k : ℕ) (P : Type 0) → k < length seats → P
+none_behind seat seats all is alone k P within = absurd (omega (arith, ap length is, alone, within))

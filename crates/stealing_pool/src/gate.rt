@@ -29,7 +29,7 @@ pub trait Gate {
         }
     }
 
-    /// Whether it heeds what it is told of leaves. Where it doesn't, one worker begins alone, and few items are read with no leaf.
+    /// Whether it heeds what it is told of leaves. Where it doesn't, few items are read with no leaf.
     fn heeds_leaves(&self) -> bool {
         true
     }

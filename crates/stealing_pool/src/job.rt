@@ -32,11 +32,6 @@ pub trait LeafJob {
         ensures is { need_of result ≡ (work self.now).needed }
         ensures fits { IsBelow (work self.now).needed (2 ^ 63) };
 
-    /// About how many items there are to read at most, as the source estimates them: 2^64 - 1 where it can't tell. No result depends on it.
-    fn estimate(&self) -> u64 {
-        u64::MAX
-    }
-
     /// Runs a leaf until it ends, until enough of it is kept, or until the board says that it was cut.
     fn run_leaf<B: Handout>(
         &self,

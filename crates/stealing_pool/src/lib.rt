@@ -8,16 +8,13 @@ mod gather;
 mod halting;
 mod job;
 mod job_run;
-mod patience;
 mod plan_run;
 mod report;
 mod run;
 mod worker;
 
-pub use crew::ALONE_NANOS;
 pub use gate::{Gate, NoGate};
 pub use job::LeafJob;
 pub use job_run::{Gathered, run_job};
 pub use plan_run::run_leaves;
 pub use report::{RunEntry, RunReport};
-pub use run::FEW_ITEMS;

@@ -47,14 +47,6 @@ impl<S: Spliterator, G: Stage<In = S::Item>, D: Demand<G::Out>, C: Collector<Ite
         self.reading.demand.need()
     }
 
-    fn estimate(&self) -> u64 {
-        let mut items: u64 = 0;
-        for leaf in 0..self.plan.leaves() {
-            items = items.saturating_add(self.plan.leaf(leaf).estimate_size());
-        }
-        items
-    }
-
     fn run_leaf<B: Handout>(
         &self,
         board: &B,

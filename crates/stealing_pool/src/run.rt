@@ -11,7 +11,7 @@ use crate::gate::Gate;
 use crate::gather::{pick_row, sort_shifts};
 use crate::halting::HaltingJob;
 use crate::job::LeafJob;
-use crate::worker::{Crew, Shift};
+use crate::worker::Crew;
 use leaf_board::LeafBoard;
 use split_tree::Tree;
 use spliterator::NoMemory;
@@ -31,19 +31,6 @@ pub struct Opened<B, T> {
 pub struct Closed<K, R> {
     pub kept: K,
     pub record: R,
-}
-
-/// The most items of a run that begins in one thread. Of more, four workers at least would lose by it.
-pub const FEW_ITEMS: u64 = 1 << 18;
-
-/// Whether no worker but the first ran a leaf.
-fn is_one_alone<T, K>(shifts: &[Shift<T, K>]) -> bool {
-    for shift in shifts.iter().skip(1) {
-        if !shift.ran.is_empty() {
-            return false;
-        }
-    }
-    true
 }
 
 /// Runs the leaves over a board and all its seats, and gathers what is kept of them.
@@ -78,13 +65,7 @@ where
         job,
         gate,
     };
-    let begins_alone = !gate.heeds_leaves() && job.estimate() <= FEW_ITEMS;
-    let shifts = run_workers(rt, alloc, &crew, begins_alone, seats)?;
-    let workers = if begins_alone && is_one_alone(shifts.as_slice()) {
-        1
-    } else {
-        workers
-    };
+    let shifts = run_workers(rt, alloc, &crew, seats)?;
     let (seats, places) = sort_shifts(alloc, job.leaves(), shifts)?;
     let record = board.close(seats);
     let row = pick_row(alloc, job, places)?;

@@ -9,7 +9,6 @@ use crate::crew::Worker;
 use crate::gate::Gate;
 use crate::halting::Halting;
 use crate::job::LeafJob;
-use crate::patience::{Endless, Patience};
 use barriers::Need;
 use leaf_board::{Draw, Handout};
 use leaf_reading::{LeafEnd, Portion};
@@ -40,12 +39,6 @@ fn may_cut(need: Need, count: u64) -> bool
         Need::Never => false,
         Need::Reach(needed) => count > 0 || needed == 0,
     }
-}
-
-/// Whether a worker that ran so many leaves asks its patience: behind the first, and behind each
-/// second one from there on, since cheap leaves take little longer than a look at the clock.
-fn is_asking(leaves: usize) -> bool {
-    leaves % 2 == 1
 }
 
 /// The most leaves for which a worker makes room at once.
@@ -143,51 +136,37 @@ impl<B: Handout, J: LeafJob, H: Gate> Crew<'_, B, J, H> {
         served
     }
 
-    /// Goes on with a shift: draws leaves and serves them, until all are given out, memory is refused, or patience is over. Says whether others
-    /// may find leaves.
-    fn go_on<P: Patience>(
-        &self,
-        patience: &P,
-        shift: Shift<B::Seat, J::Kept>,
-    ) -> (Shift<B::Seat, J::Kept>, bool)
+    /// Draws leaves and serves them, until all are given out or memory is refused.
+    fn go_on(&self, shift: Shift<B::Seat, J::Kept>) -> Shift<B::Seat, J::Kept>
         requires ready { J.ready self.now.job.now }
         requires case { IsCase (J.work self.now.job.now) (B.leaves self.now.board.now) (B.full self.now.board.now) (B.need self.now.board.now) }
         requires begun { IsBegun (J.work self.now.job.now) (B.is_of self.now.board.now) B.status B.made_cut shift }
-        ensures of { B.is_of self.now.board.now result.0.seat }
-        ensures number { B.number result.0.seat ≡ B.number shift.seat }
-        ensures ran { All (IsRan (J.work self.now.job.now)) result.0.ran.items }
-        ensures cuts { All (CutBy (J.work self.now.job.now) B.made_cut result.0.seat) result.0.ran.items }
-        ensures kept { result.0.refused ≡ false → KeepsShift (B.status result.0.seat) result.0.ran.items }
-        ensures drained { result.0.refused ≡ false → result.1 ≡ false → B.drained result.0.seat }
-        ensures left { result.1 ≡ true → P.ends patience.now }
+        requires lawful { shift.refused ≡ false }
+        ensures of { B.is_of self.now.board.now result.seat }
+        ensures number { B.number result.seat ≡ B.number shift.seat }
+        ensures ran { All (IsRan (J.work self.now.job.now)) result.ran.items }
+        ensures cuts { All (CutBy (J.work self.now.job.now) B.made_cut result.seat) result.ran.items }
+        ensures kept { result.refused ≡ false → KeepsShift (B.status result.seat) result.ran.items }
+        ensures drained { result.refused ≡ false → B.drained result.seat }
     {
-        if shift.refused {
-            return (shift, false);
-        }
         let worker = B::seat_number(&shift.seat);
         let mut shift = shift;
-        let mut more = false;
         'drawing: loop {
-            if more && is_asking(shift.ran.len()) && patience.is_over() {
-                return (shift, true);
-            }
             let pass = match self.board.draw(&mut shift.seat) {
                 Draw::Leaf(pass) => pass,
-                Draw::Drained => return (shift, false),
+                Draw::Drained => return shift,
             };
             if make_room(&mut shift.ran, self.job.leaves()).is_err() {
                 self.board.give_up(&mut shift.seat, pass);
                 shift.refused = true;
-                return (shift, false);
+                return shift;
             }
-            // One seat alone draws the leaves in their order.
-            more = B::leaf(&pass) < self.job.leaves() - 1;
             match self.serve(worker, &mut shift.seat, pass) {
                 Ok(Some(one)) => shift.ran.push_reserved(one),
                 Ok(None) => {}
                 Err(NoMemory) => {
                     shift.refused = true;
-                    return (shift, false);
+                    return shift;
                 }
             }
         }
@@ -222,24 +201,7 @@ where
 
     ghost ends = { λ w shift. shift.refused ≡ false → B.drained shift.seat };
 
-    ghost begun = { λ w seat shift. J.ready w.job.now × IsCase (J.work w.job.now) (B.leaves w.board.now) (B.full w.board.now) (B.need w.board.now)
-        × IsBegun (J.work w.job.now) (B.is_of w.board.now) B.status B.made_cut shift × (B.number shift.seat ≡ B.number seat) };
-
     fn run(&self, seat: B::Seat) -> Shift<B::Seat, J::Kept> {
-        let (shift, _) = self.go_on(&Endless, self.fresh(seat));
-        shift
-    }
-
-    fn idle(&self, seat: B::Seat) -> Shift<B::Seat, J::Kept> {
-        self.fresh(seat)
-    }
-
-    fn begin<P: Patience>(&self, patience: &P, seat: B::Seat) -> (Shift<B::Seat, J::Kept>, bool) {
-        self.go_on(patience, self.fresh(seat))
-    }
-
-    fn finish(&self, shift: Shift<B::Seat, J::Kept>) -> Shift<B::Seat, J::Kept> {
-        let (shift, _) = self.go_on(&Endless, shift);
-        shift
+        self.go_on(self.fresh(seat))
     }
 }

@@ -33,8 +33,7 @@ impl<R> Clock for Ticking<'_, R> {
 }
 
 /// Numbers from 0, workers, a target, the clock's steps, and how often it is read: before the first item, and behind 1, 4, 16, 64, 256 items, and each 1,024 more,
-/// until 50 microseconds have gone and what is left is likely to take as long. More than 2^18 numbers are planned at once, and so are those of a target, whose
-/// first worker reads it before a leaf, and behind the first, the third and the fifth of six.
+/// until 50 microseconds have gone and what is left is likely to take as long. More than 2^18 numbers are planned at once, and so are those of a target.
 static ALONE: [(i64, u32, u64, u64, u64); 19] = [
     (0, 4, 0, 0, 1),
     (1, 4, 0, 0, 2),
@@ -54,7 +53,7 @@ static ALONE: [(i64, u32, u64, u64, u64); 19] = [
     (5_000, 4, 0, 10_000, 6),
     (262_144, 4, 0, 50_000, 2),
     (262_145, 4, 0, 50_000, 0),
-    (6, 4, 1, 0, 4),
+    (6, 4, 1, 0, 0),
 ];
 
 /// Whether no item is so great, whether one isn't negative is told, and the searches read the clock so often: the second behind its first item at most.
@@ -98,7 +97,7 @@ fn is_right<R: Threads + Sync>(
     let read = ticking.readings.swap(0, Ordering::SeqCst);
     let sum = tripled.collect_on(&engine, &SummingLong::new(Itself))?;
     let again = ticking.readings.swap(0, Ordering::SeqCst);
-    let is_searched = target > 0 || is_searched(&engine, &tripled, 0 < end, readings)?;
+    let is_searched = is_searched(&engine, &tripled, 0 < end, readings)?;
     let evens = end / 2 + end % 2;
     let total = evens.wrapping_mul(evens - 1).wrapping_mul(3);
     let is_listed = list

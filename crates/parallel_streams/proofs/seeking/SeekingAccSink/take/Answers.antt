@@ -15,8 +15,12 @@ returns-clause-taken g c =
     let made = IsContainerOf is_value (g.C.Collector.content it) (g.C.Collector.empty it) (g.C.Collector.add it) in
     let new = c.accumulate_owned.new.acc in
     on_ok_weaker c.accumulate_owned.result
-    (λ added. (refl, refl, λ whole found.
-      let P : Bool → Type 0 = λ b. IsFound counted made whole s.acc b in
-      found-taken counted made whole (x ∷ []) [] s.acc new c.counts-self.result (subst P c.if-self.false found) (c.counts-self.ensures ∙ met-alone counted x) (λ missed. refl)
-      (container-push is_value (g.C.Collector.content it) (g.C.Collector.empty it) (g.C.Collector.add it) whole x s.acc new c.is_value-value.ensures.value added)))
+    (λ added. (
+      refl,
+      refl,
+      λ whole found.
+          let P : Bool → Type 0 = λ b. IsFound counted made whole s.acc b in
+          found-taken counted made whole (x ∷ []) [] s.acc new c.counts-self.result (subst P c.if-self.false found) (c.counts-self.ensures ∙ met-alone counted x) (λ missed. refl)
+          (container-push is_value (g.C.Collector.content it) (g.C.Collector.empty it) (g.C.Collector.add it) whole x s.acc new c.is_value-value.ensures.value added),
+    ))
     c.accumulate_owned.ensures

@@ -24,12 +24,17 @@ returns-clause-taken g c =
     let front = map content (take taken items) in
     let more = map content (drop taken items) in
     let told = c.front-taken.ensures in
-    let all : front ++ more ≡ map content items = sym (map-append content (take taken items) (drop taken items)) ∙ ap (map content) (take-append-drop taken items) in
-    (refl, refl, λ whole found.
-      let P : Bool → Type 0 = λ b. IsFound counted made whole s.acc b in
-      let Q : List g.row.T-Content.Denot → Type 0 = λ l. IsFound counted made (whole ++ l) c.accumulate_all.new.acc (nat_lt 0 counting) in
-      subst Q all
-      (found-taken counted made whole front more s.acc c.accumulate_all.new.acc (nat_lt 0 counting) (subst P c.if-self.false found)
-        (ap (nat_lt 0) told.counting ∙ sym (any-by-count counted front)) (none-left content items taken counting told.whole)
-        (λ before. (All-append is_value whole front before.0 c.are_values.ensures,
-          c.in_ok-accumulate_all.ensures ∙ ap (λ a. fold add a front) before.1 ∙ sym (fold-append add empty whole front)))))
+    let all : front ++ more ≡ map content items = sym (map-append content (take taken items) (drop taken items)) ∙ ap (map content) (take-append-drop taken items) in (
+      refl,
+      refl,
+      λ whole found.
+          let P : Bool → Type 0 = λ b. IsFound counted made whole s.acc b in
+          let Q : List g.row.T-Content.Denot → Type 0 = λ l. IsFound counted made (whole ++ l) c.accumulate_all.new.acc (nat_lt 0 counting) in
+          subst Q all
+          (found-taken counted made whole front more s.acc c.accumulate_all.new.acc (nat_lt 0 counting) (subst P c.if-self.false found)
+          (ap (nat_lt 0) told.counting ∙ sym (any-by-count counted front)) (none-left content items taken counting told.whole)
+          (λ before. (
+            All-append is_value whole front before.0 c.are_values.ensures,
+            c.in_ok-accumulate_all.ensures ∙ ap (λ a. fold add a front) before.1 ∙ sym (fold-append add empty whole front),
+          ))),
+    )

@@ -9,7 +9,7 @@ pub returns-in-Drained-clause-kept : goal.returns-in-Drained-clause-kept
 returns-in-Drained-clause-kept g c = λ done. shift_same _ _ c.drawing.invariant.served _ c.in-Drained.ensures.draws.0
 
 pub returns-in-Drained-clause-drained : goal.returns-in-Drained-clause-drained
-returns-in-Drained-clause-drained g c = λ done stayed. c.in-Drained.ensures.draws.1
+returns-in-Drained-clause-drained g c = λ done. c.in-Drained.ensures.draws.1
 
 pub drawing-preserved-in-Ok-Some : goal.drawing-preserved-in-Ok-Some
 drawing-preserved-in-Ok-Some g c =
