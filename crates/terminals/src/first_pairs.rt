@@ -47,12 +47,12 @@ impl<J: SortedValue + Drop, T: Value + Drop> FirstPairs<J, T> {
         ensures { let seen = contents J.content T.content self.now.pairs.items in
             result ≡ true → (c : T.Content) → IsBehind (key_below J.order) number (J.content key.now, c) seen }
     {
-        if number == 0 || self.bounded != number {
-            return false;
-        }
-        match self.pairs.get(number - 1) {
-            Some((bound, _)) => !Best::Least.is_better(key, bound),
-            None => false,
+        let Some(last) = number.checked_sub(1) else {
+            return true;
+        };
+        match self.pairs.get(last) {
+            Some((bound, _)) if self.bounded == number => !Best::Least.is_better(key, bound),
+            _ => false,
         }
     }
 
@@ -64,9 +64,13 @@ impl<J: SortedValue + Drop, T: Value + Drop> FirstPairs<J, T> {
         item: &T,
     ) -> Result<Option<J>, NoMemory>
         requires { K.ready key.now }
-        ensures { let first = first_sorted (key_below J.order) number (contents J.content T.content self.now.pairs.items) in
+        ensures { let seen = contents J.content T.content self.now.pairs.items in
+            let first = first_sorted (key_below J.order) number seen in
             let put = add_keyed J.order (K.image key.now) number in
-            IfOk result (λ found. MatchOption found (put first (T.content item.now) ≡ first) (λ k. J.content k ≡ K.image key.now (T.content item.now))) }
+            let c = T.content item.now in
+            IfOk result (λ found. MatchOption found
+            (put first c ≡ first)
+            (λ k. J.content k ≡ K.image key.now c)) }
     {
         let image = key.image(item)?;
         if self.stands_behind(number, &image) {
@@ -84,12 +88,14 @@ impl<J: SortedValue + Drop, T: Value + Drop> FirstPairs<J, T> {
         items: &'a [T],
     ) -> Result<Option<(J, &'a T, &'a [T])>, NoMemory>
         requires { K.ready key.now }
-        ensures { let first = first_sorted (key_below J.order) number (contents J.content T.content self.now.pairs.items) in
+        ensures { let seen = contents J.content T.content self.now.pairs.items in
+            let first = first_sorted (key_below J.order) number seen in
             let put = add_keyed J.order (K.image key.now) number in
             let all = fold put first (map T.content items.now) in
             IfOk result (λ found. MatchOption found
             (all ≡ first)
-            (λ f. (J.content f.0 ≡ K.image key.now (T.content f.1.now)) × (length f.2.now < length items.now)
+            (λ f. (J.content f.0 ≡ K.image key.now (T.content f.1.now))
+            × (length f.2.now < length items.now)
             × (all ≡ fold put (put first (T.content f.1.now)) (map T.content f.2.now)))) }
     {
         let mut left = items;
