@@ -209,14 +209,20 @@ fn made(alloc: Global, factor: i64, modulus: i64) -> Result<Vec<(i64, i64)>, All
     Ok(pairs)
 }
 
-/// Those of each key in turn, in the order in which they come.
+/// Those of each key below the modulus in turn, from the least on or from the greatest on, in the order in which they come.
 fn by_keys(
     alloc: Global,
     pairs: &[(i64, i64)],
-    keys: impl Iterator<Item = i64>,
+    modulus: i64,
+    is_falling: bool,
 ) -> Result<Vec<(i64, i64)>, AllocError> {
     let mut sorted = Vec::new(alloc);
-    for key in keys {
+    for number in 0..modulus {
+        let key = if is_falling {
+            modulus.wrapping_sub(number).wrapping_sub(1)
+        } else {
+            number
+        };
         for &pair in pairs {
             if pair.0 == key {
                 sorted.push(pair)?;
@@ -240,8 +246,8 @@ fn shapes<R: Threads + Clock + Abort + Sync>(
     let alloc = engine.alloc;
     for &(factor, modulus) in &SHAPES {
         let pairs = made(alloc, factor, modulus)?;
-        let ascending = by_keys(alloc, pairs.as_slice(), 0..modulus)?;
-        let descending = by_keys(alloc, pairs.as_slice(), (0..modulus).rev())?;
+        let ascending = by_keys(alloc, pairs.as_slice(), modulus, false)?;
+        let descending = by_keys(alloc, pairs.as_slice(), modulus, true)?;
         let numbers = keys_of(alloc, pairs.as_slice())?;
         let wanted = keys_of(alloc, ascending.as_slice())?;
         check_list(engine, numbers.as_slice(), wanted.as_slice())?;
