@@ -1,5 +1,5 @@
 -- An item behind the first ones changes nothing of them.
-use Rattle.std.specs.Prelude.{◌≡◌, ◌+◌, ◌-◌, ◌<◌, ◌≤◌, ℕ, zero, suc, Bool, true, false, not, All, List, [], ◌∷◌, ◌++◌, Some, None, fold, get_or, length, map, if◌then◌else◌, option_map, refl, slice_get, take, ⊤}
+use Rattle.std.specs.Prelude.{◌≡◌, ◌+◌, ◌<◌, ℕ, zero, suc, Bool, true, false, not, All, List, [], ◌∷◌, ◌++◌, Some, fold, get_or, length, map, if◌then◌else◌, option_map, refl, slice_get, take, ⊤}
 use Rattle.std.proofs.Common.{ap, sym, subst, ◌∙◌, arith, length-append, true≢false}
 use Rattle.std.proofs.lemmas.List.{length-map, map-append}
 use Rattle.std.proofs.lemmas.Option.{slice_get-get_or, slice_get-map}
