@@ -79,8 +79,13 @@ def pieces(at):
     return 8 * (2 * at.items - at.sizes[0])
 
 
+def whole_list(at):
+    """A list of numbers, which one worker writes as it stays."""
+    return 8 * at.items if at.workers == 1 else pieces(at)
+
+
 def listed(segment):
-    """The same of a segment."""
+    """The list of a segment, in pieces."""
     number, own = segment
     return 8 * (2 * number - number // (4 * own))
 
@@ -154,15 +159,15 @@ TERMINALS = [
     *[Row(name, None, 4) for name in FOLDS],
     Row("concat", None, 8, runs=2),
     Row("first_sorted", None, 14, 8_800, joins=1),
-    Row("to_list", None, 6, 0, lambda at: 8 * at.items if at.workers == 1 else pieces(at), joins=1),
+    Row("to_list", None, 6, 0, whole_list, joins=1),
     Row("for_each_ordered", None, 6, 0, an_item(16), joins=1),
     # lent texts of sixteen bytes, the leaves' texts and the whole
     Row("joining", None, 23, 0, lambda at: 16 * at.items + sum(2 * room(2 * it) for it in at.sizes), joins=1),
     Row("to_set", None, 72, 0, entries(39), joins=1),
     Row("to_map_strict", None, 72, 0, entries(44), joins=1),
-    # a sort has as much room beside; pairs have a key of eight bytes
-    Row("sorted", None, 50, 0, an_item(16), joins=1, sorting=SORTING),
-    Row("to_sorted_list", None, 50, 0, an_item(16), joins=1),
+    # numbers that begin with no run are sorted in place; pairs have a key of eight bytes, and their sort as much room beside
+    Row("sorted", None, 50, 0, whole_list, joins=1, sorting=SORTING),
+    Row("to_sorted_list", None, 50, 0, whole_list, joins=1),
     Row("sorted_by_key", None, 8, 0, an_item(32), joins=1, sorting=SORTING),
     Row("limit", None, 16, 0, of_segment, 2, 1, segmented=True),
     # (what a skip drops goes first)

@@ -1,5 +1,5 @@
 -- An item behind the first ones changes nothing of them.
-use Rattle.std.specs.Prelude.{◌≡◌, ◌+◌, ◌-◌, ◌<◌, ◌≤◌, ℕ, zero, suc, Bool, true, false, not, All, List, [], ◌∷◌, ◌++◌, Some, None, fold, get_or, length, map, if◌then◌else◌, option_map, refl, slice_get, take, ⊤}
+use Rattle.std.specs.Prelude.{◌≡◌, ◌+◌, ◌<◌, ℕ, zero, suc, Bool, true, false, not, All, List, [], ◌∷◌, ◌++◌, Some, fold, get_or, length, map, if◌then◌else◌, option_map, refl, slice_get, take, ⊤}
 use Rattle.std.proofs.Common.{ap, sym, subst, ◌∙◌, arith, length-append, true≢false}
 use Rattle.std.proofs.lemmas.List.{length-map, map-append}
 use Rattle.std.proofs.lemmas.Option.{slice_get-get_or, slice_get-map}
@@ -135,12 +135,10 @@ module _ {J T L C : Type 0} (key_content : J → L) (content : T → C) (below :
       subst (λ m. IsBounded below m (seen new)) (length-map new (λ (p : J × T). (key_content p.0, content p.1)) ∙ sym is) (ascending-bounded below weak (seen new) up)
 
   -- what isn't below the last of the bounded pairs
-  pub behind-bound : (n : ℕ) (ps : List (J × T)) (p : J × T) (x : L × C) (is_below : Bool) → IsBounded below n (seen ps)
-      → n - 1 < length ps → p ≡ get_or ps (n - 1) p → is_below ≡ below x (key_content p.0, content p.1) → not is_below ≡ true → IsBehind below n x (seen ps)
-  behind-bound zero ps p x is_below bounded within at is not_below = (omega arith, All-nil (λ y. below x y ≡ false))
-  behind-bound (suc n) ps p x true bounded within at is not_below = absurd (true≢false (sym not_below))
-  behind-bound (suc n) ps p x false bounded within at is not_below =
+  pub behind-bound : (n last : ℕ) (ps : List (J × T)) (p : J × T) (x : L × C) (is_below : Bool) → IsBounded below n (seen ps) → suc last ≡ n
+      → last < length ps → p ≡ get_or ps last p → is_below ≡ below x (key_content p.0, content p.1) → not is_below ≡ true → IsBehind below n x (seen ps)
+  behind-bound n last ps p x true bounded is within at low not_below = absurd (true≢false (sym not_below))
+  behind-bound n last ps p x false bounded is within at low not_below =
       let f : J × T → L × C = λ p. (key_content p.0, content p.1) in
-      let last : suc n - 1 ≡ n = omega arith in
-      let got : slice_get ps n ≡ Some p = slice_get-get_or ps n p (omega (arith, within)) ∙ ap Some (ap (λ k. get_or ps k p) (sym last) ∙ sym at) in
-      bounded.1 n refl (f p) (slice_get-map f ps n ∙ ap (option_map f) got) x (sym is)
+      let got : slice_get ps last ≡ Some p = slice_get-get_or ps last p within ∙ ap Some (sym at) in
+      bounded.1 last is (f p) (slice_get-map f ps last ∙ ap (option_map f) got) x (sym low)

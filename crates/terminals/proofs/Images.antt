@@ -19,7 +19,7 @@ module _ {X C : Type 0} (content : X → C) (below : X → X → Bool) (order : 
   abbrev lower : C → C → Bool
   lower c d = is_lt (order c d)
 
-  ascending : (xs : List X) → IsSortedBy below xs → IsSorted order (map content xs)
+  pub ascending : (xs : List X) → IsSortedBy below xs → IsSorted order (map content xs)
   ascending [] up k d low within = absurd (omega arith)
   ascending (x ∷ xs) up k d low within =
       let long = length-map (x ∷ xs) content in
@@ -58,7 +58,8 @@ module _ {X C : Type 0} (content : X → C) (below : X → X → Bool) (order : 
 whole-slice : {X : Type 0} (number : ℕ) (xs ys zs : List X) → length xs ≡ number → length ys ≡ length xs → take number (ys ++ zs) ≡ ys
 whole-slice number xs ys zs full kept = ap (λ n. take n (ys ++ zs)) (sym (kept ∙ full)) ∙ take-append_seam ys zs
 
-pub sorted-whole : {X : Type 0} (order : X → X → Ordering) (number : ℕ) (items xs ys zs : List X) → xs ≡ items → length xs ≡ number → length ys ≡ length xs
-    → IsSortedList order xs ys → IsSortedList order items (take number (ys ++ zs))
-sorted-whole order number items xs ys zs lent full kept h =
-    subst (λ l. IsSortedList order l (take number (ys ++ zs))) lent (subst (IsSortedList order xs) (sym (whole-slice number xs ys zs full kept)) h)
+-- what is so of the lent items and of those written is so of the `Vec`'s
+pub of-whole : {X : Type 0} (P : List X → List X → Type 0) (number : ℕ) (items xs ys zs : List X) → xs ≡ items → length xs ≡ number → length ys ≡ length xs
+    → P xs ys → P items (take number (ys ++ zs))
+of-whole P number items xs ys zs lent full kept h =
+    subst (λ l. P l (take number (ys ++ zs))) lent (subst (P xs) (sym (whole-slice number xs ys zs full kept)) h)

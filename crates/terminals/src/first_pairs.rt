@@ -1,15 +1,16 @@
 //! The first of sorted pairs.
-ghost use Rattle.std.specs.Prelude.{◌≡◌, OnOk, List, [], true};
+ghost use Rattle.std.specs.Prelude.{◌≡◌, ◌<◌, IfOk, MatchOption, OnOk, List, [], fold, length, map, true};
 ghost use Rattle.std.specs.Cmp.{IsTotalOrder};
 ghost use Rattle.collectors.specs.Grouping.{contents};
 ghost use Rattle.terminals.specs.Sorted.{IsSortedList, by_key};
 ghost use Rattle.terminals.specs.Insertion.{sorted_of, first_sorted, add_first, merge_first};
-ghost use Rattle.terminals.specs.FirstSorted.{key_below};
+ghost use Rattle.terminals.specs.FirstSorted.{add_keyed, key_below};
 ghost use Rattle.terminals.specs.Bounds.{IsBehind, IsBounded};
 
 use crate::ordering::sort_pairs_here;
 use derived_collectors::Best;
-use spliterator::{SortedValue, Value};
+use spliterator::{NoMemory, SortedValue, Value};
+use stages::Mapping;
 use std::alloc::{AllocError, Global};
 
 /// How many pairs there may be beside twice as many as are wanted.
@@ -42,17 +43,69 @@ impl<J: SortedValue + Drop, T: Value + Drop> FirstPairs<J, T> {
     }
 
     /// Whether an item of this key is known to stand behind so many first ones.
-    pub fn stands_behind(&self, number: usize, key: &J) -> bool
+    fn stands_behind(&self, number: usize, key: &J) -> bool
         ensures { let seen = contents J.content T.content self.now.pairs.items in
             result ≡ true → (c : T.Content) → IsBehind (key_below J.order) number (J.content key.now, c) seen }
     {
-        if number == 0 || self.bounded != number {
-            return false;
+        let Some(last) = number.checked_sub(1) else {
+            return true;
+        };
+        match self.pairs.get(last) {
+            Some((bound, _)) if self.bounded == number => !Best::Least.is_better(key, bound),
+            _ => false,
         }
-        match self.pairs.get(number - 1) {
-            Some((bound, _)) => !Best::Least.is_better(key, bound),
-            None => false,
+    }
+
+    /// The key of an item, or none where the item is known to stand behind so many first ones, so that it changes nothing of them.
+    pub fn key_inside<K: Mapping<T, Out = J>>(
+        &self,
+        number: usize,
+        key: &K,
+        item: &T,
+    ) -> Result<Option<J>, NoMemory>
+        requires { K.ready key.now }
+        ensures { let seen = contents J.content T.content self.now.pairs.items in
+            let first = first_sorted (key_below J.order) number seen in
+            let put = add_keyed J.order (K.image key.now) number in
+            let c = T.content item.now in
+            IfOk result (λ found. MatchOption found
+            (put first c ≡ first)
+            (λ k. J.content k ≡ K.image key.now c)) }
+    {
+        let image = key.image(item)?;
+        if self.stands_behind(number, &image) {
+            return Ok(None);
         }
+        Ok(Some(image))
+    }
+
+    /// The first item of a block that isn't known to stand behind so many first ones, with its key, and what follows it. Those in front of it,
+    /// or all where there is none, change nothing of the first ones.
+    pub fn first_inside<'a, K: Mapping<T, Out = J>>(
+        &self,
+        number: usize,
+        key: &K,
+        items: &'a [T],
+    ) -> Result<Option<(J, &'a T, &'a [T])>, NoMemory>
+        requires { K.ready key.now }
+        ensures { let seen = contents J.content T.content self.now.pairs.items in
+            let first = first_sorted (key_below J.order) number seen in
+            let put = add_keyed J.order (K.image key.now) number in
+            let all = fold put first (map T.content items.now) in
+            IfOk result (λ found. MatchOption found
+            (all ≡ first)
+            (λ f. (J.content f.0 ≡ K.image key.now (T.content f.1.now))
+            × (length f.2.now < length items.now)
+            × (all ≡ fold put (put first (T.content f.1.now)) (map T.content f.2.now)))) }
+    {
+        let mut left = items;
+        while let Some((item, behind)) = left.split_first() {
+            if let Some(image) = self.key_inside(number, key, item)? {
+                return Ok(Some((image, item, behind)));
+            }
+            left = behind;
+        }
+        Ok(None)
     }
 
     /// Sorts the pairs by their first parts, and keeps the first ones, which stay the first ones.

@@ -78,20 +78,25 @@ where
     }
 
     fn accumulate(&self, acc: &mut FirstPairs<K::Out, T>, x: &T) -> Result<(), NoMemory> {
-        let key = self.key.image(x)?;
-        if acc.stands_behind(self.number, &key) {
-            return Ok(());
+        if let Some(key) = acc.key_inside(self.number, &self.key, x)? {
+            acc.put(self.number, (key, x.clone()?))?;
         }
-        acc.put(self.number, (key, x.clone()?))?;
+        Ok(())
+    }
+
+    fn accumulate_all(&self, acc: &mut FirstPairs<K::Out, T>, items: &[T]) -> Result<(), NoMemory> {
+        let mut left = items;
+        while let Some((key, item, behind)) = acc.first_inside(self.number, &self.key, left)? {
+            acc.put(self.number, (key, item.clone()?))?;
+            left = behind;
+        }
         Ok(())
     }
 
     fn accumulate_owned(&self, acc: &mut FirstPairs<K::Out, T>, x: T) -> Result<(), NoMemory> {
-        let key = self.key.image(&x)?;
-        if acc.stands_behind(self.number, &key) {
-            return Ok(());
+        if let Some(key) = acc.key_inside(self.number, &self.key, &x)? {
+            acc.put(self.number, (key, x))?;
         }
-        acc.put(self.number, (key, x))?;
         Ok(())
     }
 

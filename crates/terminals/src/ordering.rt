@@ -1,40 +1,69 @@
 //! Lists put in order, by one thread or by several.
 ghost use Rattle.std.specs.Prelude.{◌≡◌, OnOk, List, map};
 ghost use Rattle.std.specs.Cmp.{IsTotalOrder};
+ghost use Rattle.std.specs.List.Sorted.{IsPermutation, IsSorted};
 ghost use Rattle.terminals.specs.Sorted.{IsSortedList, by_key};
 
-use rayon::slice::{par_sort, par_sort_by};
+use rayon::slice::{par_sort, par_sort_by, par_sort_unstable};
 use spliterator::SortedValue;
 use std::alloc::{AllocError, Global};
 use std::cmp::Ordering;
 use std::thread::Threads;
 use std::time::Clock;
 
-/// Promises that a sort of values is one of their contents.
+/// How many items tell whether a list begins with a run.
+const FRONT: usize = 64;
+
+/// Promises that values in ascending order are the sorted list of their contents: those that are equal have one content.
 pub fn promise_contents<T: SortedValue>(_sorted: &Vec<T>)
-    ensures { (list : List T) → IsSortedList T.cmp list _sorted.now.items → IsSortedList T.order (map T.content list) (map T.content _sorted.now.items) }
+    ensures { (list : List T) → IsPermutation list _sorted.now.items → IsSorted T.cmp _sorted.now.items
+        → IsSortedList T.order (map T.content list) (map T.content _sorted.now.items) }
 {}
 
-/// Sorts a list by the order of its members, in the caller's thread.
-pub fn sort_list_here<T: Ord>(list: &mut Vec<T>) -> Result<(), AllocError>
-    ensures { OnOk result (IsSortedList T.cmp list.old.items list.new.items) }
-{
-    list.sort()
+fn falls<T: Ord>(a: &T, b: &T) -> bool {
+    b < a
 }
 
-/// Sorts a list by the order of its members. Where one worker is wanted, no thread starts.
+/// Whether the items ascend, or fall with no two equal.
+fn is_run<T: Ord>(items: &[T]) -> bool {
+    items.is_sorted() || items.is_sorted_by(falls)
+}
+
+/// Whether a list begins with a run: then a sort that merges runs is the faster one.
+fn begins_with_run<T: Ord>(items: &[T]) -> bool {
+    is_run(&items[..FRONT.min(items.len())])
+}
+
+/// Sorts a list by the order of its members, in the caller's thread. Those that are equal may change places.
+pub fn sort_list_here<T: Ord>(list: &mut Vec<T>) -> Result<(), AllocError>
+    ensures moved { IsPermutation list.old.items list.new.items }
+    ensures ascending { OnOk result (IsSorted T.cmp list.new.items) }
+{
+    if begins_with_run(list.as_slice()) {
+        list.sort()
+    } else {
+        list.sort_unstable();
+        Ok(())
+    }
+}
+
+/// Sorts a list by the order of its members. Those that are equal may change places. Where one worker is wanted, no thread starts.
 pub fn sort_list<T: Ord + Send, R: Threads + Clock + Sync>(
     rt: &R,
     alloc: Global,
     workers: u32,
     list: &mut Vec<T>,
 ) -> Result<(), AllocError>
-    ensures { OnOk result (IsSortedList T.cmp list.old.items list.new.items) }
+    ensures moved { IsPermutation list.old.items list.new.items }
+    ensures ascending { OnOk result (IsSorted T.cmp list.new.items) }
 {
-    if workers == 1 {
+    if workers == 1 || is_run(list.as_slice()) {
         sort_list_here(list)
-    } else {
+    } else if begins_with_run(list.as_slice()) {
         par_sort(rt, alloc, list.as_mut_slice())
+    } else {
+        par_sort_unstable(rt, list.as_mut_slice());
+        Ok(())
     }
 }
 

@@ -11,7 +11,7 @@ use spliterator::{NoMemory, SortedValue, Value};
 use stages::Mapping;
 use std::alloc::Global;
 
-/// Sorts a list by the order of its members. Those that are equal stay in their order.
+/// Sorts a list by the order of its members, of which equal ones are one value.
 #[derive(Drop)]
 pub struct Sorting;
 
@@ -50,7 +50,7 @@ where
     }
 }
 
-/// The items as a list in ascending order, as clones, and those that are equal in encounter order:
+/// The items as a list in ascending order, as clones, of which equal ones are one value:
 ///
 ///     let list = collect(&to_sorted_list::<i64>(rt.alloc()), &[5, 2, 7])?;    // 2, 5, 7
 ///

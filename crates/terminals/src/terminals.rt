@@ -243,7 +243,7 @@ pub trait Terminals: Stream {
         action.take_all(&mut items)
     }
 
-    /// The items in ascending order, and those that are equal in encounter order. A stream that tells that its items ascend isn't sorted again.
+    /// The items in ascending order, of which equal ones are one value. A stream that tells that its items ascend isn't sorted again.
     ///
     /// ```text
     /// of(SliceSplit::new(&[3, 1, 2])).sorted(&engine)?    // [1, 2, 3]

@@ -1,9 +1,10 @@
-//! Streams sorted with 1 and with 7 workers, at target 1 and at the default. Longer ones are rows of each_terminal.
+//! Streams sorted with 1 and with 7 workers, at target 1 and at the default. Made ones are longer.
 
 use crate::settings::SETTINGS;
 use parallel_streams::{Engine, Run, Stream, StreamError, of};
 use sources::SliceSplit;
 use spliterator::NoMemory;
+use std::alloc::{AllocError, Global};
 use std::process::Abort;
 use std::thread::Threads;
 use std::time::Clock;
@@ -21,6 +22,21 @@ static NUMBERS: [(&[i64], &[i64]); 5] = [
         &[9223372036854775807, 0, -9223372036854775808],
         &[-9223372036854775808, 0, 9223372036854775807],
     ),
+];
+
+/// How many pairs are made of a row of `SHAPES`: of fewer than 4,096 items no thread sorts a part.
+const MADE: i64 = 4_200;
+
+/// Factors and moduli. The keys are the remainders of the factor's multiples: they ascend, fall, are equal, begin with a run that ascends or falls, and
+/// begin with none.
+static SHAPES: [(i64, i64); 7] = [
+    (1, 4_300),
+    (-1, 4_300),
+    (0, 80),
+    (1, 80),
+    (-1, 80),
+    (7, 80),
+    (1_237, 4_300),
 ];
 
 /// Pairs, and the same sorted by their first parts and by these from the greatest on.
@@ -147,7 +163,7 @@ fn check_pairs<R: Threads + Clock + Abort + Sync, X: Stream<Item = (i64, i64)> +
         collected_by_first(engine, pairs, ascending)?,
         "{ascending:?}"
     );
-    for number in [0usize, 2, 4, 9] {
+    for number in [0usize, 1, 2, 4, 9, 100, 5_000] {
         assert!(rt;
             first_by_first(engine, pairs, ascending, number)?,
             "{ascending:?}"
@@ -156,12 +172,104 @@ fn check_pairs<R: Threads + Clock + Abort + Sync, X: Stream<Item = (i64, i64)> +
     Ok(())
 }
 
+fn check_list<R: Threads + Clock + Abort + Sync>(
+    engine: &Engine<'_, R, NoGate>,
+    numbers: &[i64],
+    wanted: &[i64],
+) -> Result<(), NoMemory> {
+    check_numbers(engine, &of(SliceSplit::new(numbers)), wanted)
+}
+
+fn check_list_of_pairs<R: Threads + Clock + Abort + Sync>(
+    engine: &Engine<'_, R, NoGate>,
+    pairs: &[(i64, i64)],
+    ascending: &[(i64, i64)],
+    descending: &[(i64, i64)],
+) -> Result<(), NoMemory> {
+    check_pairs(engine, &of(SliceSplit::new(pairs)), ascending, descending)
+}
+
 fn rows<R: Threads + Clock + Abort + Sync>(engine: &Engine<'_, R, NoGate>) -> Result<(), NoMemory> {
     for &(numbers, wanted) in &NUMBERS {
-        check_numbers(engine, &of(SliceSplit::new(numbers)), wanted)?;
+        check_list(engine, numbers, wanted)?;
     }
     for &(pairs, ascending, descending) in &PAIRS {
-        check_pairs(engine, &of(SliceSplit::new(pairs)), ascending, descending)?;
+        check_list_of_pairs(engine, pairs, ascending, descending)?;
+    }
+    Ok(())
+}
+
+/// Keys beside the places at which they come.
+fn made(alloc: Global, factor: i64, modulus: i64) -> Result<Vec<(i64, i64)>, AllocError> {
+    let mut pairs = Vec::new(alloc);
+    for place in 1..=MADE {
+        let key = place.wrapping_mul(factor).checked_rem_euclid(modulus);
+        pairs.push((key.unwrap_or(0), place))?;
+    }
+    Ok(pairs)
+}
+
+/// Those of each key below the modulus in turn, from the least on or from the greatest on, in the order in which they come.
+fn by_keys(
+    alloc: Global,
+    pairs: &[(i64, i64)],
+    modulus: i64,
+    is_falling: bool,
+) -> Result<Vec<(i64, i64)>, AllocError> {
+    let mut sorted = Vec::new(alloc);
+    for number in 0..modulus {
+        let key = if is_falling {
+            modulus.wrapping_sub(number).wrapping_sub(1)
+        } else {
+            number
+        };
+        for &pair in pairs {
+            if pair.0 == key {
+                sorted.push(pair)?;
+            }
+        }
+    }
+    Ok(sorted)
+}
+
+fn keys_of(alloc: Global, pairs: &[(i64, i64)]) -> Result<Vec<i64>, AllocError> {
+    let mut keys = Vec::new(alloc);
+    for pair in pairs {
+        keys.push(pair.0)?;
+    }
+    Ok(keys)
+}
+
+fn shapes<R: Threads + Clock + Abort + Sync>(
+    engine: &Engine<'_, R, NoGate>,
+) -> Result<(), NoMemory> {
+    let alloc = engine.alloc;
+    for &(factor, modulus) in &SHAPES {
+        let pairs = made(alloc, factor, modulus)?;
+        let ascending = by_keys(alloc, pairs.as_slice(), modulus, false)?;
+        let descending = by_keys(alloc, pairs.as_slice(), modulus, true)?;
+        let numbers = keys_of(alloc, pairs.as_slice())?;
+        let wanted = keys_of(alloc, ascending.as_slice())?;
+        check_list(engine, numbers.as_slice(), wanted.as_slice())?;
+        check_list_of_pairs(
+            engine,
+            pairs.as_slice(),
+            ascending.as_slice(),
+            descending.as_slice(),
+        )?;
+    }
+    Ok(())
+}
+
+#[test]
+fn shapes_with_one_worker_and_with_four(rt: HostRuntime) -> Result<(), StreamError> {
+    for (workers, target) in [(1, 0), (4, 300)] {
+        let run = Run {
+            workers,
+            target,
+            gate: &NoGate,
+        };
+        shapes(&Engine::new(&rt, rt.alloc(), &run)?)?;
     }
     Ok(())
 }

@@ -2,8 +2,8 @@ use Rattle.std.proofs.Common.{rules, of_calls}
 use Rattle.std.proofs.lemmas.Fn.{always_returns_same}
 use Rattle.std.proofs.lemmas.List.Sorted.{ranks_by}
 use Rattle.std.proofs.lemmas.Result.{on_ok_weaker}
-use Rattle.terminals.specs.Sorted.{by_key}
-use Rattle.terminals.proofs.Images.{sorted-whole}
+use Rattle.terminals.specs.Sorted.{IsSortedList, by_key}
+use Rattle.terminals.proofs.Images.{of-whole}
 use Rattle.terminals.proofs.ordering.sort_pairs.Goals as goal
 
 pub returns-else-workers-eq1 : goal.returns-else-workers-eq1
@@ -13,6 +13,6 @@ returns-else-workers-eq1 g c total =
     let weak = ranks_by total (λ p. p.0) in
     let compares = always_returns_same _ _ _ (λ a r f k. search (rules, of_calls)) in
     on_ok_weaker c.par_sort_by.result
-    (λ up. sorted-whole (by_key (λ p. p.0) g.K.Ord.cmp) _ _ _ c.par_sort_by.new.s _ lent.value lent.len sort.len
+    (λ up. of-whole (IsSortedList (by_key (λ p. p.0) g.K.Ord.cmp)) _ _ _ c.par_sort_by.new.s _ lent.value lent.len sort.len
     (record { permutation = sort.permutation; ascending = up _ weak compares; stable = sort.stable _ weak compares }))
     sort.sorted
