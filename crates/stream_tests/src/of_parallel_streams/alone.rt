@@ -3,6 +3,7 @@
 use collectors::{SummingLong, ToList};
 use parallel_streams::{Engine, Run, Stream, StreamError, of};
 use sources::RangeSplit;
+use spliterator::NoMemory;
 use std::alloc::Global;
 use std::io;
 use std::sync::atomic::{AtomicU64, Ordering};
@@ -57,6 +58,33 @@ static ALONE: [(i64, u32, u64, u64, u64); 19] = [
     (6, 4, 1, 0, 4),
 ];
 
+/// The list and the sum of some numbers, and how often each run reads the clock.
+type Told = (Vec<i64>, i64, (u64, u64));
+
+fn listed_and_summed<R: Threads + Clock + Sync, X: Stream<Item = i64> + Sync>(
+    engine: &Engine<'_, R, NoGate>,
+    numbers: &X,
+    readings: &AtomicU64,
+) -> Result<Told, NoMemory>
+    requires { X.ready numbers.now }
+{
+    let list = numbers.collect_on(engine, &ToList::new(engine.alloc))?;
+    let read = readings.swap(0, Ordering::SeqCst);
+    let sum = numbers.collect_on(engine, &SummingLong::new(Itself))?;
+    Ok((list, sum, (read, readings.load(Ordering::SeqCst))))
+}
+
+// .. of the even numbers, three times each.
+fn tripled<R: Threads + Clock + Sync, X: Stream<Item = i64> + Drop + Sync>(
+    engine: &Engine<'_, R, NoGate>,
+    numbers: X,
+    readings: &AtomicU64,
+) -> Result<Told, NoMemory>
+    requires { X.ready numbers }
+{
+    listed_and_summed(engine, &numbers.filter(Even).map(Times(3)), readings)
+}
+
 /// Whether the even numbers, three times each, have their list and their sum, and each run reads the clock so often.
 fn is_right<R: Threads + Sync>(
     rt: &R,
@@ -77,18 +105,14 @@ fn is_right<R: Threads + Sync>(
     let Ok(range) = RangeSplit::range(0, end) else {
         return Ok(false);
     };
-    let tripled = of(range).filter(Even).map(Times(3));
-    let list = tripled.collect_on(&engine, &ToList::new(alloc))?;
-    let read = ticking.readings.swap(0, Ordering::SeqCst);
-    let sum = tripled.collect_on(&engine, &SummingLong::new(Itself))?;
-    let again = ticking.readings.load(Ordering::SeqCst);
+    let (list, sum, read) = tripled(&engine, of(range), &ticking.readings)?;
     let evens = end / 2 + end % 2;
     let total = evens.wrapping_mul(evens - 1).wrapping_mul(3);
     let is_listed = list
         .iter()
         .copied()
         .eq((0..evens).map(|x| x.wrapping_mul(6)));
-    Ok(is_listed && sum == total && (read, again) == (readings, readings))
+    Ok(is_listed && sum == total && read == (readings, readings))
 }
 
 #[test]
