@@ -69,15 +69,45 @@ fn are(texts: &[String], lines: &[&str]) -> bool {
             .all(|(text, line)| text.as_str() == *line)
 }
 
+/// Lines, in blocks of so many bytes.
+fn in_blocks(
+    alloc: Global,
+    bytes: &[u8],
+    size: usize,
+) -> ReadLines<ThreeBytes<'_>, OwnLine, Nothing<String>>
+    requires { 0 < size }
+{
+    let lines = lines_of(slow(bytes)).in_blocks_of(size);
+    lines.map_lines(OwnLine { alloc })
+}
+
+// The texts of any lines: each call that names a stream's type costs a check as much as several over a type parameter.
+fn texts_of<R: Threads + Clock + Wait + Sync, L: LineStream<Item = String>>(
+    engine: &Engine<'_, R, NoGate>,
+    lines: L,
+) -> Result<Vec<String>, LinesError>
+    requires { L.ready lines }
+{
+    lines.collect_on(engine, &ToList::<String>::new(engine.alloc))
+}
+
+fn leave<
+    R: Threads + Clock + Wait + Abort + Alloc<A = Global> + Sync,
+    L: LineStream<Item = String>,
+>(engine: &Engine<'_, R, NoGate>, lines: L, wanted: &[&str]) -> Result<(), LinesError>
+    requires { L.ready lines }
+{
+    let texts = texts_of(engine, lines)?;
+    assert!(engine.rt; are(&texts, wanted));
+    Ok(())
+}
+
 fn rows<R: Threads + Clock + Wait + Abort + Alloc<A = Global> + Sync>(
     engine: &Engine<'_, R, NoGate>,
 ) -> Result<(), LinesError> {
     let rt = engine.rt;
-    let alloc = engine.alloc;
-    let list = ToList::<String>::new(alloc);
     for &(bytes, size, wanted) in &ROWS {
-        let lines = lines_of(slow(bytes)).in_blocks_of(size);
-        match lines.map_lines(OwnLine { alloc }).collect_on(engine, &list) {
+        match texts_of(engine, in_blocks(engine.alloc, bytes, size)) {
             Ok(texts) => assert!(rt; are(&texts, wanted.expect(rt, "lines"))),
             Err(LinesError::NoMemory) => return Err(LinesError::NoMemory),
             Err(error) => assert!(rt; wanted.err() == Some(told(&error))),
@@ -113,25 +143,22 @@ fn long_lines(
 fn lines_that_are_longer_than_a_block(rt: HostRuntime) -> Result<(), LinesError> {
     let alloc = rt.alloc();
     let engine = engine_of(&rt, 4);
-    let list = ToList::<String>::new(alloc);
-    let texts = long_lines(alloc, 9).collect_on(&engine, &list)?;
-    assert!(&rt; are(&texts, &["a", "bcdefgh", "i", "jklmnopq"]));
-    let told = long_lines(alloc, 8).collect_on(&engine, &list);
+    let told = texts_of(&engine, long_lines(alloc, 8));
     assert!(&rt; matches!(told, Err(LinesError::LongLine(12) | LinesError::NoMemory)));
-    let texts = long_lines(alloc, 0).limit(1).collect_on(&engine, &list)?;
-    assert!(&rt; are(&texts, &["a"]));
-    Ok(())
+    leave(
+        &engine,
+        long_lines(alloc, 9),
+        &["a", "bcdefgh", "i", "jklmnopq"],
+    )?;
+    leave_front(&engine, long_lines(alloc, 0), 1, &["a"])
 }
 
 #[test]
 fn one_text_in_blocks_of_each_size(rt: HostRuntime) -> Result<(), LinesError> {
-    let alloc = rt.alloc();
     let engine = engine_of(&rt, 4);
     for size in 4..=12 {
-        let lines = lines_of(slow(b"abc\nd\n\nef\nghi")).in_blocks_of(size);
-        let lines = lines.map_lines(OwnLine { alloc });
-        let texts = lines.collect_on(&engine, &ToList::<String>::new(alloc))?;
-        assert!(&rt; are(&texts, &["abc", "d", "", "ef", "ghi"]));
+        let lines = in_blocks(engine.alloc, b"abc\nd\n\nef\nghi", size);
+        leave(&engine, lines, &["abc", "d", "", "ef", "ghi"])?;
     }
     Ok(())
 }
@@ -158,27 +185,47 @@ impl LineFunction for Checked {
     }
 }
 
+/// Lines of which an empty one has failed, in blocks of four bytes.
+fn checked_lines(
+    alloc: Global,
+    bytes: &[u8],
+) -> ReadLines<ThreeBytes<'_>, Checked, Nothing<Result<String, String>>> {
+    let lines = lines_of(slow(bytes)).in_blocks_of(4);
+    lines.map_lines(Checked { alloc })
+}
+
+/// Whether a line has failed, where the reading may end there.
+fn fails_early<R: Threads + Clock + Wait + Alloc<A = Global> + Sync>(
+    engine: &Engine<'_, R, NoGate>,
+    bytes: &[u8],
+) -> Result<bool, LinesError> {
+    let list = Trying::<_, String>::new(ToList::<String>::new(engine.alloc));
+    let lines = checked_lines(engine.alloc, bytes);
+    Ok(lines.collect_decided(engine, &list)?.is_err())
+}
+
+// .. and where it goes on.
+fn fails_late<R: Threads + Clock + Wait + Alloc<A = Global> + Sync>(
+    engine: &Engine<'_, R, NoGate>,
+    bytes: &[u8],
+) -> Result<bool, LinesError> {
+    let list = Trying::<_, String>::new(ToList::<String>::new(engine.alloc));
+    let lines = checked_lines(engine.alloc, bytes);
+    Ok(lines.collect_on(engine, &list)?.is_err())
+}
+
+/// A line that decides, and behind it a byte that is no text.
+const DECIDED: &[u8] = b"ab\n\nc\nd\ne\nf\ng\nh\ni\n\xff";
+
 #[test]
 fn nothing_is_told_of_what_stands_behind_a_line_that_decides(
     rt: HostRuntime,
 ) -> Result<(), LinesError> {
-    let alloc = rt.alloc();
     let engine = engine_of(&rt, 4);
-    let list = Trying::<_, String>::new(ToList::<String>::new(alloc));
-    let lines = lines_of(slow(b"ab\n\nc\nd\ne\nf\ng\nh\ni\n\xff")).in_blocks_of(4);
-    let decided = lines
-        .map_lines(Checked { alloc })
-        .collect_decided(&engine, &list)?;
-    assert!(&rt; decided.is_err());
-    let lines = lines_of(slow(b"ab\n\nc\nd\ne\nf\ng\nh\ni\n\xff")).in_blocks_of(4);
-    let whole = lines
-        .map_lines(Checked { alloc })
-        .collect_on(&engine, &list);
+    assert!(&rt; fails_early(&engine, DECIDED)?);
+    let whole = fails_late(&engine, DECIDED);
     assert!(&rt; matches!(whole, Err(LinesError::NotUtf8(18) | LinesError::NoMemory)));
-    let lines = lines_of(slow(b"ab\nc\n\xffd\n\n")).in_blocks_of(4);
-    let early = lines
-        .map_lines(Checked { alloc })
-        .collect_decided(&engine, &list);
+    let early = fails_early(&engine, b"ab\nc\n\xffd\n\n");
     assert!(&rt; matches!(early, Err(LinesError::NotUtf8(5) | LinesError::NoMemory)));
     Ok(())
 }
@@ -223,8 +270,7 @@ fn lines_are_handed_over_up_to_a_fault(rt: HostRuntime) -> Result<(), LinesError
     let alloc = rt.alloc();
     for &(bytes, wanted) in &HANDED {
         let mut texts = Vec::new(alloc);
-        let lines = lines_of(slow(bytes)).in_blocks_of(4);
-        let lines = lines.map_lines(OwnLine { alloc });
+        let lines = in_blocks(alloc, bytes, 4);
         let ended = lines.for_each_ordered(&engine_of(&rt, 2), &mut texts);
         match ended {
             Err(LinesError::NoMemory) => return Err(LinesError::NoMemory),
@@ -249,11 +295,7 @@ fn hand_tried<R: Threads + Clock + Wait + Alloc<A = Global> + Sync>(
     bytes: &[u8],
     tried: &mut UpToError<'_, Vec<String>, String>,
 ) -> Result<(), LinesError> {
-    let alloc = engine.alloc;
-    let lines = lines_of(slow(bytes)).in_blocks_of(4);
-    lines
-        .map_lines(Checked { alloc })
-        .for_each_ordered(engine, tried)
+    checked_lines(engine.alloc, bytes).for_each_ordered(engine, tried)
 }
 
 /// Whether a line has failed. Once one has, nothing more is read.
@@ -290,15 +332,6 @@ static MATCHED: [(&[u8], [bool; 3]); 5] = [
     (b"a\nbb\nc\nd\ne\nf\ng\n\xff", [true, false, false]),
 ];
 
-/// Lines, in blocks of four bytes.
-fn short_blocks(
-    alloc: Global,
-    bytes: &[u8],
-) -> ReadLines<ThreeBytes<'_>, OwnLine, Nothing<String>> {
-    let lines = lines_of(slow(bytes)).in_blocks_of(4);
-    lines.map_lines(OwnLine { alloc })
-}
-
 fn matched<R: Threads + Clock + Wait + Sync, L: LineStream<Item = String> + Drop>(
     engine: &Engine<'_, R, NoGate>,
     some: L,
@@ -322,9 +355,9 @@ fn matches_read_no_more_than_decides(rt: HostRuntime) -> Result<(), LinesError> 
     let alloc = rt.alloc();
     let engine = engine_of(&rt, 4);
     for &(bytes, wanted) in &MATCHED {
-        let some = short_blocks(alloc, bytes);
-        let each = short_blocks(alloc, bytes);
-        let told = matched(&engine, some, each, short_blocks(alloc, bytes))?;
+        let some = in_blocks(alloc, bytes, 4);
+        let each = in_blocks(alloc, bytes, 4);
+        let told = matched(&engine, some, each, in_blocks(alloc, bytes, 4))?;
         assert!(&rt; told == wanted);
     }
     Ok(())
@@ -336,19 +369,7 @@ const SEVEN: &[u8] = b"a\nbb\na\nccc\n\nbb\nd\n";
 /// Longer than nothing.
 const SOME: Composed<Length, Above> = Composed(Length, Above(0));
 
-fn leave<
-    R: Threads + Clock + Wait + Abort + Alloc<A = Global> + Sync,
-    L: LineStream<Item = String>,
->(engine: &Engine<'_, R, NoGate>, lines: L, wanted: &[&str]) -> Result<(), LinesError>
-    requires { L.ready lines }
-{
-    let texts = lines.collect_on(engine, &ToList::<String>::new(engine.alloc))?;
-    assert!(engine.rt; are(&texts, wanted));
-    Ok(())
-}
-
-// The front that is so long, what follows so many, and the front of the lines that differ, over any lines: each call that names a stream's type costs a
-// check as much as several such functions.
+// The front that is so long, what follows so many, and the front of the lines that differ, over any lines.
 fn leave_front<
     R: Threads + Clock + Wait + Abort + Alloc<A = Global> + Sync,
     L: LineStream<Item = String>,
@@ -383,8 +404,7 @@ fn leave_front_apart<
 fn seven(alloc: Global, size: usize) -> ReadLines<ThreeBytes<'static>, OwnLine, Nothing<String>>
     requires { 0 < size }
 {
-    let lines = lines_of(slow(SEVEN)).in_blocks_of(size);
-    lines.map_lines(OwnLine { alloc })
+    in_blocks(alloc, SEVEN, size)
 }
 
 fn one_skips<R: Threads + Clock + Wait + Abort + Alloc<A = Global> + Sync>(
@@ -501,8 +521,7 @@ fn barriers_go_on_from_block_to_block(rt: HostRuntime) -> Result<(), LinesError>
 
 /// Four lines, and a byte that is no text.
 fn spoilt(alloc: Global) -> ReadLines<ThreeBytes<'static>, OwnLine, Nothing<String>> {
-    let lines = lines_of(slow(b"ab\nc\nd\ne\n\xff\n")).in_blocks_of(4);
-    lines.map_lines(OwnLine { alloc })
+    in_blocks(alloc, b"ab\nc\nd\ne\n\xff\n", 4)
 }
 
 // How many lines the front has that is so long at most.
@@ -558,8 +577,7 @@ fn pieces_of_lines_in_their_order(rt: HostRuntime) -> Result<(), LinesError> {
         for &(bytes, size, wanted) in &PIECES {
             let lines = lines_of(slow(bytes)).in_blocks_of(size);
             let pieces = lines.flat_map_lines(Pieces::new(alloc, ','));
-            let texts = pieces.collect_on(&engine, &ToList::<String>::new(alloc))?;
-            assert!(&rt; are(&texts, wanted));
+            leave(&engine, pieces, wanted)?;
         }
     }
     Ok(())

@@ -17,10 +17,32 @@ use std::sync::atomic::{AtomicU64, Ordering};
 use std::test::Fail;
 use std::thread::Threads;
 use std::time::{Clock, Duration, Instant};
+use stealing_pool::Gate;
 use stream_functions::Itself;
 
 /// How many numbers each stream has.
 const ITEMS: i64 = 1_000_000;
+
+/// The sum of some numbers, over any stream: each call that names a stream's type costs a check as much as several over a type parameter.
+fn sum_of<R: Threads + Clock + Sync, H: Gate + Sync, X: Stream<Item = i64> + Sync>(
+    engine: &Engine<'_, R, H>,
+    numbers: &X,
+) -> Result<i64, NoMemory>
+    requires { X.ready numbers.now }
+{
+    numbers.collect_on(engine, &SummingLong::new(Itself))
+}
+
+// .. each met by a mapping.
+fn sum_of_met<R: Threads + Clock + Sync, H: Gate + Sync, X: Stream<Item = i64> + Drop + Sync>(
+    engine: &Engine<'_, R, H>,
+    numbers: X,
+    mapping: SetsAt<'_>,
+) -> Result<i64, NoMemory>
+    requires { X.ready numbers }
+{
+    sum_of(engine, &numbers.map(mapping))
+}
 
 /// The sum of these numbers, each met by a mapping that sets a stop at one of them.
 fn sum_met<R: Threads + Clock + Abort + Alloc<A = Global> + Sync, E: Halt + Sync>(
@@ -35,10 +57,7 @@ where
     let run = Run::new(workers).with_gate(until);
     let engine = Engine::new(rt, rt.alloc(), &run)?;
     let numbers = of(RangeSplit::range(0, ITEMS).expect(rt, "a range"));
-    let sum = numbers
-        .map(mapping)
-        .collect_on(&engine, &SummingLong::new(Itself))?;
-    Ok(sum)
+    Ok(sum_of_met(&engine, numbers, mapping)?)
 }
 
 /// Whether it was stopped, and not refused memory.
@@ -132,7 +151,7 @@ fn of_a_pair_both_are_told(rt: HostRuntime) -> Result<(), StreamError> {
         };
         let engine = Engine::new(&rt, rt.alloc(), &Run::new(2).with_gate(&pair))?;
         let numbers = of(RangeSplit::range(0, ITEMS).expect(&rt, "a range"));
-        let sum = numbers.collect_on(&engine, &SummingLong::new(Itself))?;
+        let sum = sum_of(&engine, &numbers)?;
         let told = |gate: &Counts| (gate.runs(), gate.begun()) == (1, 8);
         assert!(&rt; sum == 499_999_500_000 && pair.first.as_ref().is_some_and(told));
         assert!(&rt; pair.second.as_ref().is_some_and(told) == has_second);

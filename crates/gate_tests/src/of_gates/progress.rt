@@ -1,12 +1,20 @@
 //! What a meter tells.
 
 use super::doubles::Screen;
-use collectors::SummingLong;
+use super::sum_of;
 use gates::{Looks, Meter};
-use parallel_streams::{Engine, Run, Stream, StreamError, of};
+use parallel_streams::{Engine, Run, StreamError, of};
 use sources::RangeSplit;
 use std::io::{self, Read};
-use stream_functions::Itself;
+use std::process::Abort;
+
+/// Checks how often a screen was told, and its first and third text.
+fn check_screen(rt: &impl Abort, screen: &Screen, wanted: u64, first: &str, third: &str) {
+    let told = screen.told();
+    assert!(rt; told == wanted, "{told}");
+    assert_eq!(rt; screen.text(0), first);
+    assert_eq!(rt; screen.text(2), third);
+}
 
 /// Looks, the milliseconds of the clock a reading, leaves of one item, how often a meter tells of one worker's run over them, and its first and third
 /// text. A line comes for each tenth, and reads the clock once, as the beginning of the meter and of the run do. A bar comes each 100 ms of the clock,
@@ -66,15 +74,10 @@ fn a_meter_tells_how_far_a_run_has_come(rt: HostRuntime) -> Result<(), StreamErr
         };
         let engine = Engine::new(&rt, rt.alloc(), &run)?;
         let numbers = of(RangeSplit::range(0, items).expect(&rt, "a range"));
-        let sum = numbers.collect_on(&engine, &SummingLong::new(Itself))?;
+        let sum = sum_of(&engine, &numbers)?;
         meter.finish();
-        let told = screen.told();
-        assert!(&rt;
-            sum == items.wrapping_mul(items.wrapping_sub(1)) / 2 && told == wanted,
-            "{told}"
-        );
-        assert_eq!(&rt; screen.text(0), first);
-        assert_eq!(&rt; screen.text(2), third);
+        assert!(&rt; sum == items.wrapping_mul(items.wrapping_sub(1)) / 2);
+        check_screen(&rt, &screen, wanted, first, third);
     }
     Ok(())
 }
@@ -135,10 +138,8 @@ fn a_meter_tells_how_much_was_read(rt: HostRuntime) -> io::Result<()> {
             }
         }
         meter.finish();
-        let told = screen.told();
-        assert!(&rt; count == size && told == wanted, "{count} {told}");
-        assert_eq!(&rt; screen.text(0), first);
-        assert_eq!(&rt; screen.text(2), third);
+        assert!(&rt; count == size, "{count}");
+        check_screen(&rt, &screen, wanted, first, third);
     }
     Ok(())
 }

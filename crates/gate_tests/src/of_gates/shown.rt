@@ -1,13 +1,18 @@
 //! What pictures of runs look like.
 
+ghost use Rattle.std.specs.Prelude.{◌<◌, ◌^◌};
+
 use super::doubles::Ticks;
-use collectors::{SummingLong, ToList};
+use super::sum_of;
+use collectors::ToList;
 use gates::{Picture, Timeline};
 use parallel_streams::{Engine, Run, Stream, StreamError, of};
 use sources::RangeSplit;
+use std::alloc::Global;
 use std::test::Fail;
-use stealing_pool::NoGate;
-use stream_functions::Itself;
+use std::thread::Threads;
+use std::time::Clock;
+use stealing_pool::{NoGate, RunReport};
 
 /// How many leaves of one item a source has, a limit to them, and the picture of one worker's two runs: for the limit, and for the list of what it left.
 static PICTURES: [(i64, u64, &str); 4] = [
@@ -25,6 +30,21 @@ static PICTURES: [(i64, u64, &str); 4] = [
     (0, 1, "run 1, 1 leaf: #\nrun 2, 1 leaf: #\n"),
 ];
 
+// What each run tells of the list of a front.
+fn report_of<R: Threads + Clock + Alloc<A = Global> + Sync, X: Stream<Item = i64> + Drop + Sync>(
+    rt: &R,
+    run: &Run<'_, NoGate>,
+    numbers: X,
+    most: u64,
+) -> Result<RunReport, StreamError>
+    requires ready { X.ready numbers }
+    requires within { most < 2 ^ 63 }
+{
+    let list = ToList::new(rt.alloc());
+    let front = numbers.limit(most);
+    Ok(front.collect_reported(rt, rt.alloc(), run, &list)?.1)
+}
+
 #[test]
 fn a_report_has_a_picture(rt: HostRuntime) -> Result<(), Fail> {
     let alloc = rt.alloc();
@@ -35,10 +55,7 @@ fn a_report_has_a_picture(rt: HostRuntime) -> Result<(), Fail> {
     };
     for &(items, limit, wanted) in &PICTURES {
         let numbers = of(RangeSplit::range(0, items).expect(&rt, "a range"));
-        let collected = numbers
-            .limit(limit.min(9))
-            .collect_reported(&rt, alloc, &run, &ToList::new(alloc));
-        let (_list, report) = collected.expect(&rt, "a list");
+        let report = report_of(&rt, &run, numbers, limit.min(9)).expect(&rt, "a list");
         let picture = format!(in alloc; "{}", Picture(&report))?;
         assert_eq!(&rt; picture.as_str(), wanted);
     }
@@ -80,7 +97,7 @@ fn a_timeline_is_drawn(rt: HostRuntime) -> Result<(), Fail> {
     };
     let engine = Engine::new(&rt, rt.alloc(), &run).expect(&rt, "an engine");
     let numbers = of(RangeSplit::range(0, 3).expect(&rt, "a range"));
-    let sum = numbers.collect_on(&engine, &SummingLong::new(Itself));
+    let sum = sum_of(&engine, &numbers);
     assert!(&rt; matches!(sum, Ok(3)));
     let picture = format!(in rt.alloc(); "{timeline}")?;
     assert_eq!(&rt; picture.as_str(), TIMELINE);

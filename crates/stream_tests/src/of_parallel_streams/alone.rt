@@ -3,6 +3,7 @@
 use collectors::{SummingLong, ToList};
 use parallel_streams::{Engine, Run, Stream, StreamError, of};
 use sources::RangeSplit;
+use spliterator::NoMemory;
 use std::alloc::Global;
 use std::io;
 use std::sync::atomic::{AtomicU64, Ordering};
@@ -56,23 +57,45 @@ static ALONE: [(i64, u32, u64, u64, u64); 19] = [
     (6, 4, 1, 0, 0),
 ];
 
-/// Whether no item is so great, whether one isn't negative is told, and the searches read the clock so often: the second behind its first item at most.
-fn is_searched<R: Threads + Sync, X: Stream<Item = i64> + Sync>(
-    engine: &Engine<'_, Ticking<'_, R>, NoGate>,
-    items: &X,
-    is_some: bool,
-    readings: u64,
-) -> Result<bool, StreamError>
-    requires { X.ready items.now }
+/// The list and the sum of some numbers, whether one is as great as can be, whether one isn't negative, and how often each of these runs reads the clock.
+type Told = (Vec<i64>, i64, (bool, bool), [u64; 4]);
+
+fn told_of<R: Threads + Clock + Sync, X: Stream<Item = i64> + Sync>(
+    engine: &Engine<'_, R, NoGate>,
+    numbers: &X,
+    readings: &AtomicU64,
+) -> Result<Told, NoMemory>
+    requires { X.ready numbers.now }
 {
-    let is_great = items.any_match_on(engine, &Above(i64::MAX - 1))?;
-    let read = engine.rt.readings.swap(0, Ordering::SeqCst);
-    let is_told = items.any_match_on(engine, &Above(-1))? == is_some;
-    let again = engine.rt.readings.swap(0, Ordering::SeqCst);
-    Ok(!is_great && is_told && (read, again) == (readings, readings.min(2)))
+    let list = numbers.collect_on(engine, &ToList::new(engine.alloc))?;
+    let of_list = readings.swap(0, Ordering::SeqCst);
+    let sum = numbers.collect_on(engine, &SummingLong::new(Itself))?;
+    let of_sum = readings.swap(0, Ordering::SeqCst);
+    let is_greatest = numbers.any_match_on(engine, &Above(i64::MAX - 1))?;
+    let of_none = readings.swap(0, Ordering::SeqCst);
+    let is_some = numbers.any_match_on(engine, &Above(-1))?;
+    let of_some = readings.swap(0, Ordering::SeqCst);
+    Ok((
+        list,
+        sum,
+        (is_greatest, is_some),
+        [of_list, of_sum, of_none, of_some],
+    ))
 }
 
-/// Whether the even numbers, three times each, have their list and their sum, and each run reads the clock so often.
+// .. of the even numbers, three times each.
+fn tripled<R: Threads + Clock + Sync, X: Stream<Item = i64> + Drop + Sync>(
+    engine: &Engine<'_, R, NoGate>,
+    numbers: X,
+    readings: &AtomicU64,
+) -> Result<Told, NoMemory>
+    requires { X.ready numbers }
+{
+    told_of(engine, &numbers.filter(Even).map(Times(3)), readings)
+}
+
+/// Whether the even numbers, three times each, have their list and their sum, what is searched is told, and each run reads the clock so often: the last
+/// search behind its first item at most.
 fn is_right<R: Threads + Sync>(
     rt: &R,
     alloc: Global,
@@ -92,19 +115,15 @@ fn is_right<R: Threads + Sync>(
     let Ok(range) = RangeSplit::range(0, end) else {
         return Ok(false);
     };
-    let tripled = of(range).filter(Even).map(Times(3));
-    let list = tripled.collect_on(&engine, &ToList::new(alloc))?;
-    let read = ticking.readings.swap(0, Ordering::SeqCst);
-    let sum = tripled.collect_on(&engine, &SummingLong::new(Itself))?;
-    let again = ticking.readings.swap(0, Ordering::SeqCst);
-    let is_searched = is_searched(&engine, &tripled, 0 < end, readings)?;
+    let (list, sum, met, read) = tripled(&engine, of(range), &ticking.readings)?;
     let evens = end / 2 + end % 2;
     let total = evens.wrapping_mul(evens - 1).wrapping_mul(3);
     let is_listed = list
         .iter()
         .copied()
         .eq((0..evens).map(|x| x.wrapping_mul(6)));
-    Ok(is_searched && is_listed && sum == total && (read, again) == (readings, readings))
+    let wanted = [readings, readings, readings, readings.min(2)];
+    Ok(is_listed && sum == total && met == (false, 0 < end) && read == wanted)
 }
 
 #[test]
