@@ -17,7 +17,6 @@ use std::alloc::Global;
 use std::cmp;
 use std::marker::Brand;
 use std::thread::Threads;
-use std::time::Clock;
 
 /// A container, and what its run tells of the leaves.
 #[derive(Drop)]
@@ -27,7 +26,7 @@ pub struct Gathered<A> {
 }
 
 // K is the case of this run's board: the full counts of its leaves.
-fn run_case<K: Case + Send + Sync, R: Threads + Clock + Sync, J: LeafJob + Sync, H: Gate + Sync>(
+fn run_case<K: Case + Send + Sync, R: Threads + Sync, J: LeafJob + Sync, H: Gate + Sync>(
     rt: &R,
     alloc: Global,
     tree: &Tree,
@@ -74,7 +73,7 @@ fn seat_count(workers: u32, leaves: usize) -> usize
 ///
 /// `workers` is 1 to 64. A run may wait for its workers; where no thread can be made for one, it runs on another's.
 /// The answer is `NoMemory` where any worker was refused memory.
-pub fn run_job<R: Threads + Clock + Sync, J: LeafJob + Sync, H: Gate + Sync>(
+pub fn run_job<R: Threads + Sync, J: LeafJob + Sync, H: Gate + Sync>(
     rt: &R,
     alloc: Global,
     tree: &Tree,

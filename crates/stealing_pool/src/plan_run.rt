@@ -18,7 +18,6 @@ use spliterator::{NoMemory, Spliterator};
 use stages::Stage;
 use std::alloc::Global;
 use std::thread::Threads;
-use std::time::Clock;
 
 /// The job of a plan's leaves: each through the stage into a container of its own.
 #[derive(Drop)]
@@ -72,7 +71,7 @@ impl<S: Spliterator, G: Stage<In = S::Item>, D: Demand<G::Out>, C: Collector<Ite
 /// `workers` is 1 to 64. The container is the collector's left fold over a front of the stage's list that is all of it or is
 /// enough for the demand. The answer is `NoMemory` where any worker was refused memory.
 pub fn run_leaves<
-    R: Threads + Clock + Sync,
+    R: Threads + Sync,
     S: Spliterator + Sync,
     G: Stage<In = S::Item> + Sync,
     D: Demand<G::Out> + Sync,

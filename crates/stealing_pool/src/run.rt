@@ -17,7 +17,6 @@ use split_tree::Tree;
 use spliterator::NoMemory;
 use std::alloc::Global;
 use std::thread::Threads;
-use std::time::Clock;
 
 /// A board that nothing was drawn from, and all its seats.
 #[derive(Drop)]
@@ -34,7 +33,7 @@ pub struct Closed<K, R> {
 }
 
 /// Runs the leaves over a board and all its seats, and gathers what is kept of them.
-pub fn run_on<R: Threads + Clock + Sync, B: LeafBoard + Sync, J: LeafJob + Sync, H: Gate + Sync>(
+pub fn run_on<R: Threads + Sync, B: LeafBoard + Sync, J: LeafJob + Sync, H: Gate + Sync>(
     rt: &R,
     alloc: Global,
     tree: &Tree,
