@@ -6,7 +6,11 @@ class Calls {
     private static long answer(String work, long workers, long numbers) {
         LongStream range = LongStream.range(0, numbers);
         LongStream items = (workers == 1 ? range : range.parallel()).filter(x -> x % 2 == 0).map(x -> x * 3);
-        return work.equals("sum") ? items.sum() : items.toArray().length;
+        return switch (work) {
+            case "sum" -> items.sum();
+            case "none" -> items.anyMatch(x -> x > Long.MAX_VALUE - 1) ? 1 : 0;
+            default -> items.toArray().length;
+        };
     }
 
     public static void main(String[] args) {
