@@ -1,18 +1,18 @@
 -- Prepared stages over texts, and words of texts.
 use Rattle.std.specs.Prelude.{◌≡◌, ◌≤◌, ◌+◌, ◌==◌, ◌&&◌, true, ⊤, ℕ, List, [], ◌∷◌, ◌++◌, Option, Some, None, MatchOption, filter, flat_map, length, refl}
 use Rattle.std.proofs.Common.{Bor, arith, lit<, ap, ap₂, sym, subst, ◌∙◌, length-append}
-use Rattle.std.proofs.{Math.Bool.and-true, lemmas.List.map-id, lemmas.List.Folds.list_all-append, lemmas.List.Sums.fails_before_first}
+use Rattle.std.proofs.lemmas.List.{map-id, Sums.fails_before_first}
 use Rattle.std.proofs.lemmas.List.Splits.{slice_split_first, slice_split_none}
 use Rattle.std.proofs.lemmas.Str.Pattern.{split_once_first, split_parts, IsSplitOnceResult}
 use Rattle.file_words.specs.Words.{words_of}
 use Rattle.pipeline_language.specs.Content.{TextStage, TextTest}
 use Rattle.pipeline_language.specs.declared.grammar.Stage.TheVariants as stages
-use Rattle.pipeline_meaning.specs.{Functions.text_holds, declared.functions.TextCheck.TextCheck, declared.text_steps.TextStep.TextStep, declared.text_steps.TextSteps.TextSteps}
+use Rattle.pipeline_meaning.specs.{Functions.text_holds, declared.functions.TextCheck.TextCheck}
 use Rattle.pipeline_meaning.specs.Stages.{text_stage, is_map_stage}
-use Rattle.pipeline_meaning.specs.TextSteps.{text_images, text_step_images, is_map_step, only_maps, Follows}
+use Rattle.pipeline_meaning.specs.TextSteps.{text_step_images, is_map_step}
 use Rattle.stages.specs.Passing.{flat_map-one}
 use Rattle.stream_functions.specs.Lists.{filter-flat_map}
-use Rattle.pipeline_meaning.specs.Walks.{IsStep, all-one-more}
+use Rattle.pipeline_meaning.specs.Walks.{IsStep}
 use Rattle.pipeline_meaning.specs.declared.text_steps.TextStep.TheVariants.{Itself, Filter}
 
 -- what a cut at the first space gives
@@ -44,17 +44,3 @@ pub filter-step : (stage : TextStage) (p : TextTest) (k : TextCheck) → stage �
 filter-step stage p k is e =
     let P : TextStage → Type 0 = λ s. IsStep text_step_images text_stage is_map_step is_map_stage (Filter k) s in
     subst P (sym is) ((λ l. sym (filter-flat_map (text_holds k.test) l) ∙ ap (λ (q : TextTest). filter (text_holds q) l) e), refl)
-
-pub no-steps : (steps : List TextStep) → steps ≡ [] → (l : List (List ℕ)) → flat_map (text_images steps) l ≡ l
-no-steps steps none l = ap (λ s. flat_map (text_images s) l) none ∙ flat_map-one l
-
-pub no-size : (steps : List TextStep) → steps ≡ [] → only_maps steps ≡ true
-no-size steps none = ap only_maps none
-
--- a step behind the others is a stage behind them
-pub step-follows : (old new : TextSteps) (step : TextStep) (stage : TextStage) → new.steps.items ≡ old.steps.items ++ step ∷ []
-    → IsStep text_step_images text_stage is_map_step is_map_stage step stage → Follows stage old new
-step-follows old new step stage more is = (
-  λ l. ap (λ s. flat_map (text_images s) l) more ∙ all-one-more text_step_images old.steps.items step l ∙ is.0 (flat_map (text_images old.steps.items) l),
-  ap only_maps more ∙ list_all-append is_map_step old.steps.items (step ∷ []) ∙ ap (λ b. only_maps old.steps.items && b) (and-true (is_map_step step) ∙ is.1),
-)
