@@ -1,7 +1,7 @@
 -- When stages are simpler than others.
 use Rattle.pipeline_meaning.specs.Stages.{Meaning, StageOf, part_list, part-map, stages_list, stage_list}
 use Rattle.pipeline_language.specs.declared.grammar.Barrier.TheVariants.{Counted, Distinct, While}
-use Rattle.pipeline_language.specs.declared.grammar.Part.{Part}
+use Rattle.pipeline_language.specs.declared.{grammar.Part.Part, item_count.ItemCount.ItemCount}
 use Rattle.pipeline_language.specs.declared.grammar.Part.TheVariants.{Front, Rest}
 use Rattle.pipeline_language.specs.declared.grammar.Stage.TheVariants.{FlatMap, Barrier, Map, Filter}
 use Rattle.pipeline_plan.specs.declared.neighbours.Instead.{Instead}
@@ -138,10 +138,6 @@ module _ {X : Type 0} (same : X → X → Bool) (decides : DecidesEquality same)
 
 -- Neighbours that are put more simply.
 
-abbrev pub is_section_behind_map : {F P E : Type 0} → StageOf F P E → StageOf F P E → Bool
-is_section_behind_map (Map f) (Barrier (Counted part n)) = true
-is_section_behind_map _ _ = false
-
 abbrev pub passes_copies : {F P E : Type 0} → StageOf F P E → Bool
 passes_copies (Map f) = true
 passes_copies (Filter p) = true
@@ -163,9 +159,8 @@ pub record Repeats {F P E X : Type 0} (m : Meaning F P E X) (stage : StageOf F P
   pub light : weight stage ≡ 1
 
 module _ {F P E X : Type 0} (m : Meaning F P E X) where
-  pub section-first : (first second : StageOf F P E) → is_section_behind_map first second ≡ true → Betters m (second ∷ first ∷ []) (first ∷ second ∷ [])
-  section-first (Map f) (Barrier (Counted part n)) is = record { same = λ l. sym (part-map (m.image f) part n.number l); less = λ rest. omega arith }
-  section-first _ _ is = absurd (true≢false (sym is))
+  pub section-first : (f : F) (part : Part) (n : ItemCount) → Betters m (Barrier (Counted part n) ∷ Map f ∷ []) (Map f ∷ Barrier (Counted part n) ∷ [])
+  section-first f part n = record { same = λ l. sym (part-map (m.image f) part n.number l); less = λ rest. omega arith }
 
   pub weighs : (s : StageOf F P E) → 1 ≤ weight s
   weighs (FlatMap e) = omega arith

@@ -2,7 +2,7 @@
 
 ghost use Rattle.std.specs.Prelude.{◌≡◌, ◌≤◌, ◌+◌, IfSome, List, [], ◌++◌, drop, length, take, true};
 ghost use Rattle.pipeline_meaning.specs.Stages.{stage_list};
-ghost use Rattle.pipeline_plan.specs.Rules.{Betters, IsBetter, instead_list, IsSectionOver, Repeats, is_distinct, is_section_behind_map, passes_copies};
+ghost use Rattle.pipeline_plan.specs.Rules.{Betters, IsBetter, instead_list, IsSectionOver, Repeats, is_distinct, passes_copies};
 
 use crate::{Kind, StageOf};
 use pipeline_language::{Barrier, Part, Stage};
@@ -13,13 +13,6 @@ pub enum Instead<G> {
     One(G),
 }
 
-/// Whether a limit or a skip stands behind a map.
-fn is_section_behind_map<F, P, E>(first: &Stage<F, P, E>, second: &Stage<F, P, E>) -> bool
-    ensures { result ≡ is_section_behind_map first.now second.now }
-{
-    matches!(first, Stage::Map(_)) && matches!(second, Stage::Barrier(Barrier::Counted(_, _)))
-}
-
 /// A limit or a skip behind a map stands as well before it.
 ///
 /// ```text
@@ -28,10 +21,11 @@ fn is_section_behind_map<F, P, E>(first: &Stage<F, P, E>, second: &Stage<F, P, E
 fn section_first<K: Kind>(first: &StageOf<K>, second: &StageOf<K>) -> Option<Instead<StageOf<K>>>
     ensures { IfSome result (IsBetter K.means first.now second.now) }
 {
-    if is_section_behind_map(first, second) {
-        Some(Instead::Both(*second, *first))
-    } else {
-        None
+    match (*first, *second) {
+        (Stage::Map(_), Stage::Barrier(Barrier::Counted(_, _))) => {
+            Some(Instead::Both(*second, *first))
+        }
+        _ => None,
     }
 }
 
