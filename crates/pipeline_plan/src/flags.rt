@@ -10,6 +10,7 @@ use spliterator::Spliterator;
 use stages::{Operation, StreamFlags};
 
 /// The flags of a source's items.
+#[tactic(auto, using(crate::specs::PlanFlags::without_size))]
 pub(crate) fn flags_of<S: Spliterator>(source: &S) -> StreamFlags
     ensures { AreFlags S.Item.order result (S.items source.now) }
 {

@@ -18,6 +18,7 @@ pub enum Instead<G> {
 /// ```text
 /// map negate, limit 3    // limit 3, map negate
 /// ```
+#[tactic(auto, using(crate::specs::Rules::section_first))]
 fn section_first<K: Kind>(first: &StageOf<K>, second: &StageOf<K>) -> Option<Instead<StageOf<K>>>
     ensures { IfSome result (IsBetter K.means first.now second.now) }
 {
@@ -40,6 +41,7 @@ pub(crate) fn copies_of<K: Kind>(stage: &StageOf<K>) -> Option<u64>
 }
 
 /// Whether a stage makes nothing of whatever comes to it: so many copies as none.
+#[tactic(auto, using(crate::specs::Rules::none_made))]
 pub(crate) fn makes_none<K: Kind>(stage: &StageOf<K>) -> bool
     ensures { result ≡ true → (l : List K.Item.Content) → stage_list K.means stage.now l ≡ [] }
 {
@@ -51,6 +53,7 @@ pub(crate) fn makes_none<K: Kind>(stage: &StageOf<K>) -> bool
 /// ```text
 /// map negate, flatmap repeat 0    // flatmap repeat 0
 /// ```
+#[tactic(auto, using(crate::specs::Rules::nothing_first))]
 fn emptied<K: Kind>(_first: &StageOf<K>, second: &StageOf<K>) -> Option<Instead<StageOf<K>>>
     ensures { IfSome result (IsBetter K.means _first.now second.now) }
 {
@@ -131,6 +134,7 @@ fn section_over<F: Copy, P: Copy, E: Copy>(
 /// ```text
 /// flatmap repeat 4, limit 12    // limit 3, flatmap repeat 4
 /// ```
+#[tactic(auto, using(crate::specs::Rules::section_before_copies))]
 fn section_before_copies<K: Kind>(
     first: &StageOf<K>,
     second: &StageOf<K>,
