@@ -72,6 +72,7 @@ impl<'a> Model for Lines<'a> {
 
 impl<'a> Lines<'a> {
     /// All the lines of a file.
+    #[tactic(auto, using(crate::proofs::LineLemmas::line_count))]
     pub fn new(file: &'a [u8]) -> Lines<'a>
         ensures lines { result ≡ lines_of file.now }
         ensures count { length result ≤ length file.now + 1 }
