@@ -18,6 +18,7 @@ use std::alloc::Global;
 pub const MOST_BYTES: usize = 1_048_576;
 
 /// Reads a whole file. Its texts borrow from the bytes.
+#[tactic(auto, using(pipeline_language::proofs::FileLemmas::reads_means, pipeline_language::proofs::FileLemmas::reads_fault))]
 pub fn read_pipeline(alloc: Global, file: &[u8]) -> Result<Pipeline<'_>, ReadError>
     // What is read is what the file means, and a fault that is told is the file's.
     ensures meaning { IfOk result (λ pipeline. Means file.now (program_of pipeline)) }
