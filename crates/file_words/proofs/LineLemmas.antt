@@ -6,7 +6,7 @@ use Rattle.std.proofs.lemmas.List.{take-append-drop, drop-drop, take_all, length
 use Rattle.std.proofs.lemmas.List.Elements.{All-cons, All-from_get_or, All-head, All-tail}
 use Rattle.std.{proofs.Math.Seq.drop-cons, proofs.lemmas.List.Sums.count_by-le-length, specs.Result.result_ok, specs.Borrow.Bor, specs.Str.IsCharBoundary, specs.Option.is_some, proofs.lemmas.Nat.Bits.bit_at-trailing_zeros, proofs.Math.ListN.get_or-eq_default, proofs.Math.Nat.pow-le-pow_right}
 use Rattle.std.proofs.lemmas.List.Splits.{slice_split_none, slice_split_at, length-slice_split, join_with_byte-slice_split}
-use Rattle.std.proofs.lemmas.Str.{IsUtf8-append, IsUtf8-drop, IsUtf8-encode, IsUtf8-nil, IsUtf8-take, IsCharBoundary-before_ascii, IsCharBoundary-after_ascii, is_utf8-from_IsUtf8}
+use Rattle.std.proofs.lemmas.Str.{IsUtf8-append, IsUtf8-drop, IsUtf8-encode, IsUtf8-nil, IsCharBoundary-before_ascii, IsCharBoundary-after_ascii, is_utf8-from_IsUtf8}
 use Rattle.file_words.specs.{declared.fault.FileError.FileError, Pieces.IsTextOf, declared.fault.FileError.TheVariants.BadArity}
 use Rattle.file_words.specs.Words.{lines_of, without_empty_last, words_of, words_left}
 use Rattle.memchr.specs.Find.{Nowhere, NoneBefore, Passes, is_byte, IsFirstByte}
@@ -85,14 +85,6 @@ cut_is_boundary byte bytes behind end ascii text first back =
     let some : 0 < length behind = omega (arith, first.0.high, ap length back, length-drop end bytes) in
     let head : get_or behind 0 0 ≡ get_or bytes (end + 0) 0 = ap (λ l. get_or l 0 0) back ∙ get_or-drop end bytes 0 0 in
     IsCharBoundary-after_ascii behind 0 rest some (omega (arith, head ∙ ap (λ n. get_or bytes n 0) (plus_zero end), at))
-
--- what is cut there is text
-pub cut_is_text : (byte : ℕ) (bytes line behind rest : List ℕ) (end : ℕ) → byte < 128 → IsUtf8 bytes → first_byte byte end bytes → line ≡ take end bytes → behind ≡ drop end bytes → rest ≡ drop 1 behind → IsUtf8 line × IsUtf8 rest
-cut_is_text byte bytes line behind rest end ascii text first front back left =
-    let at : slice_index bytes end ≡ byte = eqb-true _ _ first.1 in
-    let bound = IsCharBoundary-before_ascii bytes end first.0.high (omega (arith, at)) in
-    let later : IsUtf8 behind = subst IsUtf8 (sym back) (IsUtf8-drop bytes end text bound) in
-    (subst IsUtf8 (sym front) (IsUtf8-take bytes end text bound), subst IsUtf8 (sym left) (IsUtf8-drop behind 1 later (cut_is_boundary byte bytes behind end ascii text first back)))
 
 -- a file has no more lines than bytes, and one
 fewer : (pieces : List (List ℕ)) → length (without_empty_last pieces) ≤ length pieces

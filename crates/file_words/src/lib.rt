@@ -7,5 +7,5 @@ mod number;
 mod words;
 
 pub use fault::{FileError, FileFault, LineError, ReadError};
-pub use lines::{Lines, Piece, first_of_text};
+pub use lines::{Lines, Piece, first_of_text, first_word};
 pub use words::Words;

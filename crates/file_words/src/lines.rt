@@ -1,6 +1,6 @@
 //! Lines of a file and words of a line.
 
-ghost use Rattle.std.specs.Prelude.{◌≡◌, ◌≤◌, ◌+◌, ◌∷◌, ℕ, List, length, All, IfSome, IsSome, IsUtf8};
+ghost use Rattle.std.specs.Prelude.{◌≡◌, ◌<◌, ◌≤◌, ◌+◌, ◌∷◌, ℕ, List, length, All, IfSome, IsSome, IsUtf8};
 ghost use Rattle.memchr.specs.Find.{IsFirstByte, is_byte};
 ghost use Rattle.file_words.specs.Pieces.{CutsLine, IsTextOf, TakesLine, piece_bytes};
 ghost use Rattle.file_words.specs.Words.{lines_of, words_left, words_of};
@@ -72,6 +72,7 @@ impl<'a> Model for Lines<'a> {
 
 impl<'a> Lines<'a> {
     /// All the lines of a file.
+    #[tactic(auto, using(crate::proofs::LineLemmas::line_count))]
     pub fn new(file: &'a [u8]) -> Lines<'a>
         ensures lines { result ≡ lines_of file.now }
         ensures count { length result ≤ length file.now + 1 }
@@ -170,9 +171,10 @@ fn first_of_bytes(bytes: &[u8]) -> Option<(&[u8], &[u8])>
 }
 
 /// The first word of a line, and what stands behind the space that ends it, where one does.
-pub(crate) fn first_word(line: &str) -> (&str, Option<&str>)
+pub fn first_word(line: &str) -> (&str, Option<&str>)
     ensures text { IsUtf8 result.0.now × IfSome result.1 (λ left. IsUtf8 left.now) }
     ensures word { words_of line.now ≡ result.0.now ∷ words_left result.1 }
+    ensures shorter { IfSome result.1 (λ left. length left.now < length line.now) }
 {
     match first_near(b' ', line.as_bytes()) {
         Some(end) => {

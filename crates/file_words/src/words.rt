@@ -93,6 +93,7 @@ impl<'a> Words<'a> {
     }
 
     /// The end of the line.
+    #[tactic(auto, using(crate::proofs::LineLemmas::left_over))]
     pub fn end(self) -> Result<(), FileError>
         ensures { result ≡ ended self.entry.words self.entry.good }
     {

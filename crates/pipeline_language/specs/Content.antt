@@ -2,9 +2,8 @@
 use Rattle.std.specs.Prelude.{ℕ, List, [], ◌∷◌, ◌++◌, map, length, ◌≡◌, Bool, true, false, ◌&&◌, Option, Some, None}
 use Rattle.std.specs.Borrow.{Bor}
 use Rattle.pipeline_language.specs.declared.{item_count.ItemCount.ItemCount, pipeline.Mapped.Mapped, pipeline.NumberFunction.NumberFunction, pipeline.TextFunction.TextFunction, pipeline.TextMerge.TextMerge, pipeline.Pipeline.Pipeline, pipeline.NumberBody.NumberBody, pipeline.TextBody.TextBody, pipeline.TextEnd.TextEnd, pipeline.NumberSource.NumberSource, ranges.OpenRange.OpenRange, ranges.ClosedRange.ClosedRange, kinds.TextLine.TextLine, line.Source.Source, line.NamedSource.NamedSource}
-use Rattle.pipeline_language.specs.Syntax.{Condition, Base, Inner, Summary, Barring, Stage, Joint, Terminal, BodyLine, Change, Function, Itself, Length, Map, Merge, Mod, OfNumbers, OfTexts, Repeat, Origin, Range, Closed, Numbers, Lines, Program, TextKind, function_takes, merge_takes, value_kind}
+use Rattle.pipeline_language.specs.Syntax.{Condition, Base, Inner, Summary, Stage, Joint, Terminal, BodyLine, Change, Function, Itself, Length, Map, Merge, Mod, OfNumbers, OfTexts, Repeat, Origin, Range, Closed, Numbers, Lines, Program, TextKind, function_takes, merge_takes, value_kind}
 use Rattle.pipeline_language.specs.Grammar as grammar
-use Rattle.pipeline_language.specs.declared.grammar.Barrier as barriers
 use Rattle.pipeline_language.specs.declared.pipeline.Pipeline.TheVariants as pipelines
 use Rattle.pipeline_language.specs.declared.pipeline.TextEnd.TheVariants as ends
 use Rattle.pipeline_language.specs.declared.pipeline.NumberSource.TheVariants as sources
@@ -94,9 +93,6 @@ LentSummary = grammar.Summary grammar.Function (grammar.Function × LentInner) L
 
 abbrev pub summary_content : LentSummary → Summary
 summary_content summary = grammar.summary as_read (λ m. (m.0, inner_content m.1)) condition_content base_content inner_content summary
-
-abbrev pub barrier_content : barriers.Barrier LentCondition ItemCount → Barring
-barrier_content barrier = grammar.barrier condition_content count_content barrier
 
 abbrev pub LentStage : Type 0
 LentStage = grammar.Stage grammar.Function LentCondition grammar.Expansion ItemCount

@@ -244,15 +244,12 @@ abbrev pub expansion_takes : Kind → Expansion → Bool
 expansion_takes kind (Repeat n) = true
 expansion_takes kind Words = is_text kind
 
-abbrev pub barrier_takes : Kind → Barring → Bool
-barrier_takes kind (While part p) = own_takes kind p
-barrier_takes kind barrier = true
-
 abbrev pub stage_takes : Kind → Stage → Bool
 stage_takes kind (Map f) = function_takes kind f
 stage_takes kind (Filter p) = own_takes kind p
 stage_takes kind (FlatMap expansion) = expansion_takes kind expansion
-stage_takes kind (Barrier barrier) = barrier_takes kind barrier
+stage_takes kind (Barrier (While part p)) = own_takes kind p
+stage_takes kind (Barrier barrier) = true
 
 -- the kind of the items after a stage
 abbrev pub kind_after : Kind → Stage → Kind

@@ -1,10 +1,9 @@
 //! Things of a line, for the items that come to it.
 
 ghost use Rattle.std.specs.Prelude.{Option};
-ghost use Rattle.pipeline_language.specs.Content.{number_base, number_function, number_inner, number_stage, number_summary, number_terminal, number_test, text_base, text_function, text_inner, text_merge, text_summary, text_terminal, text_test, text_value, Takes, number_line_content, text_line_content, value_takes, barrier_content, base_content, body_line_content, condition_content, count_content, inner_content, stage_content, summary_content, terminal_content};
-ghost use Rattle.pipeline_language.specs.Grammar.{barrier};
+ghost use Rattle.pipeline_language.specs.Content.{number_base, number_function, number_inner, number_stage, number_summary, number_terminal, number_test, text_base, text_function, text_inner, text_merge, text_summary, text_terminal, text_test, text_value, Takes, number_line_content, text_line_content, value_takes, base_content, body_line_content, condition_content, inner_content, stage_content, summary_content, terminal_content};
 ghost use Rattle.pipeline_language.specs.declared.grammar.Line.TheVariants as body_lines;
-ghost use Rattle.pipeline_language.specs.Syntax.{NumberKind, TextKind, barrier_takes, base_takes, body_takes, function_takes, inner_takes, merge_takes, own_takes, stage_takes, summary_takes, terminal_takes};
+ghost use Rattle.pipeline_language.specs.Syntax.{NumberKind, TextKind, base_takes, body_takes, function_takes, inner_takes, merge_takes, own_takes, stage_takes, summary_takes, terminal_takes};
 
 use crate::grammar::{
     Barrier, Base, Expansion, Function, Inner, Line, Merge, NumberTest, OfKind, Stage, Summary,
@@ -61,18 +60,11 @@ fn number_stage(stage: AnyStage<'_>) -> Option<NumberStage>
         Stage::Filter(test) => Some(Stage::Filter(number_test(test)?)),
         Stage::FlatMap(Expansion::Repeat(count)) => Some(Stage::FlatMap(count)),
         Stage::FlatMap(Expansion::Words) => None,
-        Stage::Barrier(barrier) => Some(Stage::Barrier(number_barrier(barrier)?)),
-    }
-}
-
-/// A barrier over numbers.
-fn number_barrier(stage: Barrier<AnyCondition<'_>>) -> Option<Barrier<NumberTest>>
-    ensures { Takes (barrier number_test count_content) (barrier_takes NumberKind) (barrier_content stage.entry) result }
-{
-    match stage {
-        Barrier::Distinct => Some(Barrier::Distinct),
-        Barrier::Counted(part, count) => Some(Barrier::Counted(part, count)),
-        Barrier::While(part, test) => Some(Barrier::While(part, number_test(test)?)),
+        Stage::Barrier(barrier) => Some(Stage::Barrier(match barrier {
+            Barrier::Distinct => Barrier::Distinct,
+            Barrier::Counted(part, count) => Barrier::Counted(part, count),
+            Barrier::While(part, test) => Barrier::While(part, number_test(test)?),
+        })),
     }
 }
 
@@ -87,20 +79,13 @@ fn text_stage(stage: AnyStage<'_>) -> Option<TextLine<'_>>
         },
         Stage::Filter(test) => Stage::Filter(text_test(test)?),
         Stage::FlatMap(expansion) => Stage::FlatMap(expansion),
-        Stage::Barrier(barrier) => Stage::Barrier(text_barrier(barrier)?),
+        Stage::Barrier(barrier) => Stage::Barrier(match barrier {
+            Barrier::Distinct => Barrier::Distinct,
+            Barrier::Counted(part, count) => Barrier::Counted(part, count),
+            Barrier::While(part, test) => Barrier::While(part, text_test(test)?),
+        }),
     };
     Some(TextLine::Stage(stage))
-}
-
-/// A barrier over texts.
-fn text_barrier(stage: Barrier<AnyCondition<'_>>) -> Option<Barrier<TextTest<'_>>>
-    ensures { Takes (barrier text_test count_content) (barrier_takes TextKind) (barrier_content stage.entry) result }
-{
-    match stage {
-        Barrier::Distinct => Some(Barrier::Distinct),
-        Barrier::Counted(part, count) => Some(Barrier::Counted(part, count)),
-        Barrier::While(part, test) => Some(Barrier::While(part, text_test(test)?)),
-    }
 }
 
 /// A terminal of numbers.

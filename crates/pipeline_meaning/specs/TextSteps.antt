@@ -1,11 +1,11 @@
 -- What prepared steps over texts give.
 use Rattle.std.{proofs.Math.ListN.replicate, specs.List.list_all, specs.declared.cmp.Ordering.Ordering}
-use Rattle.std.proofs.Common.{sym, true≢false, ◌≡◌, ◌<◌, ◌+◌, ℕ, Bool, true, false, cond, List, [], ◌∷◌, Option, None, Some, ◌&&◌, flat_map, length, refl}
+use Rattle.std.proofs.Common.{sym, true≢false, ◌≡◌, ◌<◌, ◌+◌, ℕ, Bool, true, false, cond, List, [], ◌∷◌, Option, None, Some, flat_map, length, refl}
 use Rattle.stages.specs.Flags.{KeepsSound}
 use Rattle.file_words.specs.Words.{words_of}
 use Rattle.pipeline_language.specs.Content.{TextStage}
 use Rattle.pipeline_meaning.specs.{Functions.text_holds, declared.text_steps.TextStep.TextStep, declared.text_steps.TextSteps.TextSteps, declared.text_steps.Walked.Walked}
-use Rattle.pipeline_meaning.specs.Walks.{row_of, size_of, images_after, KeepsSound-walk}
+use Rattle.pipeline_meaning.specs.Walks.{row_of, size_of, images_after, StepFollows, KeepsSound-walk}
 use Rattle.pipeline_meaning.specs.Stages.{text_stage, is_map_stage}
 use Rattle.pipeline_meaning.specs.declared.text_steps.TextStep.TheVariants.{Itself, Filter, Repeat, Words}
 use Rattle.pipeline_meaning.specs.declared.text_steps.Walked.TheVariants.{Passed, Dropped, Copied, Cut}
@@ -51,9 +51,7 @@ only_maps steps = list_all is_map_step steps
 
 -- the steps with a stage behind them
 abbrev pub Follows : TextStage → TextSteps → TextSteps → Type 0
-Follows stage old new =
-    ((l : List (List ℕ)) → flat_map (text_images new.steps.items) l ≡ text_stage stage (flat_map (text_images old.steps.items) l))
-    × (only_maps new.steps.items ≡ (only_maps old.steps.items && is_map_stage stage))
+Follows stage old new = StepFollows text_step_images text_stage is_map_step is_map_stage stage old.steps.items new.steps.items
 
 map-one : (step : TextStep) → is_map_step step ≡ true → (text : List ℕ) → text_step_images step text ≡ text ∷ []
 map-one Itself h text = refl

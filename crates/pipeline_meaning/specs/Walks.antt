@@ -1,8 +1,8 @@
 -- One thing after another: stages over a list, and steps over an item.
 use Rattle.stages.specs.declared.flags.Operation.{Operation}
 use Rattle.stages.specs.declared.flags.Operation.TheVariants.{Map as map_row, FlatMap as flat_map_row}
-use Rattle.std.proofs.Common.{ap, ◌∙◌, sym, subst, arith, append-nil, List, [], ◌∷◌, flat_map, ℕ, Bool, true, false, Option, None, ◌≡◌, ◌≤◌, ◌-◌, ◌+◌, ◌++◌, refl}
-use Rattle.std.{proofs.Math.ListN.replicate, specs.declared.cmp.Ordering.Ordering, proofs.lemmas.List.replicate-append-replicate, proofs.lemmas.List.Concat.flat_map-append, proofs.lemmas.List.Sums.AllPass-from_list_all}
+use Rattle.std.proofs.Common.{ap, ◌∙◌, sym, subst, arith, append-nil, List, [], ◌∷◌, flat_map, ℕ, Bool, true, false, Option, None, ◌≡◌, ◌≤◌, ◌-◌, ◌+◌, ◌++◌, ◌&&◌, refl}
+use Rattle.std.{proofs.Math.ListN.replicate, specs.declared.cmp.Ordering.Ordering, proofs.lemmas.List.replicate-append-replicate, proofs.Math.Bool.and-true, proofs.lemmas.List.Concat.flat_map-append, proofs.lemmas.List.Folds.list_all-append, proofs.lemmas.List.Sums.AllPass-from_list_all}
 use Rattle.std.specs.List.{list_all, AllPass}
 use Rattle.std.proofs.lemmas.List.Elements.{All-head, All-tail}
 use Rattle.stages.specs.Flags.{KeepsSound, IsSound, after}
@@ -58,7 +58,7 @@ module _ {S A : Type 0} (images : S → A → List A) where
       flat_map-same (images_after images (steps ++ step ∷ [])) (λ y. flat_map (images step) (images_after images steps y)) (images-one-more steps step) (images first x)
       ∙ sym (flat_map-flat_map (images_after images steps) (images step) (images first x))
 
-  pub all-one-more : (steps : List S) (step : S) (l : List A)
+  all-one-more : (steps : List S) (step : S) (l : List A)
       → flat_map (images_after images (steps ++ step ∷ [])) l ≡ flat_map (images step) (flat_map (images_after images steps) l)
   all-one-more steps step l =
       flat_map-same (images_after images (steps ++ step ∷ [])) (λ y. flat_map (images step) (images_after images steps y)) (images-one-more steps step) l
@@ -79,9 +79,26 @@ module _ {S A : Type 0} (images : S → A → List A) where
       KeepsSound-images order (images_after images steps) (one_after_other image steps) (list_all is_map steps)
       (λ all. one-image is_map image one steps (AllPass-from_list_all is_map steps all))
 
-  module _ {G : Type 0} (stage : G → List A → List A) where
-    abbrev pub IsStep : (S → Bool) → (G → Bool) → S → G → Type 0
-    IsStep is_map is_stage_map step last = ((l : List A) → flat_map (images step) l ≡ stage last l) × (is_map step ≡ is_stage_map last)
+  module _ {G : Type 0} (stage : G → List A → List A) (is_map : S → Bool) (is_stage_map : G → Bool) where
+    abbrev pub IsStep : S → G → Type 0
+    IsStep step last = ((l : List A) → flat_map (images step) l ≡ stage last l) × (is_map step ≡ is_stage_map last)
+
+    -- the steps with a stage behind them
+    abbrev pub StepFollows : G → List S → List S → Type 0
+    StepFollows last old new =
+        ((l : List A) → flat_map (images_after images new) l ≡ stage last (flat_map (images_after images old) l))
+        × (list_all is_map new ≡ (list_all is_map old && is_stage_map last))
+
+    -- a step behind the others is a stage behind them
+    pub step-follows : (old new : List S) (step : S) (last : G) → new ≡ old ++ step ∷ [] → IsStep step last → StepFollows last old new
+    step-follows old new step last more is = (
+      λ l. ap (λ s. flat_map (images_after images s) l) more ∙ all-one-more old step l ∙ is.0 (flat_map (images_after images old) l),
+      ap (list_all is_map) more ∙ list_all-append is_map old (step ∷ []) ∙ ap (λ b. list_all is_map old && b) (and-true (is_map step) ∙ is.1),
+    )
+
+  -- no step changes nothing
+  pub no-steps : (steps : List S) → steps ≡ [] → (l : List A) → flat_map (images_after images steps) l ≡ l
+  no-steps steps none l = ap (λ s. flat_map (images_after images s) l) none ∙ flat_map-one l
 
 pub stages-one-more : {G A : Type 0} (stage : G → A → A) (earlier : List G) (last : G) (items : A)
     → one_after_other stage (earlier ++ last ∷ []) items ≡ stage last (one_after_other stage earlier items)

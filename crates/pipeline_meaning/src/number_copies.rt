@@ -1,8 +1,10 @@
-//! Copies of a block's numbers, a room at a time.
+//! Steps over blocks of numbers, into a sink. Copies are made a room at a time.
 ghost use Rattle.std.specs.Prelude.{OnOk, OnErr, flat_map};
 ghost use Rattle.std.proofs.Math.ListN.{replicate};
-ghost use Rattle.pipeline_meaning.specs.NumberSteps.{copies};
+ghost use Rattle.pipeline_meaning.specs.NumberSteps.{steps_images};
 
+use crate::functions::{filter_block, map_block};
+use crate::number_steps::NumberStep;
 use spliterator::NoMemory;
 use stages::Sink;
 use std::alloc::Global;
@@ -11,40 +13,50 @@ use stream_functions::copy_each;
 /// How many copies a sink is given at once.
 const ROOM: usize = 1024;
 
-/// Feeds the copies of a block's numbers to a sink, by one repeat after another, as long as they make a difference. What the list holds
-/// afterwards is of no use.
+/// Feeds what steps make of a block, one after another, to a sink, as long as it makes a difference. What the list holds afterwards is of no
+/// use.
 #[cycle(repeating)]
-pub(crate) fn feed_repeated<K: Sink<i64>>(
+pub(crate) fn feed_steps<K: Sink<i64>>(
     alloc: Global,
-    repeats: &[u64],
+    steps: &[NumberStep],
     items: &mut Vec<i64>,
     sink: &mut K,
 ) -> Result<(), NoMemory>
     requires { K.ready sink.old }
-    ensures taken { OnOk result (K.takes sink.old (flat_map (copies repeats.now) items.old.items) sink.new) }
+    ensures taken { OnOk result (K.takes sink.old (flat_map (steps_images steps.now) items.old.items) sink.new) }
     ensures spoilt { OnErr result (K.spoils sink.old sink.new) }
 {
-    match repeats.split_first() {
-        None => sink.take_all(items),
-        Some((number, later)) => {
+    let Some((step, later)) = steps.split_first() else {
+        return sink.take_all(items);
+    };
+    match *step {
+        NumberStep::Map(mapping) => {
+            map_block(mapping, items)?;
+            feed_steps(alloc, later, items, sink)
+        }
+        NumberStep::Filter(check) => {
+            filter_block(check, items);
+            feed_steps(alloc, later, items, sink)
+        }
+        NumberStep::Repeat(number) => {
             let mut room = Vec::new(alloc);
-            feed_each(alloc, *number, later, items.as_slice(), &mut room, sink)
+            feed_each(alloc, number, later, items.as_slice(), &mut room, sink)
         }
     }
 }
 
-// Feeds so many copies of each number, and the copies of these, by way of a room.
+// Feeds what later steps make of so many copies of each number, by way of a room.
 #[cycle(repeating)]
 fn feed_each<K: Sink<i64>>(
     alloc: Global,
     number: u64,
-    later: &[u64],
+    later: &[NumberStep],
     items: &[i64],
     room: &mut Vec<i64>,
     sink: &mut K,
 ) -> Result<(), NoMemory>
     requires { K.ready sink.old }
-    ensures taken { OnOk result (K.takes sink.old (flat_map (copies later.now) (flat_map (replicate number) items.now)) sink.new) }
+    ensures taken { OnOk result (K.takes sink.old (flat_map (steps_images later.now) (flat_map (replicate number) items.now)) sink.new) }
     ensures spoilt { OnErr result (K.spoils sink.old sink.new) }
 {
     if number <= ROOM as u64 {
@@ -61,13 +73,13 @@ fn feed_each<K: Sink<i64>>(
 fn feed_few<K: Sink<i64>>(
     alloc: Global,
     number: usize,
-    later: &[u64],
+    later: &[NumberStep],
     items: &[i64],
     room: &mut Vec<i64>,
     sink: &mut K,
 ) -> Result<(), NoMemory>
     requires { K.ready sink.old }
-    ensures taken { OnOk result (K.takes sink.old (flat_map (copies later.now) (flat_map (replicate number) items.now)) sink.new) }
+    ensures taken { OnOk result (K.takes sink.old (flat_map (steps_images later.now) (flat_map (replicate number) items.now)) sink.new) }
     ensures spoilt { OnErr result (K.spoils sink.old sink.new) }
 {
     let most = (ROOM / number.max(1)).max(1);
@@ -78,7 +90,7 @@ fn feed_few<K: Sink<i64>>(
         }
         let (part, rest) = left.split_at(left.len().min(most));
         copy_each(number, part, room)?;
-        feed_repeated(alloc, later, room, sink)?;
+        feed_steps(alloc, later, room, sink)?;
         left = rest;
     }
     Ok(())
@@ -89,13 +101,13 @@ fn feed_few<K: Sink<i64>>(
 fn feed_many<K: Sink<i64>>(
     alloc: Global,
     number: u64,
-    later: &[u64],
+    later: &[NumberStep],
     x: i64,
     room: &mut Vec<i64>,
     sink: &mut K,
 ) -> Result<(), NoMemory>
     requires { K.ready sink.old }
-    ensures taken { OnOk result (K.takes sink.old (flat_map (copies later.now) (replicate number x)) sink.new) }
+    ensures taken { OnOk result (K.takes sink.old (flat_map (steps_images later.now) (replicate number x)) sink.new) }
     ensures spoilt { OnErr result (K.spoils sink.old sink.new) }
 {
     let mut left = number;
@@ -105,7 +117,7 @@ fn feed_many<K: Sink<i64>>(
         }
         let part = left.min(ROOM as u64);
         copy_each(part as usize, &[x], room)?;
-        feed_repeated(alloc, later, room, sink)?;
+        feed_steps(alloc, later, room, sink)?;
         left -= part;
     }
     Ok(())

@@ -9,6 +9,7 @@ ghost use Rattle.pipeline_meaning.specs.TextSteps.{text_images, text_step_images
 ghost use Rattle.pipeline_meaning.specs.Stages.{text_stage, is_barrier_stage, is_map_stage};
 
 use crate::TextCheck;
+use file_words::first_word;
 use pipeline_language::{Expansion, TextStage};
 use spliterator::{NoMemory, Text};
 use stages::{Operation, Sink, Stage, Test};
@@ -112,10 +113,7 @@ trait Cut: Text + Copy {
 
 impl Cut for &str {
     fn first_word(self) -> (Self, Option<Self>) {
-        match self.split_once(' ') {
-            Some((word, later)) => (word, Some(later)),
-            None => (self, None),
-        }
+        first_word(self)
     }
 }
 

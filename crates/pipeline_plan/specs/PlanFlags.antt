@@ -25,8 +25,8 @@ operation_of (Barrier (While Front p)) = operations.TakeWhile
 operation_of (Barrier (While Rest p)) = operations.DropWhile
 
 -- a number that is told is left out
-pub without-size : {X : Type 0} (order : X → X → Ordering) (flags : StreamFlags) (size : Option ℕ) (l : List X) → IsSound order flags size l → AreFlags order (after flags operations.Filter) l
-without-size order flags size l sound = record { distinct = sound.distinct; sorted = sound.sorted; sized = refl; at_most = tt }
+pub without_size : {X : Type 0} (order : X → X → Ordering) (flags : StreamFlags) (size : Option ℕ) (l : List X) → IsSound order flags size l → AreFlags order (after flags operations.Filter) l
+without_size order flags size l sound = record { distinct = sound.distinct; sorted = sound.sorted; sized = refl; at_most = tt }
 
 -- the flags of the items before a stage tell those behind it
 pub keeps-flags : {F P E X : Type 0} (m : Meaning F P E X) (order : X → X → Ordering) (s : StageOf F P E) (flags : StreamFlags) (l : List X)

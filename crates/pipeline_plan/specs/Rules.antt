@@ -1,7 +1,7 @@
 -- When stages are simpler than others.
 use Rattle.pipeline_meaning.specs.Stages.{Meaning, StageOf, part_list, part-map, stages_list, stage_list}
 use Rattle.pipeline_language.specs.declared.grammar.Barrier.TheVariants.{Counted, Distinct, While}
-use Rattle.pipeline_language.specs.declared.grammar.Part.{Part}
+use Rattle.pipeline_language.specs.declared.{grammar.Part.Part, item_count.ItemCount.ItemCount}
 use Rattle.pipeline_language.specs.declared.grammar.Part.TheVariants.{Front, Rest}
 use Rattle.pipeline_language.specs.declared.grammar.Stage.TheVariants.{FlatMap, Barrier, Map, Filter}
 use Rattle.pipeline_plan.specs.declared.neighbours.Instead.{Instead}
@@ -138,10 +138,6 @@ module _ {X : Type 0} (same : X → X → Bool) (decides : DecidesEquality same)
 
 -- Neighbours that are put more simply.
 
-abbrev pub is_section_behind_map : {F P E : Type 0} → StageOf F P E → StageOf F P E → Bool
-is_section_behind_map (Map f) (Barrier (Counted part n)) = true
-is_section_behind_map _ _ = false
-
 abbrev pub passes_copies : {F P E : Type 0} → StageOf F P E → Bool
 passes_copies (Map f) = true
 passes_copies (Filter p) = true
@@ -163,9 +159,8 @@ pub record Repeats {F P E X : Type 0} (m : Meaning F P E X) (stage : StageOf F P
   pub light : weight stage ≡ 1
 
 module _ {F P E X : Type 0} (m : Meaning F P E X) where
-  pub section-first : (first second : StageOf F P E) → is_section_behind_map first second ≡ true → Betters m (second ∷ first ∷ []) (first ∷ second ∷ [])
-  section-first (Map f) (Barrier (Counted part n)) is = record { same = λ l. sym (part-map (m.image f) part n.number l); less = λ rest. omega arith }
-  section-first _ _ is = absurd (true≢false (sym is))
+  pub section_first : (f : F) (part : Part) (n : ItemCount) → Betters m (Barrier (Counted part n) ∷ Map f ∷ []) (Map f ∷ Barrier (Counted part n) ∷ [])
+  section_first f part n = record { same = λ l. sym (part-map (m.image f) part n.number l); less = λ rest. omega arith }
 
   pub weighs : (s : StageOf F P E) → 1 ≤ weight s
   weighs (FlatMap e) = omega arith
@@ -173,15 +168,15 @@ module _ {F P E X : Type 0} (m : Meaning F P E X) where
   weighs _ = omega arith
 
   -- nothing is made of copies of no number
-  pub none-made : (s : StageOf F P E) (k : ℕ) → Repeats m s k → k ≡ 0 → (l : List X) → stage_list m s l ≡ []
-  none-made s k repeats none l = repeats.copies l ∙ ap (λ i. flat_map (replicate i) l) none ∙ no-copies l
+  pub none_made : (s : StageOf F P E) (k : ℕ) → Repeats m s k → k ≡ 0 → (l : List X) → stage_list m s l ≡ []
+  none_made s k repeats none l = repeats.copies l ∙ ap (λ i. flat_map (replicate i) l) none ∙ no-copies l
     where
       no-copies : (l : List X) → flat_map (replicate 0) l ≡ []
       no-copies [] = refl
       no-copies (x ∷ l) = no-copies l
 
-  pub nothing-first : (first second : StageOf F P E) → ((l : List X) → stage_list m second l ≡ []) → Betters m (second ∷ []) (first ∷ second ∷ [])
-  nothing-first first second none =
+  pub nothing_first : (first second : StageOf F P E) → ((l : List X) → stage_list m second l ≡ []) → Betters m (second ∷ []) (first ∷ second ∷ [])
+  nothing_first first second none =
       let some = weighs first in record { same = λ l. none l ∙ sym (none (stage_list m first l)); less = λ rest. omega (arith, some) }
 
   passing : (s : StageOf F P E) (k : ℕ) (l : List X) → passes_copies s ≡ true → stage_list m s (flat_map (replicate k) l) ≡ flat_map (replicate k) (stage_list m s l)
@@ -197,31 +192,31 @@ module _ {F P E X : Type 0} (m : Meaning F P E X) where
   passing-weighs (Barrier (While part p)) is = refl
   passing-weighs _ is = absurd (true≢false (sym is))
 
-  pub copies-last : (first second : StageOf F P E) (k : ℕ) → Repeats m first k → passes_copies second ≡ true → Betters m (second ∷ first ∷ []) (first ∷ second ∷ [])
-  copies-last first second k repeats is =
+  pub copies_last : (first second : StageOf F P E) (k : ℕ) → Repeats m first k → passes_copies second ≡ true → Betters m (second ∷ first ∷ []) (first ∷ second ∷ [])
+  copies_last first second k repeats is =
       let heavy = passing-weighs second is in
       let light = repeats.light in record {
         same = λ l. repeats.copies (stage_list m second l) ∙ sym (passing second k l is) ∙ ap (stage_list m second) (sym (repeats.copies l));
         less = λ rest. omega (arith, heavy, light);
       }
 
-  pub copies-dropped : (first second : StageOf F P E) (k : ℕ) → Repeats m first k → 1 ≤ k → is_distinct second ≡ true → Betters m (second ∷ []) (first ∷ second ∷ [])
-  copies-dropped first (Barrier Distinct) k repeats some is =
+  pub copies_dropped : (first second : StageOf F P E) (k : ℕ) → Repeats m first k → 1 ≤ k → is_distinct second ≡ true → Betters m (second ∷ []) (first ∷ second ∷ [])
+  copies_dropped first (Barrier Distinct) k repeats some is =
       let light = repeats.light in record {
         same = λ l. sym (ap (stage_list m (Barrier Distinct)) (repeats.copies l) ∙ distinct-copies m.same m.decides k l some);
         less = λ rest. omega (arith, light);
       }
-  copies-dropped first _ k repeats some is = absurd (true≢false (sym is))
+  copies_dropped first _ k repeats some is = absurd (true≢false (sym is))
 
-  pub section-before-copies : (first second part : StageOf F P E) (k : ℕ) → Repeats m first k → IsSectionOver k second part → Betters m (part ∷ first ∷ []) (first ∷ second ∷ [])
-  section-before-copies first (Barrier (Counted part n)) (Barrier (Counted other i)) k repeats is =
+  pub section_before_copies : (first second part : StageOf F P E) (k : ℕ) → Repeats m first k → IsSectionOver k second part → Betters m (part ∷ first ∷ []) (first ∷ second ∷ [])
+  section_before_copies first (Barrier (Counted part n)) (Barrier (Counted other i)) k repeats is =
       let light = repeats.light in record {
         same = λ l.
             repeats.copies (part_list other i.number l) ∙ sym (copies-part other k i.number l)
             ∙ ap₂ (λ p j. part_list p j (flat_map (replicate k) l)) (sym is.0) (sym is.1) ∙ ap (part_list part n.number) (sym (repeats.copies l));
         less = λ rest. omega (arith, light);
       }
-  section-before-copies first _ _ k repeats is = absurd is
+  section_before_copies first _ _ k repeats is = absurd is
 
 -- Stages within stages.
 

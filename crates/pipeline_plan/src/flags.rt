@@ -1,7 +1,7 @@
 //! What the library's flags tell of items before anything runs. The number of the items is left out.
 
 ghost use Rattle.std.specs.Prelude.{◌≡◌, List};
-ghost use Rattle.pipeline_meaning.specs.Stages.{stage_list, stages_list};
+ghost use Rattle.pipeline_meaning.specs.Stages.{stages_list};
 ghost use Rattle.pipeline_plan.specs.PlanFlags.{AreFlags, operation_of};
 
 use crate::{Kind, StageOf};
@@ -10,6 +10,7 @@ use spliterator::Spliterator;
 use stages::{Operation, StreamFlags};
 
 /// The flags of a source's items.
+#[tactic(auto, using(crate::specs::PlanFlags::without_size))]
 pub(crate) fn flags_of<S: Spliterator>(source: &S) -> StreamFlags
     ensures { AreFlags S.Item.order result (S.items source.now) }
 {
@@ -32,14 +33,6 @@ fn operation_of<F, P, E>(stage: &Stage<F, P, E>) -> Operation
     }
 }
 
-/// The flags of what a stage makes of items.
-fn flags_behind<K: Kind>(flags: StreamFlags, stage: &StageOf<K>) -> StreamFlags
-    ensures { (l : List K.Item.Content) → AreFlags K.Item.order flags l
-        → AreFlags K.Item.order result (stage_list K.means stage.now l) }
-{
-    flags.after(operation_of(stage))
-}
-
 /// The flags of what stages make of items.
 pub(crate) fn flags_through<K: Kind>(flags: StreamFlags, stages: &[StageOf<K>]) -> StreamFlags
     ensures { (l : List K.Item.Content) → AreFlags K.Item.order flags l
@@ -47,7 +40,7 @@ pub(crate) fn flags_through<K: Kind>(flags: StreamFlags, stages: &[StageOf<K>]) 
 {
     let mut behind = flags;
     for stage in stages {
-        behind = flags_behind::<K>(behind, stage);
+        behind = behind.after(operation_of(stage));
     }
     behind
 }

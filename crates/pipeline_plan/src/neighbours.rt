@@ -2,7 +2,7 @@
 
 ghost use Rattle.std.specs.Prelude.{◌≡◌, ◌≤◌, ◌+◌, IfSome, List, [], ◌++◌, drop, length, take, true};
 ghost use Rattle.pipeline_meaning.specs.Stages.{stage_list};
-ghost use Rattle.pipeline_plan.specs.Rules.{Betters, IsBetter, instead_list, IsSectionOver, Repeats, is_distinct, is_section_behind_map, passes_copies};
+ghost use Rattle.pipeline_plan.specs.Rules.{Betters, IsBetter, instead_list, IsSectionOver, Repeats, is_distinct, passes_copies};
 
 use crate::{Kind, StageOf};
 use pipeline_language::{Barrier, Part, Stage};
@@ -13,25 +13,20 @@ pub enum Instead<G> {
     One(G),
 }
 
-/// Whether a limit or a skip stands behind a map.
-fn is_section_behind_map<F, P, E>(first: &Stage<F, P, E>, second: &Stage<F, P, E>) -> bool
-    ensures { result ≡ is_section_behind_map first.now second.now }
-{
-    matches!(first, Stage::Map(_)) && matches!(second, Stage::Barrier(Barrier::Counted(_, _)))
-}
-
 /// A limit or a skip behind a map stands as well before it.
 ///
 /// ```text
 /// map negate, limit 3    // limit 3, map negate
 /// ```
+#[tactic(auto, using(crate::specs::Rules::section_first))]
 fn section_first<K: Kind>(first: &StageOf<K>, second: &StageOf<K>) -> Option<Instead<StageOf<K>>>
     ensures { IfSome result (IsBetter K.means first.now second.now) }
 {
-    if is_section_behind_map(first, second) {
-        Some(Instead::Both(*second, *first))
-    } else {
-        None
+    match (*first, *second) {
+        (Stage::Map(_), Stage::Barrier(Barrier::Counted(_, _))) => {
+            Some(Instead::Both(*second, *first))
+        }
+        _ => None,
     }
 }
 
@@ -46,6 +41,7 @@ pub(crate) fn copies_of<K: Kind>(stage: &StageOf<K>) -> Option<u64>
 }
 
 /// Whether a stage makes nothing of whatever comes to it: so many copies as none.
+#[tactic(auto, using(crate::specs::Rules::none_made))]
 pub(crate) fn makes_none<K: Kind>(stage: &StageOf<K>) -> bool
     ensures { result ≡ true → (l : List K.Item.Content) → stage_list K.means stage.now l ≡ [] }
 {
@@ -57,6 +53,7 @@ pub(crate) fn makes_none<K: Kind>(stage: &StageOf<K>) -> bool
 /// ```text
 /// map negate, flatmap repeat 0    // flatmap repeat 0
 /// ```
+#[tactic(auto, using(crate::specs::Rules::nothing_first))]
 fn emptied<K: Kind>(_first: &StageOf<K>, second: &StageOf<K>) -> Option<Instead<StageOf<K>>>
     ensures { IfSome result (IsBetter K.means _first.now second.now) }
 {
@@ -137,6 +134,7 @@ fn section_over<F: Copy, P: Copy, E: Copy>(
 /// ```text
 /// flatmap repeat 4, limit 12    // limit 3, flatmap repeat 4
 /// ```
+#[tactic(auto, using(crate::specs::Rules::section_before_copies))]
 fn section_before_copies<K: Kind>(
     first: &StageOf<K>,
     second: &StageOf<K>,

@@ -4,14 +4,13 @@ use Rattle.std.{specs.Str.is_utf8, proofs.lemmas.Bool.cond-true, proofs.lemmas.L
 use Rattle.file_words.specs.{WordReading.◌>>=◌, declared.fault.FileFault.FileFault, declared.fault.ReadError.ReadError}
 use Rattle.file_words.specs.declared.fault.FileError.TheVariants.{BadText, MissingTerminal}
 use Rattle.file_words.specs.declared.fault.ReadError.TheVariants.{Fault, NoMemory}
-use Rattle.pipeline_language.specs.declared.{version.Version.Version, pipeline.NumberBody.NumberBody, pipeline.NumberFunction.NumberFunction, grammar.Function.TheVariants.Length, grammar.Stage.TheVariants.Map}
-use Rattle.pipeline_language.specs.declared.pipeline.NumberFunction.TheVariants as functions
-use Rattle.pipeline_language.specs.Content.{NumberStage, TextStage, Body, number_body, number_function, number_stage, text_stage}
+use Rattle.pipeline_language.specs.declared.version.Version.{Version}
+use Rattle.pipeline_language.specs.Content.{TextStage, Body, text_stage}
 use Rattle.pipeline_language.specs.declared.grammar.Stage.TheVariants as stage_variants
 use Rattle.pipeline_language.specs.declared.grammar.Line.TheVariants as body_lines
-use Rattle.pipeline_language.specs.Syntax.{Stage, BodyLine, Kind, NumberKind, TextKind, Coming, comes, kind_after, value_kind, after_stage}
+use Rattle.pipeline_language.specs.Syntax.{Stage, BodyLine, Kind, TextKind, Coming, comes, kind_after, after_stage}
 use Rattle.pipeline_language.specs.FileReading.{Reads, Texts, texts_from, first_text, in_front, going_on, body_from, first_of}
-use Rattle.pipeline_language.proofs.FileLemmas.{body_by_first, in_front_twice, in_front_of_none}
+use Rattle.pipeline_language.proofs.FileLemmas.{body_by_first, in_front_of_none, in_front_twice}
 
 -- Behind k stages that were read stands the line with the number k more: places tells what comes to it.
 pub first_behind : (stages : List Stage) (places : ℕ → Coming) (number k n : ℕ) → k ≡ n → (lines : List (List ℕ)) (whole : Result Body FileFault) (r : Result BodyLine FileFault) → whole ≡ in_front stages (body_from (places n) (number + n) lines) → first_of (places k) (number + k) lines ≡ r → whole ≡ in_front stages (r >>= λ b. going_on b (λ stage. body_from (after_stage (places n) stage) ((number + n) + 1) (drop 1 lines)))
@@ -22,15 +21,7 @@ pub told_behind : {L X : Type 0} (line_content : L → BodyLine) (content : X �
 told_behind line_content content stages places number k n same lines whole NoMemory is first = tt
 told_behind line_content content stages places number k n same lines whole (Fault fault) is first = first_behind stages places number k n same lines whole (Err fault) is first
 
--- stages over numbers give numbers, and those over texts give texts
-function_keeps : (f : NumberFunction) → value_kind NumberKind (number_function f) ≡ NumberKind
-function_keeps functions.Itself = refl
-function_keeps f = refl
-
-pub number_keeps : (stage : NumberStage) → kind_after NumberKind (number_stage stage) ≡ NumberKind
-number_keeps (stage_variants.Map f) = function_keeps f
-number_keeps stage = refl
-
+-- stages over texts give texts
 pub text_keeps : (stage : TextStage) → kind_after TextKind (text_stage stage) ≡ TextKind
 text_keeps (stage_variants.Map x) = refl
 text_keeps stage = refl
@@ -49,20 +40,6 @@ stage_more version content kind keeps before number k n next same more place ite
     ∙ ap (λ c. in_front (map content pushed) (body_from c ((number + n) + 1) (drop 1 lines))) (ap (λ k. comes version k (before n + 1)) (keeps stage) ∙ ap (comes version kind) (sym place))
     ∙ ap (λ m. in_front (map content pushed) (body_from (comes version kind (before next)) m (drop 1 lines))) last
     ∙ ap (λ ls. in_front (map content pushed) (body_from (comes version kind (before next)) (number + next) ls)) (sym rest)
-
--- where `map length` leads to numbers
-lengths_more : (version : Version) (stages : List Stage) (number k n : ℕ) → k ≡ n → (lines left : List (List ℕ)) (whole r : Result Body FileFault) → left ≡ drop 1 lines → whole ≡ in_front stages (body_from (comes version TextKind n) (number + n) lines) → first_of (comes version TextKind k) (number + k) lines ≡ Ok (body_lines.Stage (Map Length)) → body_from (comes version NumberKind (k + 1)) ((number + k) + 1) left ≡ r → whole ≡ in_front stages (in_front (Map Length ∷ []) r)
-lengths_more version stages number k n same lines left whole r rest is found read =
-    first_behind stages (comes version TextKind) number k n same lines whole (Ok (body_lines.Stage (Map Length))) is found
-    ∙ ap (λ ls. in_front stages (in_front (Map Length ∷ []) (body_from (comes version NumberKind (n + 1)) ((number + n) + 1) ls))) (sym rest)
-    ∙ ap (λ r. in_front stages (in_front (Map Length ∷ []) r)) (subst (λ m. body_from (comes version NumberKind (m + 1)) ((number + m) + 1) left ≡ r) same read)
-
-pub lengths_read : (version : Version) (stages : List Stage) (number k n : ℕ) → k ≡ n → (lines left : List (List ℕ)) (whole : Result Body FileFault) (body : NumberBody) → left ≡ drop 1 lines → whole ≡ in_front stages (body_from (comes version TextKind n) (number + n) lines) → first_of (comes version TextKind k) (number + k) lines ≡ Ok (body_lines.Stage (Map Length)) → body_from (comes version NumberKind (k + 1)) ((number + k) + 1) left ≡ Ok (number_body body) → whole ≡ Ok (stages ++ (Map Length ∷ (number_body body).0), (number_body body).1)
-lengths_read version stages number k n same lines left whole body = lengths_more version stages number k n same lines left whole (Ok (number_body body))
-
-pub lengths_told : {X : Type 0} (version : Version) (content : X → Body) (stages : List Stage) (number k n : ℕ) → k ≡ n → (lines left : List (List ℕ)) (whole : Result Body FileFault) (e : ReadError) → left ≡ drop 1 lines → whole ≡ in_front stages (body_from (comes version TextKind n) (number + n) lines) → first_of (comes version TextKind k) (number + k) lines ≡ Ok (body_lines.Stage (Map Length)) → Reads number_body (Err e) (body_from (comes version NumberKind (k + 1)) ((number + k) + 1) left) → Reads content (Err e) whole
-lengths_told version content stages number k n same lines left whole NoMemory rest is found told = tt
-lengths_told version content stages number k n same lines left whole (Fault fault) rest is found told = lengths_more version stages number k n same lines left whole (Err fault) rest is found told
 
 -- behind texts that were read
 text_behind : (texts : List (List ℕ)) (count index n : ℕ) (lines : List (List ℕ)) (whole : Result Texts FileFault) (r : Result (List ℕ) FileFault) → index < count → whole ≡ in_front texts (texts_from (count - index) n lines) → first_text n lines ≡ r → whole ≡ in_front texts (r >>= λ text. in_front (text ∷ []) (texts_from (count - (index + 1)) (n + 1) (drop 1 lines)))

@@ -1,14 +1,13 @@
 //! Reads a pipeline file, line by line.
 
 ghost use Rattle.std.specs.Prelude.{◌≡◌, ◌<◌, ◌+◌, ◌-◌, ◌^◌, IfErr, IfOk, OnOk, map, drop, length, Ok, Err};
-ghost use Rattle.file_words.specs.Pieces.{piece_bytes};
 ghost use Rattle.file_words.specs.Words.{lines_of};
 ghost use Rattle.pipeline_language.specs.Content.{number_body, program_of, text_body, number_line_content, text_line_content};
-ghost use Rattle.pipeline_language.specs.FileReading.{IfFault, Reads, ReadsMeaning, TellsFault, after_end, body_from, file_of, first_of, first_text, no_more, program_from, texts_from};
+ghost use Rattle.pipeline_language.specs.FileReading.{IfFault, Reads, ReadsMeaning, TellsFault, body_from, file_of, first_of, first_text, no_more, program_from, texts_from};
 ghost use Rattle.pipeline_language.specs.Language.{HasFault, Means};
 ghost use Rattle.pipeline_language.specs.Syntax.{NumberKind, TextKind, comes};
 
-use file_words::{FileError, FileFault, LineError, Lines, Piece, ReadError, first_of_text};
+use file_words::{FileError, FileFault, LineError, Lines, ReadError, first_of_text};
 use pipeline_language::{
     NumberBody, NumberLine, Pipeline, Source, TextBody, TextEnd, TextLine, Version,
     read_number_line, read_source, read_text_line, read_version,
@@ -19,6 +18,7 @@ use std::alloc::Global;
 pub const MOST_BYTES: usize = 1_048_576;
 
 /// Reads a whole file. Its texts borrow from the bytes.
+#[tactic(auto, using(pipeline_language::proofs::FileLemmas::reads_means, pipeline_language::proofs::FileLemmas::reads_fault))]
 pub fn read_pipeline(alloc: Global, file: &[u8]) -> Result<Pipeline<'_>, ReadError>
     // What is read is what the file means, and a fault that is told is the file's.
     ensures meaning { IfOk result (λ pipeline. Means file.now (program_of pipeline)) }
@@ -244,24 +244,17 @@ fn read_number_first(
 }
 
 /// No line follows the terminal line; the first that does would have the number.
-#[tactic(auto, unfolding(pipeline_language::specs::FileReading::no_more))]
+#[tactic(auto, unfolding(pipeline_language::specs::FileReading::no_more, pipeline_language::specs::FileReading::after_end))]
 fn no_more(lines: &mut Lines<'_>, number: u64) -> Result<(), ReadError>
     ensures told { Reads (λ x. x) result (no_more number lines.old) }
     ensures rest { OnOk result (lines.new ≡ lines.old) }
 {
-    match lines.next() {
-        None => Ok(()),
-        Some(line) => Err(LineError::Fault(after_end(line)).at(number)),
-    }
-}
-
-/// The fault of a line that follows the terminal line.
-#[tactic(auto, unfolding(pipeline_language::specs::FileReading::after_end))]
-fn after_end(line: Piece<'_>) -> FileError
-    ensures { result ≡ after_end (piece_bytes line.entry) }
-{
-    match line.text() {
+    let Some(line) = lines.next() else {
+        return Ok(());
+    };
+    let fault = match line.text() {
         Ok(_) => FileError::AfterTerminal,
         Err(e) => e,
-    }
+    };
+    Err(LineError::Fault(fault).at(number))
 }

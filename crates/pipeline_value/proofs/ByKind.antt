@@ -1,8 +1,9 @@
 -- A list whose members stand for those of another: what is made of it stands for what is made of the other.
 use Rattle.std.{specs.Option.option_map_or, specs.Fmt.signed_decimal, proofs.Math.ListN.replicate}
 use Rattle.std.specs.List.{list_any, prefix_len}
-use Rattle.std.proofs.Common.{sym, ap, ap₂, ◌∙◌, map-id, ◌≡◌, ℤ, ℕ, zero, suc, ◌+◌, ◌||◌, Bool, true, false, cond, not, List, [], ◌∷◌, ◌++◌, map, filter, flat_map, fold, codes, refl, if◌then◌else◌, Option, Some, pos, length, Ok, ◌+ℤ◌}
-use Rattle.std.proofs.lemmas.List.{map-append, length-map}
+use Rattle.std.proofs.Common.{sym, ap, ap₂, ◌∙◌, map-id, ◌≡◌, ℤ, ℕ, ◌+◌, ◌||◌, Bool, true, false, cond, not, List, [], ◌∷◌, ◌++◌, map, filter, flat_map, fold, codes, refl, if◌then◌else◌, Option, Some, pos, length, Ok, ◌+ℤ◌}
+use Rattle.std.proofs.lemmas.{List.map-append, List.length-map, Simd.map-map}
+use Rattle.pipeline_meaning.proofs.NumberFronts.{map-copy}
 use Rattle.stages.specs.Distinct.{distinct, distinct_after}
 use Rattle.collectors.specs.Grouping.{of_key, pairs}
 use Rattle.collectors.specs.NestedLaws.{fails}
@@ -52,12 +53,7 @@ under f false u v = refl
 
 module _ {X Y : Type 0} (e : X → Y) where
   pub map-both : {W Z : Type 0} (d : W → Z) (g : Y → Z) (h : X → W) → ((x : X) → g (e x) ≡ d (h x)) → (l : List X) → map g (map e l) ≡ map d (map h l)
-  map-both d g h same [] = refl
-  map-both d g h same (x ∷ l) = ap₂ (λ y ys. y ∷ ys) (same x) (map-both d g h same l)
-
-  pub map-in : {Z : Type 0} (g : Y → Z) (l : List X) → map g (map e l) ≡ map (λ x. g (e x)) l
-  map-in g [] = refl
-  map-in g (x ∷ l) = ap (λ ys. g (e x) ∷ ys) (map-in g l)
+  map-both d g h same l = map-map g e l ∙ (λ i. map (λ x. same x i) l) ∙ sym (map-map d h l)
 
   list_any-in : (p : Y → Bool) (l : List X) → list_any p (map e l) ≡ list_any (λ x. p (e x)) l
   list_any-in p [] = refl
@@ -66,10 +62,6 @@ module _ {X Y : Type 0} (e : X → Y) where
   pub flat_map-both : (g : Y → List Y) (h : X → List X) → ((x : X) → g (e x) ≡ map e (h x)) → (l : List X) → flat_map g (map e l) ≡ map e (flat_map h l)
   flat_map-both g h same [] = refl
   flat_map-both g h same (x ∷ l) = ap₂ (λ y ys. y ++ ys) (same x) (flat_map-both g h same l) ∙ sym (map-append e (h x) (flat_map h l))
-
-  pub replicate-both : (n : ℕ) (x : X) → replicate n (e x) ≡ map e (replicate n x)
-  replicate-both zero x = refl
-  replicate-both (suc n) x = ap (λ l. e x ∷ l) (replicate-both n x)
 
   pub filter-both : (p : Y → Bool) (q : X → Bool) → ((x : X) → p (e x) ≡ q x) → (l : List X) → filter p (map e l) ≡ map e (filter q l)
   filter-both p q same [] = refl
@@ -127,7 +119,7 @@ module _ {X : Type 0} (e : X → Item) where
   first-both (x ∷ l) = refl
 
   pub list-both : (l : List X) → list_text item_text (map e l) ≡ list_text told l
-  list-both l = ap (λ ts. codes "[" ++ with_commas ts ++ codes "]") (map-in e item_text l)
+  list-both l = ap (λ ts. codes "[" ++ with_commas ts ++ codes "]") (map-map item_text e l)
 
   pub whole-both : (made : AllItems) (l : List X) → whole_text item_text made (map e l) ≡ whole_text told made l
   whole-both Count l = counted l
@@ -214,7 +206,7 @@ joined-number merges.First x y = refl
 joined-number m x y = refl
 
 numbers-back : (l : List ℤ) → map item_number (map Number l) ≡ l
-numbers-back l = map-in Number item_number l ∙ map-id l
+numbers-back l = map-map item_number Number l ∙ map-id l
 
 mapped-number : (f : NumberFunction) (l : List ℤ) → map (image (number_function f)) (map Number l) ≡ map Number (map (number_image f) l)
 mapped-number f l = map-both Number Number (image (number_function f)) (number_image f) (image-number f) l
@@ -222,7 +214,7 @@ mapped-number f l = map-both Number Number (image (number_function f)) (number_i
 stage-number : (stage : NumberStage) (l : List ℤ) → stage_items (number_stage stage) (map Number l) ≡ map Number (meaning.number_stage stage l)
 stage-number (stages.Map f) l = mapped-number f l
 stage-number (stages.Filter p) l = filter-both Number (holds (number_test p)) (number_holds p) (holds-number p) l
-stage-number (stages.FlatMap n) l = flat_map-both Number (replicate n) (replicate n) (replicate-both Number n) l
+stage-number (stages.FlatMap n) l = flat_map-both Number (replicate n) (replicate n) (λ x. sym (map-copy Number n x)) l
 stage-number (stages.Barrier b) l = barrier-both Number number_test number_holds holds-number b l
 
 stages-number : (list : List NumberStage) (l : List ℤ) → stages_items (map number_stage list) (map Number l) ≡ map Number (meaning.number_stages list l)
@@ -285,7 +277,7 @@ joined-text text_merges.First x y = refl
 joined-text text_merges.Last x y = refl
 
 texts-back : (l : List (List ℕ)) → map item_text (map Text l) ≡ l
-texts-back l = map-in Text item_text l ∙ map-id l
+texts-back l = map-map item_text Text l ∙ map-id l
 
 -- the lengths of texts, as items
 pub lengths : (l : List (List ℕ)) → map (image Length) (map Text l) ≡ map Number (map text_length l)
@@ -297,7 +289,7 @@ passed p l = filter-both Text (holds (text_test p)) (text_holds p) (holds-text p
 pub stage-text : (stage : TextStage) (l : List (List ℕ)) → stage_items (text_stage stage) (map Text l) ≡ map Text (meaning.text_stage stage l)
 stage-text (stages.Map x) l = map-both Text Text (λ t. t) (λ t. t) (λ t. refl) l
 stage-text (stages.Filter p) l = passed p l
-stage-text (stages.FlatMap (Repeat n)) l = flat_map-both Text (replicate n) (replicate n) (replicate-both Text n) l
+stage-text (stages.FlatMap (Repeat n)) l = flat_map-both Text (replicate n) (replicate n) (λ x. sym (map-copy Text n x)) l
 stage-text (stages.FlatMap Words) l = flat_map-both Text (expanded Words) words_of (λ x. refl) l
 stage-text (stages.Barrier b) l = barrier-both Text text_test text_holds holds-text b l
 

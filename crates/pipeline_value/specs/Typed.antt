@@ -1,4 +1,4 @@
--- What is told of a pipeline as it is read, by the kind of its items: what is told of its program (proofs/ContentTold).
+-- What is told of a pipeline as it is read, by the kind of its items: what is told of its program (proofs/ByKind).
 use Rattle.std.specs.Prelude.{◌+ℤ◌, ℕ, ℤ, pos, Bool, bytes_eq, List, ◌++◌, map, fold, Ok}
 use Rattle.std.specs.Fmt.{signed_decimal}
 use Rattle.std.specs.Ordering.{int_eq, int_cmp}

@@ -1,7 +1,5 @@
 //! What the terminals make of numbers.
 
-ghost use Rattle.std.specs.Prelude.{◌≡◌, true};
-ghost use Rattle.pipeline_value.specs.Groups.{arranges};
 ghost use Rattle.pipeline_value.specs.Typed.{number_told};
 ghost use Rattle.pipeline_value.specs.Value.{Tells};
 ghost use Rattle.pipeline_language.specs.declared.grammar.Terminal.TheVariants.{Own};
@@ -34,6 +32,7 @@ where
     requires stream { X.ready stream.now }
     ensures { Tells (number_told terminal.now (X.value stream.now)) result }
 {
+    let alloc = engine.alloc;
     match *terminal {
         NumberTerminal::Whole(made) => whole_value(engine, stream, made),
         NumberTerminal::Match(how, test) => match_value(engine, stream, how, &Check::of(test)),
@@ -46,27 +45,6 @@ where
             strict_value(engine, hashes, stream, Mapping::of(key), Mapping::of(value))
         }
         NumberTerminal::Own(total) => total_value(engine, stream, total),
-        NumberTerminal::GroupBy(_, _)
-        | NumberTerminal::Partition(_, _)
-        | NumberTerminal::Teeing(_, _) => arranged_end(engine, hashes, stream, terminal),
-    }
-}
-
-/// The text of the value of a terminal that puts numbers under keys, parts them, or collects them twice.
-fn arranged_end<X>(
-    engine: &Engine<'_, impl Threads + Clock + Sync, impl Gate + Sync>,
-    hashes: SeededHashes,
-    stream: &X,
-    terminal: &NumberTerminal,
-) -> Result<Rope, ValueError>
-where
-    X: Plumbing<Item = i64>,
-    requires stream { X.ready stream.now }
-    requires arranges { arranges terminal.now ≡ true }
-    ensures { Tells (number_told terminal.now (X.value stream.now)) result }
-{
-    let alloc = engine.alloc;
-    match *terminal {
         NumberTerminal::GroupBy(key, summary) => {
             let group = number_group(alloc, hashes, summary);
             group_value(engine, hashes, stream, Mapping::of(key), group)
@@ -80,7 +58,6 @@ where
             let other = number_summary(alloc, hashes, other);
             paired_value(engine, stream, one, other)
         }
-        _ => unreachable!(),
     }
 }
 

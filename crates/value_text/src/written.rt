@@ -57,15 +57,6 @@ impl Written for &str {
 }
 
 /// The text as it stands.
-impl Written for String {
-    ghost text = { string_bytes };
-
-    fn write_to(&self, out: &mut String) -> Result<(), NoMemory> {
-        self.as_str().write_to(out)
-    }
-}
-
-/// The text as it stands.
 impl Written for Rope {
     ghost text = { λ text. text };
 
@@ -202,12 +193,6 @@ impl Spelled for i64 {
 }
 
 impl Spelled for &str {
-    ghost spelling = { λ text. text };
-
-    ghost spelled = { λ _. refl };
-}
-
-impl Spelled for String {
     ghost spelling = { λ text. text };
 
     ghost spelled = { λ _. refl };

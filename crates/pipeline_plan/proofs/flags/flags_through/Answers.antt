@@ -1,7 +1,7 @@
 use Rattle.std.proofs.Common.{◌<◌, length, take, List, ap, subst, sym, ◌∙◌}
 use Rattle.std.proofs.lemmas.List.{take_all}
 use Rattle.pipeline_meaning.specs.Stages.{StageOf, stage_list, stages_list}
-use Rattle.pipeline_plan.specs.{PlanFlags.AreFlags, Rules.stage-more}
+use Rattle.pipeline_plan.specs.{PlanFlags.AreFlags, PlanFlags.keeps-flags, Rules.stage-more}
 use Rattle.pipeline_plan.proofs.flags.flags_through.Goals as goal
 
 pub loop-stage-preserved : goal.loop-stage-preserved
@@ -10,9 +10,9 @@ loop-stage-preserved g c items sound =
     let means = g.K.Kind.means in
     let before = stages_list means (take c.loop-stage.stage-index stages) items in
     let within : c.loop-stage.stage-index < length stages = c.loop-stage-test.true in
-    subst (λ (l : List g.row.K-Item-Content.Denot). AreFlags g.K.Item.OrderedValue.order c.flags_behind-behind.result l)
+    subst (λ (l : List g.row.K-Item-Content.Denot). AreFlags g.K.Item.OrderedValue.order c.after-behind.result l)
     (ap (λ s. stage_list means s before) c.stage-item.is ∙ sym (stage-more means stages c.loop-stage.stage-index c.stage-item.result items within))
-    (c.flags_behind-behind.ensures before (c.loop-stage.invariant items sound))
+    (rw (c.after-behind.ensures, c.operation_of.ensures) (keeps-flags means g.K.Item.OrderedValue.order c.stage-item.result c.loop-stage.behind before (c.loop-stage.invariant items sound)))
 
 pub returns : goal.returns
 returns g c l sound =

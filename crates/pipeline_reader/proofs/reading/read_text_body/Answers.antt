@@ -1,8 +1,8 @@
 use Rattle.std.proofs.Common.{◌≡◌, ◌+◌, ◌∙◌, ap, map, length, arith, Ok, ℕ, [], ◌∷◌}
-use Rattle.std.proofs.lemmas.{List.length-append, Result.err_from_is_err_and}
+use Rattle.std.proofs.lemmas.List.{length-append}
 use Rattle.pipeline_language.specs.Content.{text_body, text_stage, text_line_content}
 use Rattle.pipeline_language.specs.Syntax.{TextKind, comes}
-use Rattle.pipeline_reader.proofs.LoopLemmas.{first_behind, told_behind, stage_more, text_keeps, lengths_read, lengths_told}
+use Rattle.pipeline_reader.proofs.LoopLemmas.{told_behind, stage_more, text_keeps}
 use Rattle.pipeline_reader.proofs.reading.read_text_body.Goals as goal
 
 pub returns-in-Err : goal.returns-in-Err
@@ -20,19 +20,3 @@ lines-preserved c =
           c.lines.stages.items c.push.new.self.items c.in-Ok-Stage.stage c.lines.lines c.read_text_first.new.lines _
           c.in_ok-push-in-Ok-Stage.ensures.items c.in-Ok-Stage.ensures.rest c.lines.invariant.read (c.in-Ok-Stage.ensures.line ∙ ap (λ b. Ok (text_line_content b)) c.in-Ok-Stage.field-0-is);
     }
-
-pub returns-in-Ok-Terminal : goal.returns-in-Ok-Terminal
-returns-in-Ok-Terminal c =
-    first_behind (map text_stage c.lines.stages.items) (comes c.args.version TextKind) c.args.number c.len-before.result (length c.lines.stages.items) (c.len-before.ensures ∙ c.lines.stages.ok.0)
-    c.lines.lines _ _ c.lines.invariant.read (c.in-Ok-Terminal.ensures.line ∙ ap (λ b. Ok (text_line_content b)) c.in-Ok-Terminal.field-0-is)
-
-pub returns-in-Ok-Lengths : goal.returns-in-Ok-Lengths
-returns-in-Ok-Lengths c =
-    lengths_read c.args.version (map text_stage c.lines.stages.items) c.args.number c.len-before.result (length c.lines.stages.items) (c.len-before.ensures ∙ c.lines.stages.ok.0) c.lines.lines c.read_text_first.new.lines _ c.in_ok-body-in-Ok-Lengths.body
-    c.in-Ok-Lengths.ensures.rest c.lines.invariant.read (c.in-Ok-Lengths.ensures.line ∙ ap (λ b. Ok (text_line_content b)) c.in-Ok-Lengths.field-0-is) c.in_ok-body-in-Ok-Lengths.ensures
-
-pub returns-in_err-body-in-Ok-Lengths : goal.returns-in_err-body-in-Ok-Lengths
-returns-in_err-body-in-Ok-Lengths c =
-    let p = err_from_is_err_and c.from_residual-in_err-body-in-Ok-Lengths.result c.from_residual-in_err-body-in-Ok-Lengths.ensures.1 in
-    rw (p.1, p.2) (lengths_told c.args.version text_body (map text_stage c.lines.stages.items) c.args.number c.len-before.result (length c.lines.stages.items) (c.len-before.ensures ∙ c.lines.stages.ok.0) c.lines.lines c.read_text_first.new.lines _ c.in_err-body-in-Ok-Lengths.field-0.0
-    c.in-Ok-Lengths.ensures.rest c.lines.invariant.read (c.in-Ok-Lengths.ensures.line ∙ ap (λ b. Ok (text_line_content b)) c.in-Ok-Lengths.field-0-is) c.in_err-body-in-Ok-Lengths.ensures)

@@ -1,7 +1,8 @@
 use Rattle.std.proofs.Common.{arith, ◌∙◌, sym}
 use Rattle.std.proofs.lemmas.List.{nil_from_length}
-use Rattle.pipeline_meaning.proofs.TextFronts.{no-steps}
+use Rattle.pipeline_meaning.specs.TextSteps.{text_step_images}
+use Rattle.pipeline_meaning.specs.Walks.{no-steps}
 use Rattle.pipeline_meaning.proofs.text_steps.TextSteps.is_nothing.Goals as goal
 
 pub returns-in-empty : goal.returns-in-empty
-returns-in-empty c _ = let few = c.in-empty.len_below in no-steps c.args.self.now.steps.items (sym c.as_slice.ensures.value ∙ nil_from_length c.as_slice.result.now (omega (arith, few)))
+returns-in-empty c _ = let few = c.in-empty.len_below in no-steps text_step_images c.args.self.now.steps.items (sym c.as_slice.ensures.value ∙ nil_from_length c.as_slice.result.now (omega (arith, few)))
