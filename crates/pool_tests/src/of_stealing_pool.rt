@@ -1,7 +1,6 @@
 //! Runs of ranges by real threads, with gates that hold workers.
 ghost use Rattle.std.specs.Prelude.{◌≤◌};
 
-mod alone;
 mod gates;
 mod rows;
 mod streams;
