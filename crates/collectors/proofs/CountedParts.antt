@@ -1,5 +1,5 @@
 -- The parts of a block, where a container hangs on the number of its items alone.
-use Rattle.std.specs.Prelude.{◌≡◌, ◌+◌, ◌-◌, ◌≤◌, ℕ, Bool, not, List, [], ◌∷◌, fold, map, filter, take, drop, slice_range, length, count_by, refl}
+use Rattle.std.specs.Prelude.{◌≡◌, ◌-◌, ◌≤◌, ℕ, Bool, List, [], ◌∷◌, fold, map, filter, take, drop, slice_range, length, count_by, refl}
 use Rattle.std.proofs.Common.{sym, ap, ap₂, ◌∙◌, arith}
 use Rattle.std.proofs.lemmas.List.{length-take-le, length-drop, length-map}
 use Rattle.std.proofs.lemmas.List.Sums.{length-filter, count_by-le-length}

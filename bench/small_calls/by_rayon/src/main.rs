@@ -14,10 +14,10 @@ fn by_rayon(case: &str, numbers: i64) -> i64 {
 }
 
 fn by_loop(case: &str, numbers: i64) -> i64 {
-    let items = (0..numbers).filter(|x| x % 2 == 0).map(|x| black_box(x).wrapping_mul(3));
+    let mut items = (0..numbers).filter(|x| x % 2 == 0).map(|x| black_box(x).wrapping_mul(3));
     match case {
         "sum" => items.fold(0, |a: i64, b| a.wrapping_add(b)),
-        "none" => { items }.any(|x| x > i64::MAX - 1) as i64,
+        "none" => items.any(|x| x > i64::MAX - 1) as i64,
         _ => items.collect::<Vec<_>>().len() as i64,
     }
 }
