@@ -1,4 +1,4 @@
-use Rattle.std.proofs.Common.{◌≡◌, ◌∙◌, Bool, List, [], ◌∷◌, refl, subst}
+use Rattle.std.proofs.Common.{◌∙◌, Bool, [], ◌∷◌, refl, subst}
 use Rattle.std.proofs.lemmas.Result.{on_ok_weaker}
 use Rattle.collectors.specs.Laws.{IsContainerOf, container-push}
 use Rattle.parallel_streams.specs.Searches.{IsFound}
